@@ -1,10 +1,13 @@
 -- What the program writes when no keys can be written, and which faults come from where.
-use Rattle.std.specs.Prelude.{◌≡◌, ◌⊎◌, ℕ, List, ◌++◌, codes, None, Err}
+use Rattle.std.specs.Prelude.{◌≡◌, ◌⊎◌, ℕ, List, ◌++◌, codes, false, None, Err}
 use Rattle.std.specs.Fmt.{decimal}
+use Rattle.std.specs.List.{list_all}
 use Rattle.krb_keytab.specs.declared.fault.KeytabFault.{KeytabFault}
 use Rattle.krb_keytab.specs.declared.fault.KeytabFault.TheVariants.{NotKeytab, CutOff, BadLength, BadEntry}
 use Rattle.krb_keytab.specs.Keytabs.{keytab}
+use Rattle.chpw_config_text.specs.Writable.{is_writable_principal}
 use Rattle.chpw_rules.specs.Names.{name_of}
+use Rattle.chpw_rules.specs.declared.config.PrincipalRow.{PrincipalRow}
 use Rattle.chpw_import.specs.Passwords.{HoldsNoPassword}
 use Rattle.chpw_invocation.specs.declared.invocation.ImportOptions.{ImportOptions}
 use Rattle.chpw_invocation.specs.declared.invocation.KeyOptions.{KeyOptions}
@@ -30,6 +33,12 @@ abbrev pub IsUnread : List ℕ → KeysFault → Type 0
 IsUnread path (CannotRead file) = file.now ≡ path
 IsUnread path Memory = Unit {0}
 IsUnread path fault = ⊥
+
+-- the fault of the stanzas of rows: a name that no file can express, or memory ran out
+abbrev pub IsOfRows : List PrincipalRow → KeysFault → Type 0
+IsOfRows principals CannotPrint = list_all is_writable_principal principals ≡ false
+IsOfRows principals Memory = Unit {0}
+IsOfRows principals fault = ⊥
 
 -- a fault after the files are read
 abbrev pub IsLate : KeysFault → Type 0

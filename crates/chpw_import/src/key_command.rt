@@ -110,6 +110,7 @@ fn row_of<'a>(
     ensures value { IfOk result (λ row. row ≡ key_row options.entry name password.now) }
     ensures fits { is_name name ≡ true → IfOk result (λ row. principal_fits row ≡ true) }
     ensures fault { IfErr result IsLate }
+    ensures memory { IfErr result (λ fault. fault ≡ KeysFault.Memory) }
 {
     let numbers = KeyNumbers {
         kvno: options.kvno,

@@ -1,10 +1,11 @@
 //! What both commands read and write.
-ghost use Rattle.std.specs.Prelude.{◌≡◌, false, IfErr, IfOk, OnOk, string_bytes, Some};
+ghost use Rattle.std.specs.Prelude.{◌≡◌, ◌≢◌, false, IfErr, IfOk, OnOk, string_bytes, Some};
 ghost use Rattle.std.specs.Io.KnownBytes.{Appends};
+ghost use Rattle.std.specs.IoError.{error_kind};
 ghost use Rattle.toml.specs.Parse.{parse_document};
 ghost use Rattle.toml.specs.Text.{IsDocumentText};
 ghost use Rattle.chpw_config_text.specs.Stanzas.{stanzas_of};
-ghost use Rattle.chpw_import.specs.Faults.{IsEarly, IsLate, IsUnread};
+ghost use Rattle.chpw_import.specs.Faults.{IsEarly, IsLate, IsOfRows, IsUnread};
 
 use crate::fault::KeysFault;
 use chpw_config_text::{WriteFault, write_stanzas};
@@ -23,8 +24,20 @@ pub(crate) fn read_file<'a, R: Files + AllocGlobal>(
 {
     match fs::read(rt, path) {
         Ok(bytes) => Ok(bytes),
-        Err(error) if error.kind() == ErrorKind::OutOfMemory => Err(KeysFault::Memory),
-        Err(_) => Err(KeysFault::CannotRead(path)),
+        Err(error) => Err(unread_fault(path, &error)),
+    }
+}
+
+// Why the file at this path can't be read.
+fn unread_fault<'a>(path: &'a str, error: &io::Error) -> KeysFault<'a>
+    ensures memory { error_kind error.now ≡ ErrorKind.OutOfMemory → result ≡ KeysFault.Memory }
+    ensures file { error_kind error.now ≢ ErrorKind.OutOfMemory → result ≡ KeysFault.CannotRead path.entry }
+    ensures fault { IsUnread path.now result }
+{
+    if error.kind() == ErrorKind::OutOfMemory {
+        KeysFault::Memory
+    } else {
+        KeysFault::CannotRead(path)
     }
 }
 
@@ -38,7 +51,8 @@ pub(crate) fn stanzas<'a>(
         IsDocumentText false (stanzas_of service.now principals.now) (string_bytes text)) }
     ensures reads { IfOk result (λ text.
         parse_document (string_bytes text) ≡ Some (stanzas_of service.now principals.now)) }
-    ensures fault { IfErr result IsLate }
+    ensures fault { IfErr result (IsOfRows principals.now) }
+    ensures late { IfErr result IsLate }
 {
     match write_stanzas(alloc, service, principals) {
         Ok(text) => Ok(text),

@@ -6,13 +6,14 @@ use Rattle.std.specs.Str.{bytes_eq}
 use Rattle.std.proofs.lemmas.Slice.Eq.{bytes_eq-Decides}
 use Rattle.clap.specs.Simple.{filled}
 use Rattle.clap.specs.Walk.{Row, Text, first_of}
-use Rattle.clap.specs.declared.error.kind.ErrorKind.{ErrorKind}
-use Rattle.clap.specs.declared.error.kind.ErrorKind.TheVariants.{ArgumentConflict, InvalidValue, MissingRequiredArgument, UnknownArgument}
 use Rattle.chpw_invocation.specs.Controls.{takes_file}
-use Rattle.chpw_invocation.specs.Invocations.{HasNoPassword, HasTwoPasswords, IsGiven, IsOwnReason, IsOwnRefusal, RefusesClient, RefusesControl}
+use Rattle.chpw_invocation.specs.Invocations.{AimsOld, HasNoPassword, HasTwoPasswords, IsGiven, IsOwnReason, IsOwnRefusal, RefusesClient, RefusesControl}
 use Rattle.chpw_invocation.specs.Needs.{IsSuited, Meets, Suits}
 use Rattle.chpw_invocation.specs.Options.{flag}
 use Rattle.chpw_invocation.specs.Program.{client}
+use Rattle.chpw_invocation.proofs.NeedLemmas.{not_aimed}
+use Rattle.chpw_invocation.specs.declared.refusing.Refusal.{Refusal}
+use Rattle.chpw_invocation.specs.declared.refusing.Refusal.TheVariants.{OldTarget, TwoPasswords, NoPassword, NoCommand, NoFile, SpareFile}
 
 -- ---- a refusal is one of the command that is named
 
@@ -23,32 +24,32 @@ neither : (name a b : Text) → bytes_eq name a ≡ false → bytes_eq name b �
 neither name a b one other (inl same) = differ name a one same
 neither name a b one other (inr same) = differ name b other same
 
-of_client : (options : List Row) (kind : ErrorKind) → IsOwnRefusal (Some (codes "client", options)) kind → RefusesClient options kind
-of_client options kind (inl r) = r.1
-of_client options kind (inr (inl r)) = absurd (differ (codes "client") (codes "control") refl r.0)
-of_client options kind (inr (inr (inl r))) = absurd (differ (codes "client") (codes "table") refl r.0)
-of_client options kind (inr (inr (inr r))) = absurd (neither (codes "client") (codes "import") (codes "key") refl refl r.0)
+of_client : (options : List Row) (refusal : Refusal) → IsOwnRefusal (Some (codes "client", options)) refusal → RefusesClient options refusal
+of_client options refusal (inl r) = r.1
+of_client options refusal (inr (inl r)) = absurd (differ (codes "client") (codes "control") refl r.0)
+of_client options refusal (inr (inr (inl r))) = absurd (differ (codes "client") (codes "table") refl r.0)
+of_client options refusal (inr (inr (inr r))) = absurd (neither (codes "client") (codes "import") (codes "key") refl refl r.0)
 
-of_control : (options : List Row) (kind : ErrorKind) → IsOwnRefusal (Some (codes "control", options)) kind → RefusesControl options kind
-of_control options kind (inl r) = absurd (differ (codes "control") (codes "client") refl r.0)
-of_control options kind (inr (inl r)) = r.1
-of_control options kind (inr (inr (inl r))) = absurd (differ (codes "control") (codes "table") refl r.0)
-of_control options kind (inr (inr (inr r))) = absurd (neither (codes "control") (codes "import") (codes "key") refl refl r.0)
+of_control : (options : List Row) (refusal : Refusal) → IsOwnRefusal (Some (codes "control", options)) refusal → RefusesControl options refusal
+of_control options refusal (inl r) = absurd (differ (codes "control") (codes "client") refl r.0)
+of_control options refusal (inr (inl r)) = r.1
+of_control options refusal (inr (inr (inl r))) = absurd (differ (codes "control") (codes "table") refl r.0)
+of_control options refusal (inr (inr (inr r))) = absurd (neither (codes "control") (codes "import") (codes "key") refl refl r.0)
 
-pub client_refused : (asked : Option (Text × List Row)) (options : List Row) (kind : ErrorKind) → asked ≡ Some (codes "client", options)
-    → (Suits (filled (flag (codes "old"))) options → (k : ErrorKind) → RefusesClient options k → RefusesClient options kind)
-    → IsSuited asked → IsOwnReason asked → IsOwnRefusal asked kind
-client_refused asked options kind is why suited reason =
+pub client_refused : (asked : Option (Text × List Row)) (options : List Row) (refusal : Refusal) → asked ≡ Some (codes "client", options)
+    → (Suits (filled (flag (codes "old"))) options → (r : Refusal) → RefusesClient options r → RefusesClient options refusal)
+    → IsSuited asked → IsOwnReason asked → IsOwnRefusal asked refusal
+client_refused asked options refusal is why suited reason =
     let whole : Meets client options = subst IsSuited is suited in
     let own : IsOwnReason (Some (codes "client", options)) = subst IsOwnReason is reason in
-    subst (λ (o : Option (Text × List Row)). IsOwnRefusal o kind) (sym is)
+    subst (λ (o : Option (Text × List Row)). IsOwnRefusal o refusal) (sym is)
     (inl (refl, why whole.1.1.1.1.1.1.1.1.0 own.0 (of_client options own.0 own.1)))
 
-pub control_refused : (asked : Option (Text × List Row)) (options : List Row) (kind : ErrorKind) → asked ≡ Some (codes "control", options)
-    → ((k : ErrorKind) → RefusesControl options k → RefusesControl options kind) → IsOwnReason asked → IsOwnRefusal asked kind
-control_refused asked options kind is why reason =
+pub control_refused : (asked : Option (Text × List Row)) (options : List Row) (refusal : Refusal) → asked ≡ Some (codes "control", options)
+    → ((r : Refusal) → RefusesControl options r → RefusesControl options refusal) → IsOwnReason asked → IsOwnRefusal asked refusal
+control_refused asked options refusal is why reason =
     let own : IsOwnReason (Some (codes "control", options)) = subst IsOwnReason is reason in
-    subst (λ (o : Option (Text × List Row)). IsOwnRefusal o kind) (sym is) (inr (inl (refl, why own.0 (of_control options own.0 own.1))))
+    subst (λ (o : Option (Text × List Row)). IsOwnRefusal o refusal) (sym is) (inr (inl (refl, why own.0 (of_control options own.0 own.1))))
 
 -- ---- why `client` is refused
 
@@ -56,32 +57,55 @@ given_as : (options : List Row) (given : Bool) → IsGiven options (codes "old")
 given_as options given is true_is = subst (λ (b : Bool). IsGiven options (codes "old") b) true_is is
 
 pub aimed : (options : List Row) (given : Bool) (target : Option (Bor Text)) → IsGiven options (codes "old") given → given ≡ true
-    → option_map (λ s. s.now) target ≡ first_of (codes "target") options → is_some target ≡ true → (kind : ErrorKind) × RefusesClient options kind
+    → option_map (λ s. s.now) target ≡ first_of (codes "target") options → is_some target ≡ true → (refusal : Refusal) × RefusesClient options refusal
 aimed options given None is true_is value some = absurd (true≢false (sym some))
 aimed options given (Some t) is true_is value some =
-    (ArgumentConflict, inl (refl, (given_as options given is true_is, λ none. let bad : Some t.now ≡ None = value ∙ none in cc)))
+    (OldTarget, inl (refl, (given_as options given is true_is, λ none. let bad : Some t.now ≡ None = value ∙ none in cc)))
 
-pub unpassed : (options : List Row) → HasTwoPasswords options ⊎ HasNoPassword options → (kind : ErrorKind) × RefusesClient options kind
-unpassed options (inl two) = (ArgumentConflict, inr (inl (refl, two)))
-unpassed options (inr lacks) = (MissingRequiredArgument, inr (inr (refl, lacks)))
+pub untargeted : (options : List Row) (target : Option (Bor Text)) → option_map (λ s. s.now) target ≡ first_of (codes "target") options
+    → is_some target ≡ false → AimsOld options → ⊥
+untargeted options None value none aims = aims.1 (sym value)
+untargeted options (Some t) value none aims = true≢false none
+
+pub is_no_old : (options : List Row) (given : Bool) → Meets client options → IsGiven options (codes "old") given → given ≡ false → AimsOld options → ⊥
+is_no_old options given whole is none aims = not_aimed options given whole.1.1.1.1.1.1.1.1.0 is none aims
+
+pub unpassed : (options : List Row) → ¬ (AimsOld options) → HasTwoPasswords options ⊎ HasNoPassword options
+    → (refusal : Refusal) × RefusesClient options refusal
+unpassed options other (inl two) = (TwoPasswords, inr (inl (refl, two, other)))
+unpassed options other (inr lacks) = (NoPassword, inr (inr (refl, lacks, other)))
+
+pub two_told : (options : List Row) (text : Option (Bor Text)) → option_map (λ s. s.now) text ≡ first_of (codes "password") options
+    → is_some text ≡ true → ¬ (AimsOld options) → (refusal : Refusal) → RefusesClient options refusal → RefusesClient options TwoPasswords
+two_told options text value some other refusal (inl r) = absurd (other r.1)
+two_told options text value some other refusal (inr (inl r)) = inr (inl (refl, r.1, r.2))
+two_told options None value some other refusal (inr (inr r)) = absurd (true≢false (sym some))
+two_told options (Some t) value some other refusal (inr (inr r)) = let bad : Some t.now ≡ None = value ∙ r.1.0 in cc
+
+pub none_told : (options : List Row) (text : Option (Bor Text)) → option_map (λ s. s.now) text ≡ first_of (codes "password") options
+    → is_some text ≡ false → ¬ (AimsOld options) → (refusal : Refusal) → RefusesClient options refusal → RefusesClient options NoPassword
+none_told options text value none other refusal (inl r) = absurd (other r.1)
+none_told options None value none other refusal (inr (inl r)) = absurd (r.1.0 (sym value))
+none_told options (Some t) value none other refusal (inr (inl r)) = absurd (true≢false none)
+none_told options text value none other refusal (inr (inr r)) = inr (inr (refl, r.1, r.2))
 
 -- ---- why `control` is refused
 
 pub wants_other : (options : List Row) (word : Text) → Some word ≡ first_of (codes "command") options → None ≡ first_of (codes "file") options
-    → takes_file word ≢ Some false → (kind : ErrorKind) × RefusesControl options kind
+    → takes_file word ≢ Some false → (refusal : Refusal) × RefusesControl options refusal
 wants_other options word is none other = go (takes_file word) refl
   where
-    go : (o : Option Bool) → takes_file word ≡ o → (kind : ErrorKind) × RefusesControl options kind
-    go None e = (InvalidValue, inl (refl, (word, sym is, e)))
-    go (Some true) e = (MissingRequiredArgument, inr (inl (refl, (word, sym is, e, sym none))))
+    go : (o : Option Bool) → takes_file word ≡ o → (refusal : Refusal) × RefusesControl options refusal
+    go None e = (NoCommand, inl (refl, (word, sym is, e)))
+    go (Some true) e = (NoFile, inr (inl (refl, (word, sym is, e, sym none))))
     go (Some false) e = absurd (other e)
 
 pub wants_none : (options : List Row) (word file : Text) → Some word ≡ first_of (codes "command") options → Some file ≡ first_of (codes "file") options
-    → takes_file word ≢ Some true → (kind : ErrorKind) × RefusesControl options kind
+    → takes_file word ≢ Some true → (refusal : Refusal) × RefusesControl options refusal
 wants_none options word file is given other = go (takes_file word) refl
   where
-    go : (o : Option Bool) → takes_file word ≡ o → (kind : ErrorKind) × RefusesControl options kind
-    go None e = (InvalidValue, inl (refl, (word, sym is, e)))
+    go : (o : Option Bool) → takes_file word ≡ o → (refusal : Refusal) × RefusesControl options refusal
+    go None e = (NoCommand, inl (refl, (word, sym is, e)))
     go (Some true) e = absurd (other e)
     go (Some false) e =
-        (UnknownArgument, inr (inr (refl, (word, sym is, e, λ none. let bad : Some file ≡ None = given ∙ none in cc))))
+        (SpareFile, inr (inr (refl, (word, sym is, e, λ none. let bad : Some file ≡ None = given ∙ none in cc))))

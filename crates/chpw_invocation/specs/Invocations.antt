@@ -10,9 +10,11 @@ use Rattle.clap.specs.Values.{IsSignedIn, kind_of, read_as}
 use Rattle.clap.specs.Walk.{Row, Text, first_of, one_of}
 use Rattle.clap.specs.declared.builder.value_parser.Reading.TheVariants.{WithoutMinus}
 use Rattle.clap.specs.declared.error.Error.{Error}
-use Rattle.clap.specs.declared.error.kind.ErrorKind.{ErrorKind}
-use Rattle.clap.specs.declared.error.kind.ErrorKind.TheVariants.{ArgumentConflict, InvalidValue, MissingRequiredArgument, UnknownArgument}
 use Rattle.chpw_invocation.specs.Controls.{file_of, takes_file, word_of}
+use Rattle.chpw_invocation.specs.Refusals.{kind_for}
+use Rattle.chpw_invocation.specs.declared.refusing.Refusal.{Refusal}
+use Rattle.chpw_invocation.specs.declared.refusing.Refusal.TheVariants.{OldTarget, TwoPasswords, NoPassword, NoCommand}
+use Rattle.chpw_invocation.specs.declared.refusing.Refusal.TheVariants.{NoFile, SpareFile, NoForm, NoRealm}
 use Rattle.chpw_invocation.specs.declared.invocation.ClientOptions.{ClientOptions}
 use Rattle.chpw_invocation.specs.declared.invocation.ControlOptions.{ControlOptions}
 use Rattle.chpw_invocation.specs.declared.invocation.ServeOptions.{ServeOptions}
@@ -177,12 +179,12 @@ AsksFor (Some p) (Client asked) = (p.0 ≡ codes "client") × AsksClient p.1 ask
 abbrev pub AimsOld : List Row → Type 0
 AimsOld options = IsGiven options (codes "old") true × (first_of (codes "target") options ≢ None)
 
--- Why a request is refused: a target in the earlier protocol, two passwords, or none.
-abbrev pub RefusesClient : List Row → ErrorKind → Type 0
-RefusesClient options kind =
-    ((kind ≡ ArgumentConflict) × AimsOld options)
-    ⊎ (((kind ≡ ArgumentConflict) × HasTwoPasswords options)
-    ⊎ ((kind ≡ MissingRequiredArgument) × HasNoPassword options))
+-- Why a request is refused: a target in the earlier protocol; otherwise two passwords, or none.
+abbrev pub RefusesClient : List Row → Refusal → Type 0
+RefusesClient options refusal =
+    ((refusal ≡ OldTarget) × AimsOld options)
+    ⊎ (((refusal ≡ TwoPasswords) × HasTwoPasswords options × ¬ (AimsOld options))
+    ⊎ ((refusal ≡ NoPassword) × HasNoPassword options × ¬ (AimsOld options)))
 
 -- a word that names no command
 abbrev pub NamesNoCommand : List Row → Type 0
@@ -199,27 +201,31 @@ HasSpareFile options = (word : Text) × HasText options (codes "command") word �
     × (first_of (codes "file") options ≢ None)
 
 -- Why a command for a running service is refused: there is no such command, it requires a file, or it takes none.
-abbrev pub RefusesControl : List Row → ErrorKind → Type 0
-RefusesControl options kind =
-    ((kind ≡ InvalidValue) × NamesNoCommand options)
-    ⊎ (((kind ≡ MissingRequiredArgument) × LacksFile options)
-    ⊎ ((kind ≡ UnknownArgument) × HasSpareFile options))
+abbrev pub RefusesControl : List Row → Refusal → Type 0
+RefusesControl options refusal =
+    ((refusal ≡ NoCommand) × NamesNoCommand options)
+    ⊎ (((refusal ≡ NoFile) × LacksFile options)
+    ⊎ ((refusal ≡ SpareFile) × HasSpareFile options))
 
 -- Why words in which clap finds no fault are refused: a refused client or control, a table in an unknown form, or a
 -- keytab or a password of a realm of 0 or more than 255 bytes.
-abbrev pub IsOwnRefusal : Option (Text × List Row) → ErrorKind → Type 0
-IsOwnRefusal None kind = ⊥
-IsOwnRefusal (Some p) kind =
-    ((p.0 ≡ codes "client") × RefusesClient p.1 kind)
-    ⊎ (((p.0 ≡ codes "control") × RefusesControl p.1 kind)
-    ⊎ (((p.0 ≡ codes "table") × (kind ≡ InvalidValue) × (form_asked p.1 ≡ None))
-    ⊎ (((p.0 ≡ codes "import") ⊎ (p.0 ≡ codes "key")) × (kind ≡ InvalidValue) × LacksRealm p.1)))
+abbrev pub IsOwnRefusal : Option (Text × List Row) → Refusal → Type 0
+IsOwnRefusal None refusal = ⊥
+IsOwnRefusal (Some p) refusal =
+    ((p.0 ≡ codes "client") × RefusesClient p.1 refusal)
+    ⊎ (((p.0 ≡ codes "control") × RefusesControl p.1 refusal)
+    ⊎ (((p.0 ≡ codes "table") × (refusal ≡ NoForm) × (form_asked p.1 ≡ None))
+    ⊎ (((p.0 ≡ codes "import") ⊎ (p.0 ≡ codes "key")) × (refusal ≡ NoRealm) × LacksRealm p.1)))
 
 -- the program itself refuses words in which clap finds no fault
 abbrev pub IsOwnReason : Option (Text × List Row) → Type 0
-IsOwnReason asked = (kind : ErrorKind) × IsOwnRefusal asked kind
+IsOwnReason asked = (refusal : Refusal) × IsOwnRefusal asked refusal
+
+-- an error of the kind of such a refusal
+abbrev pub IsOwnError : Option (Text × List Row) → Error → Type 0
+IsOwnError asked e = (refusal : Refusal) × IsOwnRefusal asked refusal × (kind_of e ≡ kind_for refusal)
 
 -- Why words are refused: for one of the kinds of fault that clap finds in them, or for want of memory; if there is
 -- none, for a reason of the program's own.
 abbrev pub IsRefusal : Kinds → Option (Text × List Row) → Error → Type 0
-IsRefusal kinds asked e = HasKind kinds e ⊎ ((kinds ≡ []) × IsOwnRefusal asked (kind_of e))
+IsRefusal kinds asked e = HasKind kinds e ⊎ ((kinds ≡ []) × IsOwnError asked e)

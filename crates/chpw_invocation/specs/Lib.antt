@@ -3,3 +3,4 @@ pub mod Invocations
 pub mod Needs
 pub mod Options
 pub mod Program
+pub mod Refusals

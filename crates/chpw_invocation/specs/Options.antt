@@ -1,7 +1,8 @@
 -- The kinds of options, as clap's rules.
-use Rattle.std.specs.Prelude.{true, Some, pos, codes, ℕ}
+use Rattle.std.specs.Prelude.{true, Option, Some, option_map, pos, codes, ℕ}
 use Rattle.clap.specs.Walk.{Rule, Text}
 use Rattle.clap.specs.Simple.{new_rule}
+use Rattle.clap.specs.declared.builder.arg.Arg.{Arg}
 use Rattle.clap.specs.declared.builder.action.ArgAction.TheVariants.{Set, SetTrue}
 use Rattle.clap.specs.declared.builder.value_parser.ValueParser.TheVariants as parser
 use Rattle.chpw_invocation.specs.declared.options.OptionKind.{OptionKind}
@@ -48,6 +49,14 @@ rule_by OptionalWord name = optional_word name
 
 abbrev pub rule_for : OptionLine → Rule
 rule_for line = rule_by line.kind line.name.now
+
+-- what the help calls its value, and what it says of it
+abbrev pub texts_of : OptionLine → Text × Text
+texts_of line = (line.value.now, line.help.now)
+
+-- what the help says of clap's argument
+abbrev pub help_of : Arg → Option Text
+help_of arg = option_map (λ text. text.now) arg.help
 
 abbrev pub port : Rule
 port = numbered (codes "port") 65535

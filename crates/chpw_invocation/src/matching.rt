@@ -24,8 +24,7 @@ use crate::invocation::{
     USUAL_FOLLOWER_WAIT, USUAL_IDLE, USUAL_KVNO,
 };
 use crate::program::program as new_program;
-use crate::refusing::refusal_of;
-use clap::error::ErrorKind;
+use crate::refusing::{Refusal, refusal_of};
 use clap::{ArgMatches, Error};
 use std::alloc::Global;
 
@@ -45,8 +44,8 @@ pub fn command_of<'a>(alloc: Global, words: &'a [String]) -> Result<Invocation<'
     match asked_of(&matches) {
         Some(invocation) => Ok(invocation),
         None => {
-            let (kind, text) = refusal_of(&matches);
-            Err(program.error(kind, text)?)
+            let refusal = refusal_of(&matches);
+            Err(program.error(refusal.kind(), refusal.text())?)
         }
     }
 }
@@ -188,7 +187,7 @@ fn serve_of<'a>(options: &ArgMatches<'a>) -> Option<Invocation<'a>>
 fn control_of<'a>(options: &ArgMatches<'a>) -> Option<Invocation<'a>>
     ensures asked { IfSome result (AsksFor (Some (codes "control", rows_of (found_of options.now)))) }
     ensures none { Meets specs_of.control (rows_of (found_of options.now)) → result ≡ None
-        → (kind : ErrorKind) × RefusesControl (rows_of (found_of options.now)) kind }
+        → (refusal : Refusal) × RefusesControl (rows_of (found_of options.now)) refusal }
 {
     Some(Invocation::Control(ControlOptions {
         socket: text_of(options, "socket")?,
@@ -201,7 +200,7 @@ fn told_of<'a>(options: &ArgMatches<'a>) -> Option<ControlCommand<'a>>
     ensures word { IfSome result (λ c. HasText (rows_of (found_of options.now)) (codes "command") (word_of c)) }
     ensures file { IfSome result (λ c. file_of c ≡ first_of (codes "file") (rows_of (found_of options.now))) }
     ensures none { Suits (filled (required_word (codes "command"))) (rows_of (found_of options.now))
-        → result ≡ None → (kind : ErrorKind) × RefusesControl (rows_of (found_of options.now)) kind }
+        → result ≡ None → (refusal : Refusal) × RefusesControl (rows_of (found_of options.now)) refusal }
 {
     let word = text_of(options, "command")?;
     match text_of(options, "file") {
@@ -239,7 +238,7 @@ fn with_file<'a>(word: &str, file: &'a str) -> Option<ControlCommand<'a>>
 fn client_of<'a>(options: &ArgMatches<'a>) -> Option<Invocation<'a>>
     ensures asked { IfSome result (AsksFor (Some (codes "client", rows_of (found_of options.now)))) }
     ensures none { Meets specs_of.client (rows_of (found_of options.now)) → result ≡ None
-        → (kind : ErrorKind) × RefusesClient (rows_of (found_of options.now)) kind }
+        → (refusal : Refusal) × RefusesClient (rows_of (found_of options.now)) refusal }
 {
     let target = text_of(options, "target");
     let old = is_given(options, "old");

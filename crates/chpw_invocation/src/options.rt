@@ -1,5 +1,5 @@
 //! The kinds of options. Each has only its long name.
-ghost use Rattle.std.specs.Prelude.{◌≡◌, false, pos};
+ghost use Rattle.std.specs.Prelude.{◌≡◌, [], Some, false, pos};
 ghost use Rattle.clap.specs.Walk.{rule_of};
 ghost use Rattle.clap.specs.declared.builder.value_parser.ValueParser.TheVariants as parser;
 ghost use Rattle.chpw_invocation.specs.Options as specs_of;
@@ -44,6 +44,7 @@ pub(crate) fn required_option(
     help: &'static str,
 ) -> OptionLine
     ensures rule { specs_of.rule_for result ≡ specs_of.required name.entry.now }
+    ensures texts { specs_of.texts_of result ≡ (value.entry.now, help.entry.now) }
 {
     let kind = OptionKind::Required;
     OptionLine {
@@ -57,6 +58,7 @@ pub(crate) fn required_option(
 /// An optional option with a value.
 pub(crate) fn optional(name: &'static str, value: &'static str, help: &'static str) -> OptionLine
     ensures rule { specs_of.rule_for result ≡ specs_of.optional name.entry.now }
+    ensures texts { specs_of.texts_of result ≡ (value.entry.now, help.entry.now) }
 {
     let kind = OptionKind::Optional;
     OptionLine {
@@ -75,6 +77,7 @@ pub(crate) fn number(
     help: &'static str,
 ) -> OptionLine
     ensures rule { specs_of.rule_for result ≡ specs_of.numbered name.entry.now limit }
+    ensures texts { specs_of.texts_of result ≡ (value.entry.now, help.entry.now) }
 {
     let kind = OptionKind::Number(limit);
     OptionLine {
@@ -93,6 +96,7 @@ pub(crate) fn optional_number(
     help: &'static str,
 ) -> OptionLine
     ensures rule { specs_of.rule_for result ≡ specs_of.may_be_numbered name.entry.now limit }
+    ensures texts { specs_of.texts_of result ≡ (value.entry.now, help.entry.now) }
 {
     let kind = OptionKind::OptionalNumber(limit);
     OptionLine {
@@ -106,6 +110,7 @@ pub(crate) fn optional_number(
 /// An option without a value.
 pub(crate) fn flag(name: &'static str, help: &'static str) -> OptionLine
     ensures rule { specs_of.rule_for result ≡ specs_of.flag name.entry.now }
+    ensures texts { specs_of.texts_of result ≡ ([], help.entry.now) }
 {
     let kind = OptionKind::Flag;
     OptionLine {
@@ -119,6 +124,7 @@ pub(crate) fn flag(name: &'static str, help: &'static str) -> OptionLine
 /// A required positional word.
 pub(crate) fn word(name: &'static str, value: &'static str, help: &'static str) -> OptionLine
     ensures rule { specs_of.rule_for result ≡ specs_of.required_word name.entry.now }
+    ensures texts { specs_of.texts_of result ≡ (value.entry.now, help.entry.now) }
 {
     let kind = OptionKind::Word;
     OptionLine {
@@ -136,6 +142,7 @@ pub(crate) fn optional_word(
     help: &'static str,
 ) -> OptionLine
     ensures rule { specs_of.rule_for result ≡ specs_of.optional_word name.entry.now }
+    ensures texts { specs_of.texts_of result ≡ (value.entry.now, help.entry.now) }
 {
     let kind = OptionKind::OptionalWord;
     OptionLine {
@@ -149,6 +156,7 @@ pub(crate) fn optional_word(
 /// The option as a clap argument.
 pub(crate) fn argument_of<'a>(alloc: Global, line: &OptionLine) -> Arg<'a>
     ensures rule { rule_of result ≡ specs_of.rule_for line.now }
+    ensures help { specs_of.help_of result ≡ Some line.now.help.now }
     ensures local { result.global ≡ false }
 {
     match line.kind {
@@ -170,6 +178,7 @@ pub(crate) fn argument_of<'a>(alloc: Global, line: &OptionLine) -> Arg<'a>
 // The positional word, required or optional.
 fn positional_arg<'a>(alloc: Global, line: &OptionLine, is_required: bool) -> Arg<'a>
     ensures rule { rule_of result ≡ record (specs_of.optional_word line.now.name.now) { required = is_required } }
+    ensures help { specs_of.help_of result ≡ Some line.now.help.now }
     ensures local { result.global ≡ false }
 {
     Arg::new(alloc, line.name)
@@ -182,6 +191,7 @@ fn positional_arg<'a>(alloc: Global, line: &OptionLine, is_required: bool) -> Ar
 // The option with a value, required or optional.
 fn option_arg<'a>(alloc: Global, line: &OptionLine, is_required: bool) -> Arg<'a>
     ensures rule { rule_of result ≡ record (specs_of.optional line.now.name.now) { required = is_required } }
+    ensures help { specs_of.help_of result ≡ Some line.now.help.now }
     ensures local { result.global ≡ false }
 {
     Arg::new(alloc, line.name)

@@ -72,14 +72,15 @@ const AS_HELP: &str = "lines, configuration or keys [default: lines]";
 const SERVE: &str = "Run the service on 127.0.0.1.";
 
 const SERVE_MORE: &str = "\
-Prints 'listening on 127.0.0.1:N' before it accepts the first connection, and at the end, and after
-each full history, 'entries N changes N': how many requests were decided, and how many of them changed
-a password.
+Prints 'listening on 127.0.0.1:N' before it accepts the first connection, and 'entries N changes N' at
+the end and whenever a history ends, when it is full or by a reload or 'control compact': how many
+requests were decided, and how many of them changed a password.
 
 Connection i is answered by worker i modulo the number of workers; with --udp each datagram counts as
 a connection. No worker waits for a client: a message goes to its worker once it is complete. A client
 that is silent or slow occupies only its own connection, for as long as --idle allows. When --clients
-or --buffers is reached, the connection that has waited longest for its client is ended to make room.
+is reached, a new connection ends the one that has waited longest for its client. When --buffers
+leaves no room, those connections end whose message or reply has been on its way the longest.
 
 With --follower SOCKET the reply to a change waits until the KDC has the new key, so that a client can
 use its new password at once. If the follower doesn't answer within --follower-wait, or isn't running,
@@ -125,7 +126,7 @@ const CONTROL_HELP: &str = "Accept commands of 'control' at this socket [default
 const UDP_HELP: &str = "Accept messages over UDP too, at the same port";
 
 const RFC3244_ONLY_HELP: &str =
-    "Refuse requests of the earlier protocol, version 0x0001, as of a bad version";
+    "Answer requests of the earlier protocol, version 0x0001, with 'bad version'";
 
 const STRICT_MODES_HELP: &str =
     "Don't start if other users may read or write the configuration, the seed, the log or the journal";

@@ -6,74 +6,111 @@ ghost use Rattle.chpw_invocation.specs.Controls as controls;
 ghost use Rattle.chpw_invocation.specs.Invocations.{AimsOld, IsOwnReason, IsOwnRefusal, RefusesClient, RefusesControl};
 ghost use Rattle.chpw_invocation.specs.Needs.{IsSuited, Suits};
 ghost use Rattle.chpw_invocation.specs.Options.{flag};
+ghost use Rattle.chpw_invocation.specs.Refusals.{kind_for, text_for};
 
 use crate::matching::{is_given, text_of};
 use clap::ArgMatches;
 use clap::error::ErrorKind;
 
-// In clap's words for two options that exclude each other.
-const OLD_TARGET: &str = "the argument '--old' cannot be used with '--target <NAME>'";
+/// Why words in which clap finds no fault are refused.
+#[derive(Clone, Copy, Drop)]
+pub(crate) enum Refusal {
+    /// `client` has a target, and is to ask in the earlier protocol, which has none.
+    OldTarget,
+    /// `client` has a password on the command line and another in a file.
+    TwoPasswords,
+    /// `client` has no password.
+    NoPassword,
+    /// `control` has a word that names no command.
+    NoCommand,
+    /// `control` has a command that takes a file, and no file.
+    NoFile,
+    /// `control` has a command that takes no file, and a file.
+    SpareFile,
+    /// `table` has an unknown form.
+    NoForm,
+    /// The realm is empty or has more than 255 bytes.
+    NoRealm,
+}
 
-// In clap's words for the two passwords, which exclude each other.
-const TWO_PASSWORDS: &str =
-    "the argument '--password <TEXT>' cannot be used with '--password-file <FILE>'";
+impl Refusal {
+    /// The kind of its error.
+    pub(crate) fn kind(self) -> ErrorKind
+        ensures value { result ≡ kind_for self }
+    {
+        match self {
+            Refusal::OldTarget | Refusal::TwoPasswords => ErrorKind::ArgumentConflict,
+            Refusal::NoPassword | Refusal::NoFile => ErrorKind::MissingRequiredArgument,
+            Refusal::NoCommand | Refusal::NoForm | Refusal::NoRealm => ErrorKind::InvalidValue,
+            Refusal::SpareFile => ErrorKind::UnknownArgument,
+        }
+    }
 
-const NO_PASSWORD: &str = "either '--password <TEXT>' or '--password-file <FILE>' is required";
+    /// The text of its error; of two options that exclude each other in clap's words.
+    pub(crate) fn text(self) -> &'static str
+        ensures value { result.now ≡ text_for self }
+    {
+        match self {
+            Refusal::OldTarget => "the argument '--old' cannot be used with '--target <NAME>'",
+            Refusal::TwoPasswords => {
+                "the argument '--password <TEXT>' cannot be used with '--password-file <FILE>'"
+            }
+            Refusal::NoPassword => {
+                "either '--password <TEXT>' or '--password-file <FILE>' is required"
+            }
+            Refusal::NoCommand => {
+                "a value for '<COMMAND>' is one of: status, reload, reopen-log, stop, compact"
+            }
+            Refusal::NoFile => "the command 'compact' requires a '<FILE>'",
+            Refusal::SpareFile => "only the command 'compact' takes a '<FILE>'",
+            Refusal::NoForm => "a value for '--as <FORM>' is one of: lines, configuration, keys",
+            Refusal::NoRealm => "a value for '--realm <REALM>' has 1 to 255 bytes",
+        }
+    }
+}
 
-const NO_COMMAND: &str =
-    "a value for '<COMMAND>' is one of: status, reload, reopen-log, stop, compact";
-
-const NO_FILE: &str = "the command 'compact' requires a '<FILE>'";
-
-const SPARE_FILE: &str = "only the command 'compact' takes a '<FILE>'";
-
-const NO_FORM: &str = "a value for '--as <FORM>' is one of: lines, configuration, keys";
-
-const NO_REALM: &str = "a value for '--realm <REALM>' has 1 to 255 bytes";
-
-/// Why the words that clap matched are refused, and the text that says so. A command that isn't named here has only one
-/// reason.
-pub(crate) fn refusal_of(matches: &ArgMatches<'_>) -> (ErrorKind, &'static str)
+/// Why the words that clap matched are refused. A command that isn't named here has only one reason.
+pub(crate) fn refusal_of(matches: &ArgMatches<'_>) -> Refusal
     ensures why { IsSuited (subcommand_rows_of matches.now) → IsOwnReason (subcommand_rows_of matches.now)
-        → IsOwnRefusal (subcommand_rows_of matches.now) result.0 }
+        → IsOwnRefusal (subcommand_rows_of matches.now) result }
 {
     let Some((name, options)) = matches.subcommand() else {
-        return (ErrorKind::InvalidValue, NO_REALM);
+        return Refusal::NoRealm;
     };
     match name {
         "client" => client_refusal(options),
         "control" => control_refusal(options),
-        "table" => (ErrorKind::InvalidValue, NO_FORM),
-        _ => (ErrorKind::InvalidValue, NO_REALM),
+        "table" => Refusal::NoForm,
+        _ => Refusal::NoRealm,
     }
 }
 
 // Why `client` is refused.
-fn client_refusal(options: &ArgMatches<'_>) -> (ErrorKind, &'static str)
+fn client_refusal(options: &ArgMatches<'_>) -> Refusal
     ensures why { Suits (filled (flag (codes "old"))) (rows_of (found_of options.now))
-        → (kind : ErrorKind) → RefusesClient (rows_of (found_of options.now)) kind
-        → RefusesClient (rows_of (found_of options.now)) result.0 }
+        → (refusal : Refusal) → RefusesClient (rows_of (found_of options.now)) refusal
+        → RefusesClient (rows_of (found_of options.now)) result }
 {
     if aims_old(options) {
-        (ErrorKind::ArgumentConflict, OLD_TARGET)
+        Refusal::OldTarget
     } else if text_of(options, "password").is_some() {
-        (ErrorKind::ArgumentConflict, TWO_PASSWORDS)
+        Refusal::TwoPasswords
     } else {
-        (ErrorKind::MissingRequiredArgument, NO_PASSWORD)
+        Refusal::NoPassword
     }
 }
 
 // Why `control` is refused.
-fn control_refusal(options: &ArgMatches<'_>) -> (ErrorKind, &'static str)
-    ensures why { (kind : ErrorKind) → RefusesControl (rows_of (found_of options.now)) kind
-        → RefusesControl (rows_of (found_of options.now)) result.0 }
+fn control_refusal(options: &ArgMatches<'_>) -> Refusal
+    ensures why { (refusal : Refusal) → RefusesControl (rows_of (found_of options.now)) refusal
+        → RefusesControl (rows_of (found_of options.now)) result }
 {
     match text_of(options, "command") {
-        None => (ErrorKind::InvalidValue, NO_COMMAND),
+        None => Refusal::NoCommand,
         Some(word) => match takes_file(word) {
-            None => (ErrorKind::InvalidValue, NO_COMMAND),
-            Some(true) => (ErrorKind::MissingRequiredArgument, NO_FILE),
-            Some(false) => (ErrorKind::UnknownArgument, SPARE_FILE),
+            None => Refusal::NoCommand,
+            Some(true) => Refusal::NoFile,
+            Some(false) => Refusal::SpareFile,
         },
     }
 }

@@ -54,8 +54,9 @@ fn address_with(at: usize, text: &[u8]) -> Address
     }
 }
 
-fn put(raw: &mut [u8; _SS_SIZE], at: usize, bytes: &[u8])
-    requires fits { at + length bytes.now ≤ 128 }
+/// Writes these bytes over others, from this one on.
+pub(crate) fn put(raw: &mut [u8], at: usize, bytes: &[u8])
+    requires fits { at + length bytes.now ≤ length raw.old }
     ensures value { raw.new ≡ specs_of.put raw.old at bytes.now }
 {
     raw[at..at + bytes.len()].copy_from_slice(bytes);

@@ -1,5 +1,6 @@
 -- What `client` sends for its options, and which of its endings report what the service said.
 use Rattle.std.specs.Prelude.{◌≡◌, ◌<◌, ℕ, not, true, List, Option, Some, None, option_map}
+use Rattle.chpw_commands.specs.declared.drill.DrillFault.TheVariants.{Memory}
 use Rattle.chpw_rules.specs.declared.config.Config.{Config}
 use Rattle.chpw_rules.specs.declared.name.Name.{Name}
 use Rattle.chpw_rules.specs.Fitting.{config_fits}
@@ -12,7 +13,7 @@ use Rattle.chpw_client.specs.declared.request.Sent.{Sent}
 use Rattle.chpw_invocation.specs.declared.invocation.ClientOptions.{ClientOptions}
 use Rattle.chpw_program.specs.NewPasswords.{IsPassword}
 use Rattle.chpw_program.specs.declared.ending.Ending.{Ending}
-use Rattle.chpw_program.specs.declared.ending.Ending.TheVariants.{Good, Refused, Unanswered, Early}
+use Rattle.chpw_program.specs.declared.ending.Ending.TheVariants.{Good, Refused, Unanswered, Early, BadArgument}
 
 -- the name of a text, if there is one
 abbrev pub Names : Option (List ℕ) → Option Name → Type 0
@@ -56,3 +57,19 @@ abbrev pub HasAsked : ClientOptions → Ending → Type 0
 HasAsked options Good = (sent : Sent) × (reply : List ℕ) × Asks options sent × Tells sent reply Good
 HasAsked options Refused = (sent : Sent) × (reply : List ℕ) × Asks options sent × Tells sent reply Refused
 HasAsked options _ = Unit {0}
+
+-- the text is no name, or memory ran out
+abbrev pub IsNoName : List ℕ → Ending → Type 0
+IsNoName text BadArgument = name_of text ≡ None
+IsNoName text (Early fault) = fault ≡ Memory
+IsNoName text _ = ⊥
+
+abbrev pub IsNoTarget : Option (List ℕ) → Ending → Type 0
+IsNoTarget None fault = ⊥
+IsNoTarget (Some text) fault = IsNoName text fault
+
+-- the message couldn't be written, no whole reply came, or memory ran out
+abbrev pub IsNoReply : Ending → Type 0
+IsNoReply Unanswered = Unit {0}
+IsNoReply (Early fault) = fault ≡ Memory
+IsNoReply _ = ⊥

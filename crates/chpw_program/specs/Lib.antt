@@ -1,4 +1,5 @@
 pub mod Asking
+pub mod Checking
 pub mod Controlling
 pub mod Endings
 pub mod NewPasswords

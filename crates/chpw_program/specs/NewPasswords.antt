@@ -1,9 +1,9 @@
 -- The new password that `client` sends: a text of the command line, or the one line of a file or of standard input.
-use Rattle.std.specs.Prelude.{◌≡◌, ◌⊎◌, ◌<◌, ◌==◌, ℕ, true, false, ⊥, List, [], ◌∷◌, ◌++◌, length}
+use Rattle.std.specs.Prelude.{◌≡◌, ◌⊎◌, ◌<◌, ◌==◌, ℕ, true, false, List, [], ◌∷◌, ◌++◌, codes, length}
 use Rattle.std.specs.List.{list_any}
 use Rattle.chpw_commands.specs.declared.drill.DrillFault.TheVariants.{Memory}
 use Rattle.chpw_program.specs.declared.ending.Ending.{Ending}
-use Rattle.chpw_program.specs.declared.ending.Ending.TheVariants.{Early, EmptyPassword, ManyLines}
+use Rattle.chpw_program.specs.declared.ending.Ending.TheVariants.{Early, EmptyPassword, ManyLines, Unread}
 use Rattle.chpw_invocation.specs.declared.invocation.PasswordSource.{PasswordSource}
 use Rattle.chpw_invocation.specs.declared.invocation.PasswordSource.TheVariants as source
 
@@ -34,6 +34,22 @@ IsNoLine name bytes (ManyLines file) = (file.now ≡ name)
 IsNoLine name bytes (Early fault) = fault ≡ Memory
 IsNoLine name bytes _ = ⊥
 
+-- the source with this name can't be read, or memory ran out
+abbrev pub IsUnread : List ℕ → Ending → Type 0
+IsUnread name (Unread file) = file.now ≡ name
+IsUnread name (Early fault) = fault ≡ Memory
+IsUnread name _ = ⊥
+
+-- that, or its bytes aren't such a line
+abbrev pub IsNoSource : List ℕ → Ending → Type 0
+IsNoSource name fault = IsUnread name fault ⊎ ((bytes : List ℕ) × IsNoLine name bytes fault)
+
 abbrev pub IsPassword : PasswordSource → List ℕ → Type 0
 IsPassword (source.Text text) password = password ≡ text.now
 IsPassword other password = (bytes : List ℕ) × IsOnlyLine bytes password
+
+-- why there is no password
+abbrev pub IsNoPassword : PasswordSource → Ending → Type 0
+IsNoPassword (source.Text text) fault = fault ≡ Early Memory
+IsNoPassword (source.File file) fault = IsNoSource file.now fault
+IsNoPassword source.StandardInput fault = IsNoSource (codes "standard input") fault

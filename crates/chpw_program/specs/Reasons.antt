@@ -1,6 +1,17 @@
--- Why a fault came, as it is printed after the fault's line.
-use Rattle.std.specs.Prelude.{ℕ, Bool, List, ◌++◌, codes, string_bytes, nat_lt}
+-- Why a fault came, as it is printed after the fault's line, and what is looked at for that.
+use Rattle.std.specs.Prelude.{ℕ, Bool, List, [], ◌∷◌, ◌++◌, codes, string_bytes, nat_lt, Option, Some, None, option_map, if◌then◌else◌}
+use Rattle.std.specs.Borrow.{Bor}
 use Rattle.std.specs.Fmt.{decimal}
+use Rattle.std.specs.Str.{bytes_eq}
+use Rattle.chpw_import.specs.declared.fault.KeysFault.TheVariants as keys
+use Rattle.chpw_invocation.specs.declared.invocation.Invocation.{Invocation}
+use Rattle.chpw_invocation.specs.declared.invocation.Invocation.TheVariants.{Serve, Table, Client}
+use Rattle.chpw_service.specs.declared.fault.ServeFault.TheVariants as service
+use Rattle.chpw_program.specs.declared.ending.Ending.{Ending}
+use Rattle.chpw_program.specs.declared.ending.Ending.TheVariants as ending
+use Rattle.chpw_program.specs.declared.reasons.Cause.{Cause}
+use Rattle.chpw_program.specs.declared.reasons.Cause.TheVariants.{Unread, Unwritten, BadConfig, Unlistened}
+use Rattle.chpw_program.specs.declared.reasons.Named.{Named}
 use Rattle.chpw_program.specs.declared.reasons.Reason.{Reason}
 use Rattle.chpw_program.specs.declared.reasons.Reason.TheVariants.{Missing, NoFolder, Forbidden, Folder, Special, Short, Held, InWords, InUse, Privileged}
 
@@ -16,5 +27,35 @@ line_of (InWords file words) = file.now ++ (codes ": " ++ string_bytes words)
 line_of (InUse port) = codes "port " ++ (decimal port ++ codes ": in use")
 line_of (Privileged port) = codes "port " ++ (decimal port ++ codes ": ports below 1024 require a privilege")
 
+-- its line, if there is one
+abbrev pub told_of : Option Reason → List ℕ
+told_of None = []
+told_of (Some reason) = line_of reason ++ 10 ∷ []
+
 abbrev pub is_privileged : ℕ → Bool
 is_privileged port = nat_lt port 1024
+
+-- what a path leads to that is no file
+abbrev pub of_type : Bor (List ℕ) → Bool → Bool → Option Reason
+of_type path is_folder is_file = if is_folder then Some (Folder path) else if is_file then None else Some (Special path)
+
+-- the files and the port that a command names
+abbrev pub named_by : Invocation → Named
+named_by (Serve o) = record { config = Some o.config; seed = Some o.seed; journal = Some o.journal; port = o.port }
+named_by (Table o) = record { config = Some o.config; seed = None; journal = Some o.journal; port = 0 }
+named_by (Client o) = record { config = Some o.config; seed = Some o.seed; journal = None; port = 0 }
+named_by _ = record { config = None; seed = None; journal = None; port = 0 }
+
+-- standard input has no reason
+abbrev pub of_unread : Bor (List ℕ) → Option Cause
+of_unread file = if bytes_eq file.now (codes "standard input") then None else Some (Unread file)
+
+-- what is looked at for the reason of an ending
+abbrev pub cause_of : Ending → Named → Option Cause
+cause_of (ending.Unread file) named = of_unread file
+cause_of (ending.Unbrought (keys.CannotRead file)) named = Some (Unread file)
+cause_of (ending.Unserved (service.CannotRead file)) named = Some (Unread file)
+cause_of (ending.Unserved (service.CannotWrite file)) named = Some (Unwritten file)
+cause_of (ending.Unserved (service.Config fault)) named = option_map (λ file. BadConfig file) named.config
+cause_of (ending.Unserved service.CannotListen) named = Some (Unlistened named.port)
+cause_of _ named = None

@@ -1,11 +1,13 @@
 //! `client`: one request to a service on this machine, and what its reply says.
-ghost use Rattle.std.specs.Prelude.{◌≡◌, ◌<◌, ◌≤ℤ◌, ◌++◌, ◌∷◌, [], ℕ, List, pos, true, None, Some, IfErr, IfOk, IfSome, option_map};
+ghost use Rattle.std.specs.Prelude.{◌≡◌, ◌<◌, ◌≤ℤ◌, ◌<ℤ◌, ◌++◌, ◌∷◌, [], ℕ, List, pos, true, None, Some, IfErr, IfOk, IfSome, option_map};
 ghost use Rattle.std.specs.Io.KnownBytes.{Appends};
 ghost use Rattle.chpw_client.specs.Lines.{IsLine};
+ghost use Rattle.chpw_frame.specs.Receiving.{IsReceived};
+ghost use Rattle.chpw_frame.specs.Stream.{sent as tcp_text};
 ghost use Rattle.chpw_rules.specs.Fitting.{config_fits};
 ghost use Rattle.chpw_rules.specs.Names.{is_name, name_of as name_in};
 ghost use Rattle.chpw_client.specs.Questions.{latest_second};
-ghost use Rattle.chpw_program.specs.Asking.{Asks, HasAsked, IsUnasked, Names, Tells};
+ghost use Rattle.chpw_program.specs.Asking.{Asks, HasAsked, IsNoName, IsNoReply, IsNoTarget, IsUnasked, Names, Tells};
 ghost use Rattle.chpw_program.specs.Controlling.{IsAnswered};
 ghost use Rattle.chpw_program.specs.NewPasswords.{IsPassword};
 
@@ -23,7 +25,7 @@ use chpw_table::Moment;
 use std::alloc::Global;
 use std::fs::{File, Files};
 use std::io;
-use std::io::Write;
+use std::io::{Read, Write};
 use std::net::{Net, TcpStream};
 use std::time::Clock;
 
@@ -128,6 +130,7 @@ fn seed_of<'a, R: Files<File = File>>(rt: &R, file: &'a str) -> Result<[u8; 32],
 fn name_of<'a>(alloc: Global, text: &str) -> Result<Name, Ending<'a>>
     ensures fits { IfOk result (λ name. is_name name ≡ true) }
     ensures value { IfOk result (λ name. name_in text.now ≡ Some name) }
+    ensures fault { IfErr result (IsNoName text.now) }
     ensures early { IfErr result IsUnasked }
 {
     match Name::parse(alloc, text) {
@@ -141,6 +144,7 @@ fn target_of<'a>(alloc: Global, text: Option<&str>) -> Result<Option<Name>, Endi
     ensures fits { IfOk result (λ found. IfSome found (λ name. is_name name ≡ true)) }
     ensures value { IfOk result (Names (option_map (λ t. t.now) text.entry)) }
     ensures none { text.entry ≡ None → IfOk result (λ found. found ≡ None) }
+    ensures fault { IfErr result (IsNoTarget (option_map (λ t. t.now) text.entry)) }
     ensures early { IfErr result IsUnasked }
 {
     match text {
@@ -169,7 +173,16 @@ fn moment<'a, R: Clock>(rt: &R) -> Result<Moment, Ending<'a>>
     ensures micros { IfOk result (λ now. now.micros < 1000000) }
     ensures early { IfErr result IsUnasked }
 {
-    match machine_moment(rt) {
+    in_time(machine_moment(rt))
+}
+
+// The moment, if there is one and a ticket of an hour from then on ends within the year 9999.
+fn in_time<'a>(now: Option<Moment>) -> Result<Moment, Ending<'a>>
+    ensures taken { IfOk result (λ moment. (now ≡ Some moment) × (moment.seconds ≤ℤ pos latest_second)) }
+    ensures refused { IfErr result (λ fault. (fault ≡ Ending.BadArgument)
+        × IfSome now (λ moment. pos latest_second <ℤ moment.seconds)) }
+{
+    match now {
         Some(now) if now.seconds <= LAST_START => Ok(now),
         _ => Err(Ending::BadArgument),
     }
@@ -181,13 +194,29 @@ where
     R: Net<Stream = TcpStream> + AllocGlobal,
     ensures early { IfErr result IsUnasked }
 {
-    let Ok(mut stream) = TcpStream::connect(rt, ("127.0.0.1", port)) else {
-        return Err(Ending::Unconnected);
-    };
-    if message.len() > LONGEST_MESSAGE || write_tcp(&mut stream, message).is_err() {
+    match TcpStream::connect(rt, ("127.0.0.1", port)) {
+        Ok(stream) => exchange_over(rt.alloc(), message, &mut &stream, &mut &stream),
+        Err(_) => Err(Ending::Unconnected),
+    }
+}
+
+// Writes a message to a service, and reads the reply.
+fn exchange_over<'a, S: Write, A: Read>(
+    alloc: Global,
+    message: &[u8],
+    service: &mut S,
+    replies: &mut A,
+) -> Result<Vec<u8>, Ending<'a>>
+    ensures said { IfOk result (λ _. Appends (S.contents service.old) (S.contents service.new) (tcp_text message.now)) }
+    ensures reply { IfOk result (λ reply.
+        IsReceived (Received.Message reply) (A.remaining replies.old) (A.remaining replies.new)) }
+    ensures fault { IfErr result IsNoReply }
+    ensures early { IfErr result IsUnasked }
+{
+    if message.len() > LONGEST_MESSAGE || write_tcp(service, message).is_err() {
         return Err(Ending::Unanswered);
     }
-    match read_tcp(rt.alloc(), &mut stream) {
+    match read_tcp(alloc, replies) {
         Ok(Received::Message(reply)) => Ok(reply),
         Ok(_) => Err(Ending::Unanswered),
         Err(_) => Err(Ending::Early(DrillFault::Memory)),

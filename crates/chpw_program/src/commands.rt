@@ -1,18 +1,20 @@
 //! The commands, each with its ending.
 ghost use Rattle.std.specs.Prelude.{◌≡◌, ◌≢◌};
 ghost use Rattle.clap.specs.Values.{kind_of};
+ghost use Rattle.chpw_program.specs.Checking.{HasChecked, IsChecked, PrintsCheck};
 ghost use Rattle.chpw_program.specs.Endings.{ending_brought, ending_drilled, ending_served};
 
 use crate::client::ask;
 use crate::control::send_command;
 use crate::ending::Ending;
+use crate::new_password::unread_ending;
 use chpw_commands::{DrillFault, explain_check, run_check, run_drill};
 use chpw_import::{KeysFault, tell_keytab, tell_password};
 use chpw_invocation::{Invocation, command_of};
 use chpw_service::{ServeFault, serve, tell_table};
 use clap::Error;
 use clap::error::ErrorKind;
-use std::alloc::AllocError;
+use std::alloc::Global;
 use std::fs::{File, Files};
 use std::io::Write;
 use std::net::{Net, TcpListener, TcpStream};
@@ -98,25 +100,27 @@ fn ending_of_drill<'a>(ended: Result<(), DrillFault>) -> Ending<'a>
 }
 
 // The configuration in a file.
-fn check<'a>(rt: &(impl Files + Print + AllocGlobal), file: &'a str) -> Ending<'a> {
-    let read = match fs::read(rt, file) {
-        Ok(text) => print_check(rt, file, text.as_slice()),
-        Err(error) if error.kind() == io::ErrorKind::OutOfMemory => Err(AllocError),
-        Err(_) => Ok(Ending::Unread(file)),
-    };
-    read.unwrap_or(Ending::Early(DrillFault::Memory))
+#[tactic(auto, using(crate::proofs::CheckLemmas::has_checked, crate::proofs::CheckLemmas::has_unread))]
+fn check<'a>(rt: &(impl Files + Print + AllocGlobal), file: &'a str) -> Ending<'a>
+    ensures checked { HasChecked file.now result }
+{
+    match fs::read(rt, file) {
+        Ok(text) => print_check(rt.alloc(), file, text.as_slice(), &mut io::writer(rt)),
+        Err(error) => unread_ending(file, &error),
+    }
 }
 
-fn print_check<'a>(
-    rt: &(impl Print + AllocGlobal),
-    file: &'a str,
-    text: &[u8],
-) -> Result<Ending<'a>, AllocError> {
-    match run_check(rt.alloc(), text, &mut io::writer(rt)) {
-        Err(fault) => Ok(Ending::Early(fault)),
-        Ok(_) => match explain_check(rt.alloc(), text)? {
-            None => Ok(Ending::Good),
-            Some(words) => Ok(Ending::Faulty { file, words }),
+// Writes the line about the configuration with this text, and ends accordingly.
+fn print_check<'a, W: Write>(alloc: Global, file: &'a str, text: &[u8], out: &mut W) -> Ending<'a>
+    ensures checked { IsChecked file.now text.now result }
+    ensures printed { PrintsCheck text.now result (W.contents out.old) (W.contents out.new) }
+{
+    match run_check(alloc, text, out) {
+        Err(fault) => Ending::Early(fault),
+        Ok(_) => match explain_check(alloc, text) {
+            Err(_) => Ending::Early(DrillFault::Memory),
+            Ok(None) => Ending::Good,
+            Ok(Some(words)) => Ending::Faulty { file, words },
         },
     }
 }

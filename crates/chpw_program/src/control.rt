@@ -1,6 +1,7 @@
 //! `control`: a command for a running service, and its answer.
-ghost use Rattle.std.specs.Prelude.{◌≡◌, ◌==◌, true, IfOk, IfSome, string_bytes};
+ghost use Rattle.std.specs.Prelude.{◌≡◌, ◌≢◌, ◌⊎◌, ◌==◌, true, IfOk, IfSome, string_bytes};
 ghost use Rattle.std.specs.Io.KnownBytes.{Appends};
+ghost use Rattle.std.specs.IoError.{error_kind};
 ghost use Rattle.chpw_program.specs.Controlling as controlling;
 ghost use Rattle.chpw_program.specs.Controlling.{IsAnswered, ending_by, line_of, says_ok};
 
@@ -84,6 +85,7 @@ fn command_line(alloc: Global, command: &ControlCommand<'_>) -> Result<String, A
 fn print_answer<'a, W: Write>(answer: &[u8], out: &mut W) -> Ending<'a>
     ensures ends { IsAnswered result → result ≡ ending_by answer.now }
     ensures printed { IsAnswered result → Appends (W.contents out.old) (W.contents out.new) answer.now }
+    ensures told { (result ≡ ending_by answer.now) ⊎ (result ≡ Ending.Early DrillFault.Write) }
 {
     if answer.is_empty() {
         return Ending::Unanswered;
@@ -105,6 +107,12 @@ fn is_ok(answer: &[u8]) -> bool
 // Prints what came of an answer that broke off.
 fn broken_off<'a, W: Write>(answer: &[u8], error: &io::Error, out: &mut W) -> Ending<'a>
     ensures unanswered { IsAnswered result → ⊥ }
+    ensures printed { result ≢ Ending.Early DrillFault.Write
+        → Appends (W.contents out.old) (W.contents out.new) answer.now }
+    ensures memory { error_kind error.now ≡ ErrorKind.OutOfMemory
+        → (result ≡ Ending.Early DrillFault.Memory) ⊎ (result ≡ Ending.Early DrillFault.Write) }
+    ensures ended { error_kind error.now ≢ ErrorKind.OutOfMemory
+        → (result ≡ Ending.Unanswered) ⊎ (result ≡ Ending.Early DrillFault.Write) }
 {
     match out.write_all(answer) {
         Err(_) => Ending::Early(DrillFault::Write),

@@ -1,4 +1,6 @@
 //! The standard descriptors.
+ghost use Rattle.std.specs.Prelude.{◌↔◌, ◌≤ℤ◌, IsTrue, pos};
+
 use std::fs::{File, Files};
 use std::io;
 use std::os::fd::{AsRawFd, IntoRawFd};
@@ -11,10 +13,17 @@ pub const NOTHING: &str = "/dev/null";
 pub fn hold_standard<R: Files<File = File>>(rt: &R) -> io::Result<()> {
     for _ in 0..3 {
         let file = File::options().read(true).write(true).open(rt, NOTHING)?;
-        if file.as_raw_fd() > 2 {
+        if !is_standard(file.as_raw_fd()) {
             return Ok(());
         }
         let _held = file.into_raw_fd();
     }
     Ok(())
+}
+
+// Whether a descriptor, which isn't negative, is standard input, output or error.
+fn is_standard(descriptor: i32) -> bool
+    ensures value { IsTrue result ↔ (descriptor ≤ℤ pos 2) }
+{
+    descriptor <= 2
 }

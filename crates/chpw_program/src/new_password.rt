@@ -3,7 +3,8 @@
 ghost use Rattle.std.specs.Prelude.{◌≡◌, ◌≢◌, ◌==◌, ℕ, List, IfErr, IfOk, IfSome};
 ghost use Rattle.std.specs.IoError.{error_kind};
 ghost use Rattle.chpw_program.specs.Asking.{IsUnasked};
-ghost use Rattle.chpw_program.specs.NewPasswords.{IsNoLine, IsOnlyLine, IsPassword, IsWithoutEnd, IsWithoutLast};
+ghost use Rattle.chpw_program.specs.NewPasswords.{IsNoLine, IsNoPassword, IsNoSource, IsOnlyLine, IsPassword, IsUnread};
+ghost use Rattle.chpw_program.specs.NewPasswords.{IsWithoutEnd, IsWithoutLast};
 
 use crate::ending::Ending;
 use chpw_commands::DrillFault;
@@ -21,6 +22,7 @@ pub(crate) fn password_of<'a, R: Files + Input + AllocGlobal>(
     source: PasswordSource<'a>,
 ) -> Result<Vec<u8>, Ending<'a>>
     ensures value { IfOk result (λ password. IsPassword source.entry password.items) }
+    ensures fault { IfErr result (IsNoPassword source.entry) }
     ensures early { IfErr result IsUnasked }
 {
     match source {
@@ -37,6 +39,7 @@ pub(crate) fn password_of<'a, R: Files + Input + AllocGlobal>(
 fn line_from<'a, A: Read>(alloc: Global, reader: &mut A) -> Result<Vec<u8>, Ending<'a>>
     ensures line { IfOk result (λ line. (bytes : List ℕ) × IsOnlyLine bytes line.items
         × IfSome (A.remaining reader.old) (λ known. known ≡ bytes)) }
+    ensures fault { IfErr result (IsNoSource STANDARD_INPUT.now) }
     ensures early { IfErr result IsUnasked }
 {
     let mut bytes = Vec::new(alloc);
@@ -46,10 +49,12 @@ fn line_from<'a, A: Read>(alloc: Global, reader: &mut A) -> Result<Vec<u8>, Endi
     }
 }
 
-fn unread_ending<'a>(name: &'a str, error: &io::Error) -> Ending<'a>
+/// The source with this name can't be read.
+pub(crate) fn unread_ending<'a>(name: &'a str, error: &io::Error) -> Ending<'a>
     ensures early { IsUnasked result }
+    ensures unread { IsUnread name.now result }
     ensures memory { error_kind error.now ≡ ErrorKind.OutOfMemory → result ≡ Ending.Early DrillFault.Memory }
-    ensures file { error_kind error.now ≢ ErrorKind.OutOfMemory → result ≡ Ending.Unread name }
+    ensures file { error_kind error.now ≢ ErrorKind.OutOfMemory → result ≡ Ending.Unread name.entry }
 {
     if error.kind() == ErrorKind::OutOfMemory {
         Ending::Early(DrillFault::Memory)

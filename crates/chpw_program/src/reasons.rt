@@ -1,6 +1,6 @@
 //! Why a file can't be read, or a port not be listened at, as far as that can be seen: a second line after the fault's.
-ghost use Rattle.std.specs.Prelude.{◌≡◌};
-ghost use Rattle.chpw_program.specs.Reasons.{is_privileged};
+ghost use Rattle.std.specs.Prelude.{◌≡◌, ◌≢◌, None, Some, if◌then◌else◌, nat_lt};
+ghost use Rattle.chpw_program.specs.Reasons.{cause_of, is_privileged, named_by, of_type, of_unread};
 
 use crate::ending::Ending;
 use crate::new_password::STANDARD_INPUT;
@@ -82,25 +82,55 @@ impl<'a> Named<'a> {
     // What these words name.
     fn of(alloc: Global, words: &'a [String]) -> Named<'a> {
         match command_of(alloc, words) {
-            Ok(Invocation::Serve(options)) => Named {
+            Ok(invocation) => Named::by(&invocation),
+            Err(_) => Named::default(),
+        }
+    }
+
+    // What a command names.
+    fn by(invocation: &Invocation<'a>) -> Named<'a>
+        ensures value { result ≡ named_by invocation.now }
+    {
+        match invocation {
+            Invocation::Serve(options) => Named {
                 config: Some(options.config),
                 seed: Some(options.seed),
                 journal: Some(options.journal),
                 port: options.port,
             },
-            Ok(Invocation::Table(options)) => Named {
+            Invocation::Table(options) => Named {
                 config: Some(options.config),
+                seed: None,
                 journal: Some(options.journal),
-                ..Named::default()
+                port: 0,
             },
-            Ok(Invocation::Client(options)) => Named {
+            Invocation::Client(options) => Named {
                 config: Some(options.config),
                 seed: Some(options.seed),
-                ..Named::default()
+                journal: None,
+                port: 0,
             },
-            _ => Named::default(),
+            _ => Named {
+                config: None,
+                seed: None,
+                journal: None,
+                port: 0,
+            },
         }
     }
+}
+
+// What is looked at for a reason.
+#[derive(Clone, Copy, Drop)]
+enum Cause<'a> {
+    // This file couldn't be read.
+    Unread(&'a str),
+    // This file couldn't be made, or written to.
+    Unwritten(&'a str),
+    // The configuration in this file has a fault.
+    BadConfig(&'a str),
+    // This port couldn't be listened at.
+    Unlistened(u16),
 }
 
 /// Why a run with these words ended so, if that can be seen.
@@ -113,33 +143,49 @@ where
     R: Files<File = File> + Net<Listener = TcpListener, Stream = TcpStream> + AllocGlobal,
 {
     let named = Named::of(rt.alloc(), words);
+    match cause_of(ending, &named)? {
+        Cause::Unread(file) => of_file(rt, file, &named),
+        Cause::Unwritten(file) => unwritable(rt, file),
+        Cause::BadConfig(file) => in_words(rt, file),
+        Cause::Unlistened(port) => of_port(rt, port),
+    }
+}
+
+// What to look at for the reason of such an ending, if it may have one.
+fn cause_of<'a>(ending: &Ending<'a>, named: &Named<'a>) -> Option<Cause<'a>>
+    ensures value { result ≡ cause_of ending.now named.now }
+{
     match ending {
-        Ending::Unread(file) if *file == STANDARD_INPUT => None,
-        Ending::Unread(file) | Ending::Unbrought(KeysFault::CannotRead(file)) => {
-            of_file(rt, file, &named)
-        }
-        Ending::Unserved(ServeFault::CannotRead(file)) => of_file(rt, file, &named),
-        Ending::Unserved(ServeFault::CannotWrite(file)) => unwritable(rt, file),
-        Ending::Unserved(ServeFault::Config(_)) => in_words(rt, named.config?),
-        Ending::Unserved(ServeFault::CannotListen) => of_port(rt, named.port),
+        Ending::Unread(file) => of_unread(file),
+        Ending::Unbrought(KeysFault::CannotRead(file)) => Some(Cause::Unread(file)),
+        Ending::Unserved(ServeFault::CannotRead(file)) => Some(Cause::Unread(file)),
+        Ending::Unserved(ServeFault::CannotWrite(file)) => Some(Cause::Unwritten(file)),
+        Ending::Unserved(ServeFault::Config(_)) => Some(Cause::BadConfig(named.config?)),
+        Ending::Unserved(ServeFault::CannotListen) => Some(Cause::Unlistened(named.port)),
         _ => None,
+    }
+}
+
+// What to look at if the file of this name couldn't be read; standard input has no reason.
+fn of_unread<'a>(file: &'a str) -> Option<Cause<'a>>
+    ensures value { result ≡ of_unread file.entry }
+{
+    if file == STANDARD_INPUT {
+        None
+    } else {
+        Some(Cause::Unread(file))
     }
 }
 
 // Why a file can't be made, or written to.
 fn unwritable<'a, R: Files>(rt: &R, path: &'a str) -> Option<Reason<'a>> {
     match fs::metadata(rt, path) {
-        Ok(metadata) if metadata.is_dir() => Some(Reason::Folder(path)),
-        Ok(metadata) if !metadata.is_file() => Some(Reason::Special(path)),
-        Ok(_) => None,
+        Ok(metadata) => of_type(path, metadata.is_dir(), metadata.is_file()),
         Err(error) if error.kind() == ErrorKind::NotFound => {
             let (folder, _) = path.rsplit_once('/')?;
             match fs::metadata(rt, folder) {
                 Ok(_) => None,
-                Err(error) => match error.kind() {
-                    ErrorKind::NotFound => Some(Reason::NoFolder(path)),
-                    kind => of_error(path, kind),
-                },
+                Err(error) => of_folder(path, error.kind()),
             }
         }
         Err(error) => of_error(path, error.kind()),
@@ -156,13 +202,11 @@ fn of_file<'a, R: Files<File = File>>(
         Ok(metadata) => metadata,
         Err(error) => return of_error(path, error.kind()),
     };
-    if metadata.is_dir() {
-        return Some(Reason::Folder(path));
+    let reason = of_type(path, metadata.is_dir(), metadata.is_file());
+    if reason.is_some() {
+        return reason;
     }
-    if !metadata.is_file() {
-        return Some(Reason::Special(path));
-    }
-    if named.seed == Some(path) && metadata.len() < SEED {
+    if named.seed == Some(path) && is_short(metadata.len()) {
         return Some(Reason::Short(path));
     }
     match File::open(rt, path) {
@@ -174,11 +218,52 @@ fn of_file<'a, R: Files<File = File>>(
     }
 }
 
-fn of_error(path: &str, kind: ErrorKind) -> Option<Reason<'_>> {
+// Why what the path leads to is no file to read or write; none if it is one.
+fn of_type<'a>(path: &'a str, is_folder: bool, is_file: bool) -> Option<Reason<'a>>
+    ensures value { result ≡ of_type path.entry is_folder is_file }
+{
+    if is_folder {
+        Some(Reason::Folder(path))
+    } else if !is_file {
+        Some(Reason::Special(path))
+    } else {
+        None
+    }
+}
+
+// Whether a file with so many bytes is too short for a seed.
+fn is_short(bytes: u64) -> bool
+    ensures value { result ≡ nat_lt bytes 32 }
+{
+    bytes < SEED
+}
+
+// Why the path leads to nothing that can be opened, by the error's kind.
+fn of_error(path: &str, kind: ErrorKind) -> Option<Reason<'_>>
+    ensures missing { kind ≡ ErrorKind.NotFound → result ≡ Some (Reason.Missing path.entry) }
+    ensures no_folder { kind ≡ ErrorKind.NotADirectory → result ≡ Some (Reason.Missing path.entry) }
+    ensures forbidden { kind ≡ ErrorKind.PermissionDenied → result ≡ Some (Reason.Forbidden path.entry) }
+    ensures none { kind ≢ ErrorKind.NotFound → kind ≢ ErrorKind.NotADirectory
+        → kind ≢ ErrorKind.PermissionDenied → result ≡ None }
+{
     match kind {
         ErrorKind::NotFound | ErrorKind::NotADirectory => Some(Reason::Missing(path)),
         ErrorKind::PermissionDenied => Some(Reason::Forbidden(path)),
         _ => None,
+    }
+}
+
+// Why no file can be made at the path, by the kind of the error of its directory.
+fn of_folder(path: &str, kind: ErrorKind) -> Option<Reason<'_>>
+    ensures no_folder { kind ≡ ErrorKind.NotFound → result ≡ Some (Reason.NoFolder path.entry) }
+    ensures missing { kind ≡ ErrorKind.NotADirectory → result ≡ Some (Reason.Missing path.entry) }
+    ensures forbidden { kind ≡ ErrorKind.PermissionDenied → result ≡ Some (Reason.Forbidden path.entry) }
+    ensures none { kind ≢ ErrorKind.NotFound → kind ≢ ErrorKind.NotADirectory
+        → kind ≢ ErrorKind.PermissionDenied → result ≡ None }
+{
+    match kind {
+        ErrorKind::NotFound => Some(Reason::NoFolder(path)),
+        kind => of_error(path, kind),
     }
 }
 
@@ -196,11 +281,21 @@ fn of_port<'a, R: Net<Listener = TcpListener, Stream = TcpStream>>(
 ) -> Option<Reason<'a>> {
     match TcpListener::bind(rt, (Ipv4Addr::LOCALHOST, port)) {
         Ok(_) => None,
-        Err(error) => match error.kind() {
-            ErrorKind::AddrInUse => Some(Reason::InUse(port)),
-            ErrorKind::PermissionDenied if is_privileged(port) => Some(Reason::Privileged(port)),
-            _ => None,
-        },
+        Err(error) => of_bind(port, error.kind()),
+    }
+}
+
+// The same, by the error's kind.
+fn of_bind<'a>(port: u16, kind: ErrorKind) -> Option<Reason<'a>>
+    ensures in_use { kind ≡ ErrorKind.AddrInUse → result ≡ Some (Reason.InUse port) }
+    ensures forbidden { kind ≡ ErrorKind.PermissionDenied
+        → result ≡ (if is_privileged port then Some (Reason.Privileged port) else None) }
+    ensures none { kind ≢ ErrorKind.AddrInUse → kind ≢ ErrorKind.PermissionDenied → result ≡ None }
+{
+    match kind {
+        ErrorKind::AddrInUse => Some(Reason::InUse(port)),
+        ErrorKind::PermissionDenied if is_privileged(port) => Some(Reason::Privileged(port)),
+        _ => None,
     }
 }
 

@@ -1,14 +1,16 @@
 //! A run of the program, from its words to its status.
-ghost use Rattle.std.specs.Prelude.{◌≡◌, ◌≤◌};
+ghost use Rattle.std.specs.Prelude.{◌≡◌, ◌≤◌, OnOk};
+ghost use Rattle.std.specs.Io.KnownBytes.{Appends};
+ghost use Rattle.chpw_program.specs.Reasons.{told_of};
 ghost use Rattle.chpw_program.specs.Endings.{status_of};
 
 use crate::command_line::words;
 use crate::commands::run;
 use crate::descriptors::{NOTHING, hold_standard};
 use crate::ending::{Ending, tell};
-use crate::reasons::reason_of;
+use crate::reasons::{Reason, reason_of};
 use std::fs::{File, Files};
-use std::io::Write;
+use std::io::{self, Write};
 use std::net::{Net, TcpListener, TcpStream};
 use std::rt::Env;
 use std::sync::Wait;
@@ -40,12 +42,21 @@ where
         Ok(words) => {
             let ending = run(rt, errors, words.as_slice());
             let status = end(errors, &ending);
-            if let Some(reason) = reason_of(rt, words.as_slice(), &ending) {
-                let _ = writeln!(errors, "{reason}");
-            }
+            let reason = reason_of(rt, words.as_slice(), &ending);
+            let _ = tell_reason(errors, &reason);
             status
         }
         Err(ending) => end(errors, &ending),
+    }
+}
+
+// Writes the line of a reason, if there is one.
+fn tell_reason<W: Write>(errors: &mut W, reason: &Option<Reason<'_>>) -> io::Result<()>
+    ensures told { OnOk result (Appends (W.contents errors.old) (W.contents errors.new) (told_of reason.now)) }
+{
+    match reason {
+        Some(reason) => writeln!(errors, "{reason}"),
+        None => Ok(()),
     }
 }
 

@@ -1,7 +1,8 @@
 use Rattle.std.proofs.Common.{◌∙◌, refl, sym}
 use Rattle.clap.specs.Words.{found_of, rows_of}
-use Rattle.chpw_invocation.proofs.OwnLemmas.{aimed, unpassed}
+use Rattle.chpw_invocation.proofs.OwnLemmas.{aimed, is_no_old, unpassed, untargeted}
 use Rattle.chpw_invocation.proofs.matching.client_of.Goals as goal
+use Rattle.chpw_invocation.proofs.matching.client_of.Goals.{else-old-via-then-old+else-is_some, else-old-via-else-old}
 
 pub returns-then-is_some-clause-none : goal.returns-then-is_some-clause-none
 returns-then-is_some-clause-none c = λ whole none.
@@ -10,4 +11,11 @@ returns-then-is_some-clause-none c = λ whole none.
 
 pub returns-in_err-password_of-clause-none : goal.returns-in_err-password_of-clause-none
 returns-in_err-password_of-clause-none c = λ whole none.
-    unpassed (rows_of (found_of c.args.options.now)) (c.in_err-password_of.ensures.none refl)
+    unpassed (rows_of (found_of c.args.options.now))
+    (elim c.else-old.branch [
+      | else-old-via-then-old+else-is_some w ↦
+          untargeted (rows_of (found_of c.args.options.now)) c.text_of-target.result c.text_of-target.ensures.value
+          (sym w.is_some.ensures ∙ w.if-is_some.false)
+      | else-old-via-else-old w ↦
+          is_no_old (rows_of (found_of c.args.options.now)) c.is_given-old.result whole c.is_given-old.ensures.given w.if-old.false
+    ]) (c.in_err-password_of.ensures.none refl)

@@ -42,7 +42,7 @@ returns-clause-refused c =
     c.in_ok-matches.ensures.ok.0 c.in_ok-matches.ensures.ok.1 (ap (λ (a : App). a.top.subcommand_required) is) in
     let suited : IsSuited (subcommand_of program words) = command_suits words none (λ e. met (matched ∙ e)) in
     let here : IsSuited (subcommand_rows_of c.in_ok-matches.matches) = subst IsSuited (sym matched) suited in
-    let why : IsOwnRefusal (subcommand_of program words) c.refusal_of-kind.result.0 =
-    subst (λ (o : Option (Text × List Row)). IsOwnRefusal o c.refusal_of-kind.result.0) matched
-    (c.refusal_of-kind.ensures.why here (c.asked_of.ensures.none here c.in-None.is)) in
-    inr (none, subst (IsOwnRefusal (subcommand_of program (map string_bytes c.args.words.now))) (sym c.in_ok-error-in-None.ensures.kind) why)
+    let why : IsOwnRefusal (subcommand_of program words) c.refusal_of-refusal.result =
+    subst (λ (o : Option (Text × List Row)). IsOwnRefusal o c.refusal_of-refusal.result) matched
+    (c.refusal_of-refusal.ensures.why here (c.asked_of.ensures.none here c.in-None.is)) in
+    inr (none, (c.refusal_of-refusal.result, why, c.in_ok-error-in-None.ensures.kind ∙ c.kind.ensures.value))

@@ -6,7 +6,7 @@ use Rattle.chpw_invocation.proofs.refusing.refusal_of.Goals as goal
 
 pub returns-in-client : goal.returns-in-client
 returns-in-client c = record {
-  why = client_refused (subcommand_rows_of c.args.matches.now) (rows_of (found_of c.in-Some.options.now)) c.client_refusal.result.0
+  why = client_refused (subcommand_rows_of c.args.matches.now) (rows_of (found_of c.in-Some.options.now)) c.client_refusal.result
       (named_as c.args.matches.now c.in-Some.name.now (codes "client")
       (rows_of (found_of c.in-Some.options.now)) c.in-Some.ensures.name c.in-Some.ensures.rows c.in-client.is)
       c.client_refusal.ensures.why;
@@ -14,7 +14,7 @@ returns-in-client c = record {
 
 pub returns-in-control : goal.returns-in-control
 returns-in-control c = record {
-  why = λ suited. control_refused (subcommand_rows_of c.args.matches.now) (rows_of (found_of c.in-Some.options.now)) c.control_refusal.result.0
+  why = λ suited. control_refused (subcommand_rows_of c.args.matches.now) (rows_of (found_of c.in-Some.options.now)) c.control_refusal.result
       (named_as c.args.matches.now c.in-Some.name.now (codes "control")
       (rows_of (found_of c.in-Some.options.now)) c.in-Some.ensures.name c.in-Some.ensures.rows c.in-control.is)
       c.control_refusal.ensures.why;

@@ -1,0 +1,28 @@
+-- The reasons for which the program itself refuses words: the kind of each one's error, and its text.
+use Rattle.std.specs.Prelude.{codes}
+use Rattle.clap.specs.Walk.{Text}
+use Rattle.clap.specs.declared.error.kind.ErrorKind.{ErrorKind}
+use Rattle.clap.specs.declared.error.kind.ErrorKind.TheVariants.{ArgumentConflict, InvalidValue, MissingRequiredArgument, UnknownArgument}
+use Rattle.chpw_invocation.specs.declared.refusing.Refusal.{Refusal}
+use Rattle.chpw_invocation.specs.declared.refusing.Refusal.TheVariants.{OldTarget, TwoPasswords, NoPassword, NoCommand}
+use Rattle.chpw_invocation.specs.declared.refusing.Refusal.TheVariants.{NoFile, SpareFile, NoForm, NoRealm}
+
+abbrev pub kind_for : Refusal → ErrorKind
+kind_for OldTarget = ArgumentConflict
+kind_for TwoPasswords = ArgumentConflict
+kind_for NoPassword = MissingRequiredArgument
+kind_for NoCommand = InvalidValue
+kind_for NoFile = MissingRequiredArgument
+kind_for SpareFile = UnknownArgument
+kind_for NoForm = InvalidValue
+kind_for NoRealm = InvalidValue
+
+abbrev pub text_for : Refusal → Text
+text_for OldTarget = codes "the argument '--old' cannot be used with '--target <NAME>'"
+text_for TwoPasswords = codes "the argument '--password <TEXT>' cannot be used with '--password-file <FILE>'"
+text_for NoPassword = codes "either '--password <TEXT>' or '--password-file <FILE>' is required"
+text_for NoCommand = codes "a value for '<COMMAND>' is one of: status, reload, reopen-log, stop, compact"
+text_for NoFile = codes "the command 'compact' requires a '<FILE>'"
+text_for SpareFile = codes "only the command 'compact' takes a '<FILE>'"
+text_for NoForm = codes "a value for '--as <FORM>' is one of: lines, configuration, keys"
+text_for NoRealm = codes "a value for '--realm <REALM>' has 1 to 255 bytes"
