@@ -3,3 +3,4 @@ pub mod DatagramLemmas
 pub mod PlaceLemmas
 pub mod RunLemmas
 pub mod SendLemmas
+pub mod TransferLemmas

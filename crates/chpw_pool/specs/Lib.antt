@@ -1,4 +1,5 @@
 pub mod Accepting
+pub mod Addresses
 pub mod Bounded
 pub mod Clocks
 pub mod Controlling
@@ -6,8 +7,10 @@ pub mod Datagrams
 pub mod Deciding
 pub mod Engines
 pub mod Following
+pub mod Places
 pub mod Pools
 pub mod Rounds
 pub mod Steps
 pub mod Tokens
+pub mod Transfers
 pub mod Turns

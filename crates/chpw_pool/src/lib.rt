@@ -19,6 +19,7 @@ mod sockets;
 mod state;
 mod status_reporter;
 mod tokens;
+mod transfer;
 mod udp;
 mod worker;
 
