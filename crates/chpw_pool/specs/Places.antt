@@ -24,23 +24,6 @@ KeepsSizes old new = (length new.by_slot.items ≡ length old.by_slot.items) × 
 abbrev pub IsStream : Option (Option Transport) → Type 0
 IsStream at = (s : Socket) × (at ≡ Some (Some (place.Stream s)))
 
--- a stream stays at its place, and so does a datagram with its sender
-abbrev pub KeepsPlace : Option (Option Transport) → Option (Option Transport) → Type 0
-KeepsPlace (Some (Some (place.Stream s))) new = IsStream new
-KeepsPlace (Some (Some (place.Datagram d))) new = (e : Datagram) × (new ≡ Some (Some (place.Datagram e))) × (e.sender ≡ d.sender)
-KeepsPlace old new = new ≡ old
-
--- the writing side of a stream is shut
-abbrev pub IsShut : Option (Option Transport) → Option (Option Transport) → Type 0
-IsShut (Some (Some (place.Stream s))) new = (t : Socket) × (new ≡ Some (Some (place.Stream t))) × (t.is_shut ≡ true)
-IsShut old new = ⊤
-
--- no more comes for a datagram: what is read of it is its end
-abbrev pub EndsDatagram : Todo → Option (Option Transport) → Slab Connection → Slab Connection → ℕ → Progress → Type 0
-EndsDatagram (todo.Read n) (Some (Some (place.Datagram d))) old new slot p = Happens 0 old new slot closed × (p ≡ progress.Some)
-EndsDatagram todo.Linger (Some (Some (place.Datagram d))) old new slot p = Happens 0 old new slot closed × (p ≡ progress.Some)
-EndsDatagram t at old new slot p = ⊤
-
 -- a socket has an error, or can't be asked for one
 abbrev pub has_pending : Result (Option Error) Error → Bool
 has_pending (Ok None) = false

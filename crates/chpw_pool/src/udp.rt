@@ -104,7 +104,7 @@ impl Datagrams {
 
     // Sends a reply, without its length, to its receiver.
     fn send(&self, sender: Sender, reply: &[u8]) -> io::Result<usize> {
-        let Outgoing { to, bytes } = outgoing(sender, reply);
+        let Outgoing { to, bytes } = addressed(sender, reply);
         self.socket.send_to(bytes, to)
     }
 
@@ -208,7 +208,7 @@ struct Outgoing<'a> {
 }
 
 // A reply as a datagram, without its length, to the sender of its request.
-fn outgoing(sender: Sender, reply: &[u8]) -> Outgoing<'_>
+fn addressed(sender: Sender, reply: &[u8]) -> Outgoing<'_>
     ensures to { IsAddressOf sender result.to }
     ensures bytes { result.bytes.now ≡ in_datagram reply.now }
 {

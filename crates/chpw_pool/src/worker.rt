@@ -107,7 +107,7 @@ fn take_turn<M: Messages, K: Decider, G: Gate + Observer, C: Clock, X: Words, J:
         × IsReplyBehind ended bytes result.reply }
 {
     let before = worker.decider.receipts().len();
-    let reply = reply_to(taken.peer, &taken.message, worker);
+    let reply = reply_to(taken.peer, taken.message.as_slice(), worker);
     let receipts = worker.decider.receipts();
     Turn {
         slot: taken.slot,
