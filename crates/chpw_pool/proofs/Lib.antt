@@ -5,3 +5,4 @@ pub mod ReplyLemmas
 pub mod RoundLemmas
 pub mod RunLemmas
 pub mod SendLemmas
+pub mod TransferLemmas

@@ -1,6 +1,10 @@
 -- The callers at the control socket with their sockets: how they come and go, and what a read or a write does.
+<<<<<<< HEAD
 use Rattle.std.specs.Prelude.{◌≡◌, ℕ, ◌+◌, List, [], ◌∷◌, take, slice_get, Option, Some, None, IsSome, Bool, true, false, min, if◌then◌else◌, ◌⊎◌}
 use Rattle.std.specs.Io.KnownBytes.{Appends, Consumes, Keeps}
+=======
+use Rattle.std.specs.Prelude.{◌≡◌, ◌≢◌, ℕ, ◌+◌, List, [], ◌∷◌, take, length, slice_get, Option, Some, None, IsSome, Bool, true, false, min, if◌then◌else◌, ◌⊎◌}
+>>>>>>> b3728bb67bdd2e0e9f7e1ef0802e9e3c8720e11b
 use Rattle.slab.specs.Slab.{Slab, get}
 use Rattle.mio.specs.declared.net.uds.stream.UnixStream.{UnixStream}
 use Rattle.chpw_connections.specs.Counting.{count_in}
@@ -14,38 +18,48 @@ use Rattle.chpw_control.specs.declared.callers.Callers.{Callers}
 use Rattle.chpw_control.specs.declared.callers.Seat.{Seat}
 use Rattle.chpw_pool.specs.declared.status_reporter.ConnectionCounts.{ConnectionCounts}
 use Rattle.chpw_pool.specs.declared.state.State.{State}
+use Rattle.chpw_pool.specs.declared.transfer.Transfer.{Transfer}
+use Rattle.chpw_pool.specs.declared.transfer.Transfer.TheVariants.{Bytes, End, Later, Again, Fault}
+use Rattle.chpw_pool.specs.Transfers.{IsRead, IsWritten}
 
--- these bytes were read, and came
-pub record Comes (old new : Slab Seat) (slot : ℕ) (before after : Option (List ℕ)) : Type 0 where
-  pub bytes : List ℕ
-  pub read : Consumes before after bytes
-  pub happens : HappensToHear old new slot bytes
+-- What comes of a read of a caller's line into this buffer: its first bytes came; the caller will send no more, or can't
+-- go on; or nothing happened.
+abbrev pub ComesOfRead : Transfer → List ℕ → Slab Seat → Slab Seat → ℕ → Type 0
+ComesOfRead (Bytes count) buffer old new slot = HappensToHear old new slot (take count buffer)
+ComesOfRead End buffer old new slot = Happens old new slot closed
+ComesOfRead Fault buffer old new slot = Happens old new slot failed
+ComesOfRead Later buffer old new slot = new ≡ old
+ComesOfRead Again buffer old new slot = new ≡ old
 
--- nothing was read: the other side will send no more, the socket has failed, or nothing has come
-pub record ComesNone (old new : Slab Seat) (slot : ℕ) (before after : Option (List ℕ)) : Type 0 where
-  pub kept : Keeps before after
-  pub happens : Happens old new slot closed ⊎ (Happens old new slot failed ⊎ (new ≡ old))
+-- one that was made, and what came of it
+pub record IsHeard (old new : Slab Seat) (slot : ℕ) (before after : Option (List ℕ)) (buffer : List ℕ) : Type 0 where
+  pub transfer : Transfer
+  pub read : IsRead transfer before after buffer
+  pub comes : ComesOfRead transfer buffer old new slot
 
-abbrev pub IsHeard : Slab Seat → Slab Seat → ℕ → Option (List ℕ) → Option (List ℕ) → Type 0
-IsHeard old new slot before after = Comes old new slot before after ⊎ ComesNone old new slot before after
+-- What comes of a write of a caller's answer: this many of its bytes were written; the caller can't go on; or nothing
+-- happened.
+abbrev pub ComesOfWrite : Transfer → Slab Seat → Slab Seat → ℕ → Type 0
+ComesOfWrite (Bytes count) old new slot = Happens old new slot (wrote count)
+ComesOfWrite End old new slot = Happens old new slot failed
+ComesOfWrite Fault old new slot = Happens old new slot failed
+ComesOfWrite Later old new slot = new ≡ old
+ComesOfWrite Again old new slot = new ≡ old
 
--- some bytes of what is left of the answer were written, from the front
+-- one that was made of what is left of it, and what came of it
 pub record Goes (old new : Slab Seat) (slot : ℕ) (before after : Option (List ℕ)) : Type 0 where
-  pub count : ℕ
-  pub written : Appends before after (take count (left_at (get old slot)))
-  pub happens : Happens old new slot (wrote count)
+  pub transfer : Transfer
+  pub written : IsWritten transfer before after (left_at (get old slot))
+  pub comes : ComesOfWrite transfer old new slot
 
--- nothing was written: the socket has failed, or would block
-pub record GoesNone (old new : Slab Seat) (slot : ℕ) (before after : Option (List ℕ)) : Type 0 where
-  pub kept : Keeps before after
-  pub happens : Happens old new slot failed ⊎ (new ≡ old)
-
+-- or none, since nothing is left
 abbrev pub IsTold : Slab Seat → Slab Seat → ℕ → Option (List ℕ) → Option (List ℕ) → Type 0
-IsTold old new slot before after = Goes old new slot before after ⊎ GoesNone old new slot before after
+IsTold old new slot before after = Goes old new slot before after
+    ⊎ ((left_at (get old slot) ≡ []) × (after ≡ before) × Happens old new slot (wrote 0))
 
 -- one call of the socket each
 abbrev pub Hears : Slab Seat → Slab Seat → ℕ → Type 0
-Hears old new slot = (before : Option (List ℕ)) × ((after : Option (List ℕ)) × IsHeard old new slot before after)
+Hears old new slot = (before : Option (List ℕ)) × ((after : Option (List ℕ)) × ((buffer : List ℕ) × IsHeard old new slot before after buffer))
 
 abbrev pub Tells : Slab Seat → Slab Seat → ℕ → Type 0
 Tells old new slot = (before : Option (List ℕ)) × ((after : Option (List ℕ)) × IsTold old new slot before after)

@@ -1,5 +1,5 @@
 -- What a worker answers to one message, and when a history is full after it.
-use Rattle.std.specs.Prelude.{◌≡◌, ℕ, ◌+◌, ◌-◌, List, Bool, true, false, Option, Some, None, IsSomeAnd, nat_le, nat_lt, ◌&&◌, length, slice_get}
+use Rattle.std.specs.Prelude.{◌≡◌, ℕ, ◌+◌, ◌-◌, List, Bool, true, false, Option, Some, None, IsSomeAnd, MatchBool, nat_le, nat_lt, ◌&&◌, length, slice_get}
 use Rattle.chpw_serve.specs.declared.serving.Ended.{Ended}
 use Rattle.chpw_serve.specs.declared.serving.Ended.TheVariants as end
 use Rattle.chpw_table.specs.declared.history.Receipt.{Receipt}
@@ -33,3 +33,7 @@ is_of_change (Some r) = is_accepted r.entry.event
 -- there is one more than before, and the newest is of a change
 abbrev pub has_changed_after : ℕ → List Receipt → Bool
 has_changed_after before receipts = nat_lt before (length receipts) && is_of_change (slice_get receipts (length receipts - 1))
+
+-- the journal's end that a reply waits for: one behind its change, and none without a change
+abbrev pub IsChangeBehind : {J : Type 0} → (J → Option ℕ → Type 0) → J → ℕ → List Receipt → Option ℕ → Type 0
+IsChangeBehind ends journal before receipts change = MatchBool (has_changed_after before receipts) (ends journal change) (change ≡ None)

@@ -1,6 +1,7 @@
 //! The machine's clock, as a worker reads it.
 ghost use Rattle.std.specs.Prelude.{◌≡◌, ◌<◌, pos, IfSome, IfNone};
 ghost use Rattle.std.specs.Duration.{as_nanos};
+ghost use Rattle.std.specs.Time.{system_time_nanos};
 ghost use Rattle.chpw_table.specs.Times.{IsMoment};
 ghost use Rattle.chpw_pool.specs.Clocks.{moment_after, IsPast};
 
@@ -15,8 +16,19 @@ pub fn machine_moment<R: time::Clock>(rt: &R) -> Option<Moment>
     ensures range { IfSome result (λ m. IsMoment m × (m.micros < 1000000)) }
 {
     let now = SystemTime::now(rt).ok()?;
-    let since = now.duration_since(UNIX_EPOCH).ok()?;
-    moment(since)
+    moment_at(now)
+}
+
+// The moment of a machine's time; none past the year 9999.
+fn moment_at(now: SystemTime) -> Option<Moment>
+    ensures range { IfSome result (λ m. IsMoment m × (m.micros < 1000000)) }
+    ensures value { IfSome result (λ m. m ≡ moment_after (system_time_nanos now)) }
+    ensures none { IfNone result (IsPast (system_time_nanos now)) }
+{
+    match now.duration_since(UNIX_EPOCH) {
+        Ok(since) => moment(since),
+        Err(_) => None,
+    }
 }
 
 // The moment this long after 1970-01-01T00:00:00Z; none past the year 9999.

@@ -5,14 +5,16 @@ ghost use Rattle.chpw_control.specs.Callers.{asking, told, wrote};
 ghost use Rattle.chpw_control.specs.Dialogs.{at_start};
 ghost use Rattle.chpw_control.specs.declared.callers.Seat.{Seat};
 ghost use Rattle.chpw_control.specs.Seats.{Happens, IsNew, seats_of, ordering_of, accepted_of, is_over_at, left_at};
-ghost use Rattle.chpw_pool.specs.Controlling.{Admits, HasNoOrder, HasOrder, IsDue, IsHeard, IsIdle, IsOpen, IsTold, ServesAt, TellsDone, TellsLast};
+ghost use Rattle.chpw_pool.specs.Controlling.{Admits, ComesOfRead, ComesOfWrite, HasNoOrder, HasOrder, IsDue, IsHeard, IsIdle, IsOpen, IsTold, ServesAt, TellsDone, TellsLast};
+ghost use Rattle.chpw_pool.specs.Transfers.{IsWithin};
 
 use crate::tokens::token_after;
+use crate::transfer::Transfer;
 use chpw_control::{Callers, put_ok};
 use mio::net::UnixStream;
 use mio::{Interest, Registry};
 use std::alloc::{AllocError, Global};
-use std::io::{ErrorKind, Read, Write};
+use std::io::{Read, Write};
 
 /// The most callers at a time.
 pub(crate) const CALLERS: usize = 64;
@@ -183,6 +185,7 @@ fn no_streams(alloc: Global) -> Result<Vec<Option<UnixStream>>, AllocError>
 }
 
 // Reads what came of a caller's line.
+#[tactic(auto, using(crate::proofs::TransferLemmas::within, crate::proofs::TransferLemmas::is_read))]
 fn hear<I: Read>(
     callers: &mut Callers,
     alloc: Global,
@@ -190,20 +193,29 @@ fn hear<I: Read>(
     reader: &mut I,
     buffer: &mut [u8],
 )
-    ensures heard { IsHeard (seats_of callers.old) (seats_of callers.new) slot (I.remaining reader.old) (I.remaining reader.new) }
+    ensures heard { IsHeard (seats_of callers.old) (seats_of callers.new) slot (I.remaining reader.old) (I.remaining reader.new) buffer.new }
     ensures ordering { ordering_of callers.new ≡ ordering_of callers.old }
 {
-    match reader.read(buffer) {
-        Ok(0) => callers.close(slot),
-        Ok(count) => callers.hear(alloc, slot, &buffer[..count]),
-        Err(error) => match error.kind() {
-            ErrorKind::WouldBlock | ErrorKind::Interrupted => {}
-            _ => callers.fail(slot),
-        },
+    let read = Transfer::of(reader.read(buffer));
+    note_read(callers, alloc, slot, read, buffer);
+}
+
+// A read of a caller's line into this buffer did this.
+fn note_read(callers: &mut Callers, alloc: Global, slot: usize, read: Transfer, buffer: &[u8])
+    requires within { IsWithin read buffer.now }
+    ensures comes { ComesOfRead read buffer.now (seats_of callers.old) (seats_of callers.new) slot }
+    ensures ordering { ordering_of callers.new ≡ ordering_of callers.old }
+{
+    match read {
+        Transfer::Bytes(count) => callers.hear(alloc, slot, &buffer[..count]),
+        Transfer::End => callers.close(slot),
+        Transfer::Later | Transfer::Again => {}
+        Transfer::Fault => callers.fail(slot),
     }
 }
 
 // Writes what is left of a caller's answer. A caller whose whole answer is written is finished.
+#[tactic(auto, using(crate::proofs::TransferLemmas::is_written))]
 fn tell<W: Write>(callers: &mut Callers, slot: usize, writer: &mut W)
     ensures told { IsTold (seats_of callers.old) (seats_of callers.new) slot (W.contents writer.old) (W.contents writer.new) }
     ensures out { left_at (get (seats_of callers.old) slot) ≡ [] → Happens (seats_of callers.old) (seats_of callers.new) slot (wrote 0) }
@@ -214,12 +226,18 @@ fn tell<W: Write>(callers: &mut Callers, slot: usize, writer: &mut W)
         callers.wrote(slot, 0);
         return;
     }
-    match writer.write(left) {
-        Ok(0) => callers.fail(slot),
-        Ok(count) => callers.wrote(slot, count),
-        Err(error) => match error.kind() {
-            ErrorKind::WouldBlock | ErrorKind::Interrupted => {}
-            _ => callers.fail(slot),
-        },
+    let written = Transfer::of(writer.write(left));
+    note_written(callers, slot, written);
+}
+
+// A write of a caller's answer did this.
+fn note_written(callers: &mut Callers, slot: usize, written: Transfer)
+    ensures comes { ComesOfWrite written (seats_of callers.old) (seats_of callers.new) slot }
+    ensures ordering { ordering_of callers.new ≡ ordering_of callers.old }
+{
+    match written {
+        Transfer::Bytes(count) => callers.wrote(slot, count),
+        Transfer::Later | Transfer::Again => {}
+        Transfer::End | Transfer::Fault => callers.fail(slot),
     }
 }

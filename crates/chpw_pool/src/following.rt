@@ -1,15 +1,17 @@
 //! What the reactor does for replies that wait for the follower.
-ghost use Rattle.std.specs.Prelude.{◌≡◌, true};
+ghost use Rattle.std.specs.Prelude.{◌≡◌, true, is_some, None, OnErr, OnOk};
 ghost use Rattle.std.specs.Io.KnownBytes.{Appends};
+ghost use Rattle.chpw_pool.specs.Transfers.{IsWithin, is_passed, is_over};
 
 use crate::engine::milliseconds;
 use crate::follower::Follower;
 use crate::reactor::Reactor;
 use crate::tokens::FOLLOWER;
-use chpw_follower::ask_line;
+use crate::transfer::Transfer;
+use chpw_follower::{ProtocolFault, ask_line};
 use mio::net::UnixStream;
 use mio::{Interest, Registry};
-use std::io::{ErrorKind, Read, Write};
+use std::io::{Read, Write};
 use std::net::{OpenListener, TcpStream};
 use std::os::fd::AsRawFd;
 use std::sync::Wait;
@@ -29,7 +31,9 @@ pub(crate) struct FollowerLink<F> {
 
 impl<F: Follower + Drop> FollowerLink<F> {
     /// A link that isn't open yet.
-    pub fn new(follower: F) -> FollowerLink<F> {
+    pub fn new(follower: F) -> FollowerLink<F>
+        ensures closed { result.stream ≡ None }
+    {
         FollowerLink {
             follower,
             stream: None,
@@ -38,7 +42,9 @@ impl<F: Follower + Drop> FollowerLink<F> {
     }
 
     // Opens it, if it isn't open.
-    fn open(&mut self, registry: &Registry) {
+    fn open(&mut self, registry: &Registry)
+        ensures kept { is_some self.old.stream ≡ true → self.new ≡ self.old }
+    {
         if self.stream.is_some() {
             return;
         }
@@ -51,7 +57,9 @@ impl<F: Follower + Drop> FollowerLink<F> {
     }
 
     // Sends a line, opening the connection if it isn't open; whether all of it was sent.
-    fn send(&mut self, registry: &Registry, line: &[u8]) -> bool {
+    fn send(&mut self, registry: &Registry, line: &[u8]) -> bool
+        ensures open { result ≡ true → is_some self.new.stream ≡ true }
+    {
         self.open(registry);
         match &mut self.stream {
             None => false,
@@ -100,15 +108,24 @@ impl<
             let Some(stream) = &mut self.link.stream else {
                 return;
             };
-            match stream.read(&mut buffer) {
-                Ok(0) => self.lose(),
-                Ok(count) => self.hear_bytes(&buffer[..count]),
-                Err(error) => match error.kind() {
-                    ErrorKind::WouldBlock => return,
-                    ErrorKind::Interrupted => {}
-                    _ => self.lose(),
-                },
+            let read = Transfer::of(stream.read(&mut buffer));
+            if matches!(read, Transfer::Later) {
+                return;
             }
+            self.note_read(read, &buffer);
+        }
+    }
+
+    // A read of what the follower sent into this buffer did this.
+    fn note_read(&mut self, read: Transfer, buffer: &[u8])
+        requires within { IsWithin read buffer.now }
+        ensures lost { is_over read ≡ true → self.new.link.stream ≡ None }
+        ensures same { is_passed read ≡ true → self.new ≡ self.old }
+    {
+        match read {
+            Transfer::Bytes(count) => self.hear_bytes(&buffer[..count]),
+            Transfer::End | Transfer::Fault => self.lose(),
+            Transfer::Later | Transfer::Again => {}
         }
     }
 
@@ -121,6 +138,14 @@ impl<
             .lock(self.rt)
             .state
             .hear_unless_former(bytes, now);
+        self.note_heard(heard);
+    }
+
+    // The bytes that the follower sent meant this.
+    fn note_heard(&mut self, heard: Result<Option<u64>, ProtocolFault>)
+        ensures lost { OnErr heard (self.new.link.stream ≡ None) }
+        ensures kept { OnOk heard (self.new.link.stream ≡ self.old.link.stream) }
+    {
         match heard {
             Ok(None) => {}
             Ok(Some(_)) => self.link.follower.confirmed(),
@@ -149,7 +174,9 @@ impl<
     }
 
     // The connection has ended, or there was none. If an answer was due, nothing waits any more.
-    fn lose(&mut self) {
+    fn lose(&mut self)
+        ensures closed { self.new.link.stream ≡ None }
+    {
         self.link.stream = None;
         let was_due = self.engine.hub.lock(self.rt).state.hang_up();
         if was_due {
@@ -158,7 +185,9 @@ impl<
     }
 
     // Releases replies that have waited this long, and reports that they are unconfirmed.
-    fn release(&mut self, wait: u64) {
+    fn release(&mut self, wait: u64)
+        ensures kept { self.new.link.stream ≡ self.old.link.stream }
+    {
         let now = milliseconds(self.rt);
         for _ in 0..self.clients {
             let released = self.engine.hub.lock(self.rt).state.overdue(wait, now);

@@ -21,6 +21,7 @@ mod sockets;
 mod state;
 mod status_reporter;
 mod tokens;
+mod transfer;
 mod udp;
 mod worker;
 

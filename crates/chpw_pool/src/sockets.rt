@@ -1,5 +1,5 @@
 //! The sockets of the connections.
-ghost use Rattle.std.specs.Prelude.{◌≡◌, ℕ, ◌<◌, ◌≤◌, IfOk, IfErr, IfSome, IfNone, false, length, slice_get};
+ghost use Rattle.std.specs.Prelude.{◌≡◌, ◌≢◌, ℕ, ◌<◌, ◌≤◌, IfOk, IfErr, IfSome, IfNone, false, true, is_some, length, slice_get, if◌then◌else◌};
 ghost use Rattle.slab.specs.Slab.{get};
 ghost use Rattle.chpw_connections.specs.Held.{slots_of, bounds_of, accepted_by};
 ghost use Rattle.chpw_connections.specs.Queues.{workers_of};
@@ -8,19 +8,21 @@ ghost use Rattle.chpw_connections.specs.declared.todo.Todo.TheVariants as todo;
 ghost use Rattle.chpw_pool.specs.Datagrams.{DropsDatagram};
 ghost use Rattle.chpw_pool.specs.Deciding.{AreElsewhere, IsFree, IsFresh, Queues, IsQueued, IsPlaced, is_decided, is_at, is_under_way};
 ghost use Rattle.chpw_pool.specs.Pools.{IsUnmade};
+ghost use Rattle.chpw_pool.specs.Places.{IsStream, KeepsSizes, has_pending};
 ghost use Rattle.chpw_pool.specs.Steps.{IsCalled, Steps, Drains};
 ghost use Rattle.chpw_pool.specs.declared.state.Progress.TheVariants as progress;
 
 use crate::pool::PoolFault;
 use crate::state::{Progress, State};
 use crate::tokens::WAKER;
+use crate::transfer::Transfer;
 use crate::udp::{Datagram, Datagrams, LONGEST};
 use chpw_connections::Todo;
 use chpw_datagrams::Sender;
 use mio::net::TcpStream;
 use mio::{Events, Interest, Poll, Registry, Token, Waker};
 use std::alloc::{AllocError, Global};
-use std::io::ErrorKind;
+use std::io::{self, Error, ErrorKind};
 use std::net::{self, Net, Shutdown};
 
 /// How many events are taken at once. Between two takes the control socket is checked.
@@ -46,7 +48,9 @@ pub(crate) struct Socket {
 
 impl Socket {
     // Shuts the writing side, the first time.
-    fn shut(&mut self) {
+    fn shut(&mut self)
+        ensures shut { self.new.is_shut ≡ true }
+    {
         if !self.is_shut {
             self.is_shut = true;
             let _ = self.stream.shutdown(Shutdown::Write);
@@ -58,6 +62,7 @@ impl Socket {
         ensures drained { Drains (slots_of state.old.connections) (slots_of state.new.connections) slot }
         ensures queued { IsCalled (workers_of state.old.connections) (get (slots_of state.new.connections) slot) result }
         ensures bounds { bounds_of state.new.connections ≡ bounds_of state.old.connections }
+        ensures shut { self.new.is_shut ≡ true }
     {
         self.shut();
         state.drain(slot, &mut self.stream, buffer)
@@ -109,6 +114,10 @@ impl Sockets {
         datagrams: Option<net::UdpSocket>,
     ) -> Result<Sockets, PoolFault>
         ensures fault { IfErr result IsUnmade }
+        ensures places { IfOk result (λ s. length s.by_slot.items ≡ connections) }
+        ensures buffer { IfOk result (λ s. length s.buffer.items ≡ 16384) }
+        ensures datagrams { IfOk result (λ s. is_some s.datagrams ≡ is_some datagrams) }
+        ensures datagram { IfOk result (λ s. length s.datagram.items ≡ (if is_some datagrams then 65507 else 0)) }
     {
         let Ok(by_slot) = no_sockets(alloc, connections) else {
             return Err(PoolFault::Memory);
@@ -119,12 +128,8 @@ impl Sockets {
         let Ok(registry) = selector.poll.registry().try_clone() else {
             return Err(PoolFault::Accept);
         };
-        let datagrams = match datagrams {
-            None => None,
-            Some(socket) => Some(Datagrams::new(alloc, socket, &registry)?),
-        };
-        let longest = if datagrams.is_some() { LONGEST } else { 0 };
-        let Ok(datagram) = Vec::from_elem(alloc, 0, longest) else {
+        let datagrams = watched(alloc, datagrams, &registry)?;
+        let Ok(datagram) = Vec::from_elem(alloc, 0, longest_of(datagrams.is_some())) else {
             return Err(PoolFault::Memory);
         };
         Ok(Sockets {
@@ -141,6 +146,7 @@ impl Sockets {
         ensures placed { slot < length self.old.by_slot.items → IsFresh self.new.by_slot.items slot }
         ensures past { length self.old.by_slot.items ≤ slot → result ≡ false }
         ensures others { AreElsewhere self.old.by_slot.items self.new.by_slot.items slot }
+        ensures sizes { KeepsSizes self.old self.new }
     {
         let is_set = stream.set_nonblocking(true).is_ok();
         let _ = stream.set_nodelay(true);
@@ -154,12 +160,11 @@ impl Sockets {
     }
 
     /// Whether the socket of a connection has failed.
-    pub fn has_failed(&self, slot: usize) -> bool {
+    pub fn has_failed(&self, slot: usize) -> bool
+        ensures stream { result ≡ true → IsStream (slice_get self.now.by_slot.items slot) }
+    {
         match self.by_slot.get(slot) {
-            Some(Some(Transport::Stream(socket))) => !matches!(
-                socket.stream.take_error(),
-                Ok(None)
-            ),
+            Some(Some(Transport::Stream(socket))) => has_pending(socket.stream.take_error()),
             _ => false,
         }
     }
@@ -172,6 +177,9 @@ impl Sockets {
             (slots_of state.old.connections) (slots_of state.new.connections) slot }
         ensures others { AreElsewhere self.old.by_slot.items self.new.by_slot.items slot }
         ensures closed { todo_in (get (slots_of state.old.connections) slot) ≡ todo.Close → IsFree self.new.by_slot.items slot }
+        ensures over { todo_in (get (slots_of state.old.connections) slot) ≡ todo.Close → result ≡ progress.None }
+        ensures waits { todo_in (get (slots_of state.old.connections) slot) ≡ todo.Wait → result ≡ progress.None }
+        ensures sizes { KeepsSizes self.old self.new }
         ensures queued { IsCalled (workers_of state.old.connections) (get (slots_of state.new.connections) slot) result }
         ensures bounds { bounds_of state.new.connections ≡ bounds_of state.old.connections }
     {
@@ -215,6 +223,7 @@ impl Sockets {
     fn close(&mut self, slot: usize)
         ensures closed { IsFree self.new.by_slot.items slot }
         ensures others { AreElsewhere self.old.by_slot.items self.new.by_slot.items slot }
+        ensures sizes { KeepsSizes self.old self.new }
     {
         if slot < self.by_slot.len() {
             self.by_slot[slot] = None;
@@ -235,6 +244,7 @@ impl Sockets {
         ensures dropped { result ≡ progress.Some → DropsDatagram (slots_of state.old.connections) (slots_of state.new.connections) }
         ensures kept { result ≡ progress.Some → self.new.by_slot.items ≡ self.old.by_slot.items }
         ensures idle_places { result ≡ progress.None → self.new.by_slot.items ≡ self.old.by_slot.items }
+        ensures places { length self.new.by_slot.items ≡ length self.old.by_slot.items }
     {
         let Sockets {
             by_slot,
@@ -246,12 +256,27 @@ impl Sockets {
             return Progress::None;
         };
         match datagrams.receive(datagram) {
-            Err(error) => match error.kind() {
-                ErrorKind::Interrupted => Progress::Some,
-                _ => Progress::None,
-            },
+            Err(error) => untaken(error.kind()),
             Ok((sender, message)) => decide(by_slot, datagrams, state, sender, message, now),
         }
+    }
+}
+
+// Whether a socket has an error: this is its last one, or it can't be asked for it.
+fn has_pending(asked: io::Result<Option<Error>>) -> bool
+    ensures value { result ≡ has_pending asked }
+{
+    !matches!(asked, Ok(None))
+}
+
+// No datagram was read, by a fault of this kind: after an interruption the next one may be read at once.
+fn untaken(kind: ErrorKind) -> Progress
+    ensures interrupted { kind ≡ ErrorKind.Interrupted → result ≡ progress.Some }
+    ensures other { kind ≢ ErrorKind.Interrupted → result ≡ progress.None }
+{
+    match Transfer::of_fault(kind) {
+        Transfer::Again => Progress::Some,
+        _ => Progress::None,
     }
 }
 
@@ -355,6 +380,28 @@ fn put_datagram(by_slot: &mut [Option<Transport>], slot: usize, sender: Sender, 
     if slot < by_slot.len() {
         by_slot[slot] = Some(Transport::Datagram(Datagram { sender, message }));
     }
+}
+
+// The socket for datagrams, if there is one.
+fn watched(
+    alloc: Global,
+    socket: Option<net::UdpSocket>,
+    registry: &Registry,
+) -> Result<Option<Datagrams>, PoolFault>
+    ensures fault { IfErr result IsUnmade }
+    ensures socket { IfOk result (λ d. is_some d ≡ is_some socket) }
+{
+    match socket {
+        None => Ok(None),
+        Some(socket) => Ok(Some(Datagrams::new(alloc, socket, registry)?)),
+    }
+}
+
+// How many bytes a datagram may have, if there is a socket for datagrams.
+fn longest_of(has_socket: bool) -> usize
+    ensures value { result ≡ (if has_socket then 65507 else 0) }
+{
+    if has_socket { LONGEST } else { 0 }
 }
 
 fn no_sockets(alloc: Global, count: usize) -> Result<Vec<Option<Transport>>, AllocError>

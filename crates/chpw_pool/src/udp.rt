@@ -1,24 +1,28 @@
 //! The socket for datagrams, and those that are being answered.
-ghost use Rattle.std.specs.Prelude.{◌≡◌, IfErr};
+ghost use Rattle.std.specs.Prelude.{◌≡◌, ◌≤◌, [], IfErr, IfOk, false, length, take};
 ghost use Rattle.slab.specs.Slab.{get};
 ghost use Rattle.chpw_connections.specs.Held.{slots_of, bounds_of};
 ghost use Rattle.chpw_connections.specs.Queues.{workers_of};
 ghost use Rattle.chpw_connections.specs.Sets.{left_at};
+ghost use Rattle.chpw_pool.specs.Addresses.{sender_in, IsAddressOf};
+ghost use Rattle.chpw_pool.specs.Datagrams.{in_datagram};
 ghost use Rattle.chpw_pool.specs.Deciding.{is_same_datagram, is_unanswered, KeepsReply};
 ghost use Rattle.chpw_pool.specs.Pools.{IsUnmade};
 ghost use Rattle.chpw_pool.specs.Steps.{IsCalled, Writes};
+ghost use Rattle.chpw_pool.specs.Transfers.{is_sent, ComesOfSend};
 ghost use Rattle.chpw_pool.specs.declared.state.Progress.TheVariants as progress;
 
 use crate::one_message::reply_of_datagram;
 use crate::pool::PoolFault;
 use crate::state::{Progress, State};
 use crate::tokens::DATAGRAMS;
+use crate::transfer::Transfer;
 use crate::worker::peer_of;
 use chpw_datagrams::{Answered, Sender, is_answerable};
 use mio::net::UdpSocket;
 use mio::{Interest, Registry};
 use std::alloc::Global;
-use std::net::{self, Ipv4Addr, SocketAddr};
+use std::net::{self, Ipv4Addr, SocketAddr, SocketAddrV4};
 use std::{io, mem};
 
 /// How many bytes the longest datagram over IPv4 has.
@@ -60,6 +64,7 @@ impl Datagrams {
         registry: &Registry,
     ) -> Result<Datagrams, PoolFault>
         ensures fault { IfErr result IsUnmade }
+        ensures none { IfOk result (λ d. d.answered ≡ []) }
     {
         let Ok(answered) = Answered::new(alloc) else {
             return Err(PoolFault::Memory);
@@ -78,11 +83,7 @@ impl Datagrams {
     /// The next datagram: its sender, and its bytes in the buffer.
     pub fn receive<'a>(&self, buffer: &'a mut [u8]) -> io::Result<(Sender, &'a [u8])> {
         let (count, from) = self.socket.recv_from(buffer)?;
-        let sender = Sender {
-            address: peer_of(from),
-            port: from.port(),
-        };
-        Ok((sender, &buffer[..count]))
+        Ok(message_from(count, from, buffer))
     }
 
     /// Whether a datagram is to be answered and wasn't less than five seconds ago; one that was gets that reply again.
@@ -103,8 +104,8 @@ impl Datagrams {
 
     // Sends a reply, without its length, to its receiver.
     fn send(&self, sender: Sender, reply: &[u8]) -> io::Result<usize> {
-        let to = SocketAddr::from((Ipv4Addr::from(sender.address), sender.port));
-        self.socket.send_to(reply_of_datagram(reply), to)
+        let Outgoing { to, bytes } = addressed(sender, reply);
+        self.socket.send_to(bytes, to)
     }
 
     /// Sends a connection's reply as a whole, and keeps it. If the socket would block, nothing happens.
@@ -119,27 +120,101 @@ impl Datagrams {
         ensures kept { KeepsReply self.old.answered self.new.answered datagram.old.sender datagram.old.message.items
             (left_at (get (slots_of state.old.connections) slot)) now }
         ensures blocked { result ≡ progress.None → (self.new ≡ self.old) × (slots_of state.new.connections ≡ slots_of state.old.connections) }
+        ensures whole { result ≡ progress.None → datagram.new ≡ datagram.old }
+        ensures sender { datagram.new.sender ≡ datagram.old.sender }
         ensures queued { IsCalled (workers_of state.old.connections) (get (slots_of state.new.connections) slot) result }
         ensures bounds { bounds_of state.new.connections ≡ bounds_of state.old.connections }
     {
         let reply = state.connections.pending_output(slot);
-        match self.send(datagram.sender, reply) {
-            Ok(_) => {
+        let sent = Transfer::of(self.send(datagram.sender, reply));
+        self.note_sent(state, slot, datagram, sent, now)
+    }
+
+    // The send of a connection's reply did this.
+    fn note_sent(
+        &mut self,
+        state: &mut State,
+        slot: usize,
+        datagram: &mut Datagram,
+        sent: Transfer,
+        now: u64,
+    ) -> Progress
+        ensures comes { ComesOfSend sent now (slots_of state.old.connections) (slots_of state.new.connections) slot result }
+        ensures kept { KeepsReply self.old.answered self.new.answered datagram.old.sender datagram.old.message.items
+            (left_at (get (slots_of state.old.connections) slot)) now }
+        ensures unsent { is_sent sent ≡ false → (self.new ≡ self.old) × (datagram.new ≡ datagram.old) }
+        ensures sender { datagram.new.sender ≡ datagram.old.sender }
+        ensures bounds { bounds_of state.new.connections ≡ bounds_of state.old.connections }
+    {
+        match sent {
+            Transfer::Bytes(_) | Transfer::End => {
+                let reply = state.connections.pending_output(slot);
                 self.keep(datagram, reply, now);
                 state.wrote_all(slot, now)
             }
-            Err(error) => state.stumble(slot, error.kind()),
+            Transfer::Later => Progress::None,
+            Transfer::Again => Progress::Some,
+            Transfer::Fault => {
+                state.connections.fail(slot);
+                Progress::Some
+            }
         }
     }
 
     // Keeps a reply that was sent; without memory for it, it isn't kept.
     fn keep(&mut self, datagram: &mut Datagram, reply: &[u8], now: u64)
         ensures kept { KeepsReply self.old.answered self.new.answered datagram.old.sender datagram.old.message.items reply.now now }
+        ensures sender { datagram.new.sender ≡ datagram.old.sender }
     {
         if let Ok(reply) = Vec::from_slice(self.alloc, reply) {
             let message = mem::replace(&mut datagram.message, Vec::new(self.alloc));
             self.answered.keep(datagram.sender, message, reply, now);
         }
+    }
+}
+
+// The first bytes of this buffer, as they came from this address.
+fn message_from(count: usize, from: SocketAddr, buffer: &[u8]) -> (Sender, &[u8])
+    requires within { count ≤ length buffer.now }
+    ensures sender { result.0 ≡ sender_in from }
+    ensures bytes { result.1.now ≡ take count buffer.now }
+{
+    (sender_of(from), &buffer[..count])
+}
+
+// The sender at this address: an IPv4 address, or 0.0.0.0 for one of another kind, and the port.
+fn sender_of(from: SocketAddr) -> Sender
+    ensures value { result ≡ sender_in from }
+{
+    Sender {
+        address: peer_of(from),
+        port: from.port(),
+    }
+}
+
+// The address of a sender.
+fn address_of(sender: Sender) -> SocketAddr
+    ensures value { IsAddressOf sender result }
+    ensures back { sender_in result ≡ sender }
+{
+    SocketAddr::V4(SocketAddrV4::new(Ipv4Addr::from(sender.address), sender.port))
+}
+
+/// A datagram to be sent: where to, and its bytes.
+#[derive(Drop)]
+struct Outgoing<'a> {
+    to: SocketAddr,
+    bytes: &'a [u8],
+}
+
+// A reply as a datagram, without its length, to the sender of its request.
+fn addressed(sender: Sender, reply: &[u8]) -> Outgoing<'_>
+    ensures to { IsAddressOf sender result.to }
+    ensures bytes { result.bytes.now ≡ in_datagram reply.now }
+{
+    Outgoing {
+        to: address_of(sender),
+        bytes: reply_of_datagram(reply),
     }
 }
 

@@ -1,10 +1,10 @@
 //! A worker, and its answer to a message.
-ghost use Rattle.std.specs.Prelude.{◌≡◌, ℕ, List, Option, Some, []};
+ghost use Rattle.std.specs.Prelude.{◌≡◌, ℕ, List, Option, Some, [], length};
 ghost use Rattle.chpw_serve.specs.Answering.{Answering, Unanswered};
 ghost use Rattle.chpw_serve.specs.Serving.{stream_state, message_too_long, IsServed};
 ghost use Rattle.chpw_serve.specs.declared.serving.Ended.{Ended};
 ghost use Rattle.chpw_pool.specs.Pools.{peer_in};
-ghost use Rattle.chpw_pool.specs.Turns.{IsReplyBehind, fills_at, has_changed_after};
+ghost use Rattle.chpw_pool.specs.Turns.{IsChangeBehind, IsReplyBehind, fills_at, has_changed_after};
 
 use crate::engine::Engine;
 use crate::follower::JournalEnd;
@@ -36,6 +36,17 @@ pub(crate) struct Reply {
     pub is_last: bool,
 }
 
+/// What a worker does after a message: it hands back the reply, and if that is the reply to a change, the end of the
+/// journal that it may wait for.
+#[derive(Drop)]
+struct Turn {
+    slot: usize,
+    reply: Option<Reply>,
+    change: Option<u64>,
+    /// Whether it stops all workers, since the history has no room for another entry.
+    is_full: bool,
+}
+
 /// Answers the messages of a worker's queue, until none will come any more, or it is to take none for now. `room` is
 /// how many entries the desk's history has room for at its start; none if no other desk follows. The worker whose entry
 /// is the last that fits stops all of them. The reply to a change may wait for the follower, until the KDC has the
@@ -61,23 +72,60 @@ pub(crate) fn work<
         let Some(taken) = engine.next(rt, number) else {
             return;
         };
-        let TakenMessage {
+        let Turn {
             slot,
-            peer,
-            message,
-        } = taken;
-        let before = worker.decider.receipts().len();
-        let reply = reply_to(peer, &message, worker);
-        let receipts = worker.decider.receipts();
-        let change = if has_changed(receipts, before) {
-            journal.journal_end()
-        } else {
-            None
-        };
-        if fills(receipts, room) {
+            reply,
+            change,
+            is_full,
+        } = take_turn(&taken, room, journal, worker);
+        if is_full {
             engine.stop(rt);
         }
         engine.answer(rt, slot, reply, change);
+    }
+}
+
+// Answers a message.
+fn take_turn<M: Messages, K: Decider, G: Gate + Observer, C: Clock, X: Words, J: JournalEnd>(
+    taken: &TakenMessage,
+    room: Option<u32>,
+    journal: &J,
+    worker: &mut Worker<'_, M, K, G, C, X>,
+) -> Turn
+    ensures slot { result.slot ≡ taken.now.slot }
+    ensures change { IsChangeBehind J.ends journal.now (length (K.gathered worker.old.decider)) (K.gathered worker.new.decider) result.change }
+    ensures full { result.is_full ≡ fills_at (K.gathered worker.new.decider) room }
+    ensures replied { (ended : Ended) × (bytes : List ℕ) × (left : Option (List ℕ))
+        × IsServed (Answering (M.error_frame worker.old.service.now)
+        (M.private_frame worker.old.service.now) K.may_be_full K.gathered K.follows K.made G.passes G.hears
+        (M.opens worker.old.service.now taken.now.peer) taken.now.peer)
+        (Unanswered K.gathered K.follows K.made G.passes G.hears (M.opens worker.old.service.now taken.now.peer) taken.now.peer)
+        (λ now. M.error_frame worker.old.service.now message_too_long now)
+        C.gives X.gives G.passes G.hears taken.now.peer ended
+        (stream_state (Some taken.now.message.items) worker.old.decider (Some []) worker.old.clock worker.old.words worker.old.gate.now)
+        (stream_state left worker.new.decider (Some bytes) worker.new.clock worker.new.words worker.new.gate.now)
+        × IsReplyBehind ended bytes result.reply }
+{
+    let before = worker.decider.receipts().len();
+    let reply = reply_to(taken.peer, taken.message.as_slice(), worker);
+    let receipts = worker.decider.receipts();
+    Turn {
+        slot: taken.slot,
+        reply,
+        change: change_behind(receipts, before, journal),
+        is_full: fills(receipts, room),
+    }
+}
+
+// The end of the journal behind the newest of these receipts, if that is of a change and was not among the first
+// `before`.
+fn change_behind<J: JournalEnd>(receipts: &[Receipt], before: usize, journal: &J) -> Option<u64>
+    ensures value { IsChangeBehind J.ends journal.now before receipts.now result }
+{
+    if has_changed(receipts, before) {
+        journal.journal_end()
+    } else {
+        None
     }
 }
 
