@@ -1,10 +1,5 @@
 -- The callers at the control socket with their sockets: how they come and go, and what a read or a write does.
-<<<<<<< HEAD
 use Rattle.std.specs.Prelude.{◌≡◌, ℕ, ◌+◌, List, [], ◌∷◌, take, slice_get, Option, Some, None, IsSome, Bool, true, false, min, if◌then◌else◌, ◌⊎◌}
-use Rattle.std.specs.Io.KnownBytes.{Appends, Consumes, Keeps}
-=======
-use Rattle.std.specs.Prelude.{◌≡◌, ◌≢◌, ℕ, ◌+◌, List, [], ◌∷◌, take, length, slice_get, Option, Some, None, IsSome, Bool, true, false, min, if◌then◌else◌, ◌⊎◌}
->>>>>>> b3728bb67bdd2e0e9f7e1ef0802e9e3c8720e11b
 use Rattle.slab.specs.Slab.{Slab, get}
 use Rattle.mio.specs.declared.net.uds.stream.UnixStream.{UnixStream}
 use Rattle.chpw_connections.specs.Counting.{count_in}
