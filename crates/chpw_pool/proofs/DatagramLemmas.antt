@@ -19,7 +19,8 @@ use Rattle.chpw_connections.specs.Stages.{abandoned, ended, came, failed, after,
 use Rattle.chpw_connections.specs.Waiting.{waits_for}
 use Rattle.chpw_connections.specs.declared.connection.Connection.{Connection}
 use Rattle.chpw_connections.specs.declared.limits.ConnectionLimits.{ConnectionLimits}
-use Rattle.chpw_pool.specs.Datagrams.{TakesDatagram, length_before, GaveWay, StaysOrGivesWay, DropsDatagram, BeginsAndDrops, EndsNoMore, CameOrFailed, CameIfRead}
+use Rattle.chpw_pool.specs.Datagrams.{TakesDatagram, length_before, GaveWay, StaysOrGivesWay, DropsDatagram, BeginsAndDrops}
+use Rattle.chpw_pool.specs.Datagrams.{EndsNoMore, CameOrFailed, CameIfRead}
 
 -- who gave way gives way no more
 gave_way : (b d : ConnectionLimits) (now then : ℕ) (o p old mid : Option Connection)

@@ -5,7 +5,8 @@ ghost use Rattle.chpw_control.specs.Callers.{asking, told, wrote};
 ghost use Rattle.chpw_control.specs.Dialogs.{at_start};
 ghost use Rattle.chpw_control.specs.declared.callers.Seat.{Seat};
 ghost use Rattle.chpw_control.specs.Seats.{Happens, IsNew, seats_of, ordering_of, accepted_of, is_over_at, left_at};
-ghost use Rattle.chpw_pool.specs.Controlling.{Admits, ComesOfRead, ComesOfWrite, HasNoOrder, HasOrder, IsDue, IsHeard, IsIdle, IsOpen, IsTold, ServesAt, TellsDone, TellsLast};
+ghost use Rattle.chpw_pool.specs.Controlling.{Admits, ComesOfRead, ComesOfWrite, HasNoOrder, HasOrder};
+ghost use Rattle.chpw_pool.specs.Controlling.{IsDue, IsHeard, IsIdle, IsOpen, IsTold, ServesAt, TellsDone, TellsLast};
 ghost use Rattle.chpw_pool.specs.Transfers.{IsWithin};
 
 use crate::tokens::token_after;

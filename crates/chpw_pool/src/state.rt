@@ -1,6 +1,7 @@
 //! The connections, as reactor and workers see them under their lock.
 
-ghost use Rattle.std.specs.Prelude.{◌≡◌, ◌≢◌, ◌<◌, ◌⊎◌, ◌||◌, ◌&&◌, not, ℕ, [], ◌∷◌, length, IfOk, IfSome, IfNone, OnOk, OnErr, is_none, is_some, Some, None, true, false, if◌then◌else◌, nat_lt, Ok};
+ghost use Rattle.std.specs.Prelude.{◌≡◌, ◌≢◌, ◌<◌, ◌⊎◌, ◌||◌, ◌&&◌, not, ℕ, [], ◌∷◌, length, if◌then◌else◌, nat_lt};
+ghost use Rattle.std.specs.Prelude.{IfOk, IfSome, IfNone, OnOk, OnErr, is_none, is_some, Some, None, true, false, Ok};
 ghost use Rattle.std.specs.Io as io;
 ghost use Rattle.slab.specs.Slab.{get, slab_len};
 ghost use Rattle.chpw_connections.specs.Held.{accepted_by, slots_of, bounds_of};
