@@ -1,3 +1,4 @@
+pub mod AnswerLemmas
 pub mod OpeningLemmas
 pub mod FaultLemmas
 pub mod ServiceRunLemmas

@@ -12,7 +12,10 @@ use Rattle.chpw_journal.specs.JournalFile.{IsRefusedFrom}
 use Rattle.chpw_journal.specs.declared.fault.RestoreFault.{RestoreFault}
 use Rattle.chpw_journal.specs.declared.journal_file.OpenFault.{OpenFault}
 use Rattle.chpw_journal.specs.declared.journal_file.OpenFault.TheVariants as open_fault
+use Rattle.chpw_journal.specs.declared.fault.RestoreFault.TheVariants as restore
 use Rattle.chpw_journal.specs.declared.fault.RestoreFault.TheVariants.{Memory as NoMemory}
+use Rattle.chpw_report.specs.declared.report.ReportFault.{ReportFault}
+use Rattle.chpw_report.specs.declared.report.ReportFault.TheVariants as report
 use Rattle.chpw_pool.specs.declared.pool.PoolFault.{PoolFault}
 use Rattle.chpw_pool.specs.declared.pool.PoolFault.TheVariants as pool
 use Rattle.chpw_invocation.specs.declared.invocation.ServeOptions.{ServeOptions}
@@ -114,6 +117,24 @@ late_fault late.CannotListen = CannotListen
 late_fault late.CannotPrint = CannotPrint
 late_fault late.Memory = Memory
 late_fault late.CannotClose = CannotClose
+
+-- the fault of a journal that is only read, and the line of one that is opened at a path
+abbrev pub restore_fault : RestoreFault → ServeFault
+restore_fault restore.Memory = Memory
+restore_fault (restore.BadRecord number) = Journal (restore.BadRecord number)
+restore_fault (restore.WrongVersion number) = Journal (restore.WrongVersion number)
+restore_fault (restore.UnknownPrincipal number) = Journal (restore.UnknownPrincipal number)
+restore_fault restore.CannotRead = Journal restore.CannotRead
+
+abbrev pub open_line : List ℕ → OpenFault → List ℕ
+open_line path open_fault.CannotRead = codes "cannot read " ++ path
+open_line path open_fault.CannotWrite = codes "cannot write " ++ path
+open_line path (open_fault.Restore fault) = line_of (restore_fault fault)
+
+-- the fault of a report that can't be written
+abbrev pub report_fault : ReportFault → ServeFault
+report_fault report.Memory = Memory
+report_fault report.Write = CannotPrint
 
 -- a fault of a service with these files
 abbrev pub IsOfService : ServeOptions → ServeFault → Type 0

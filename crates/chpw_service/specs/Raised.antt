@@ -1,5 +1,5 @@
--- What `serve --raise COUNT` prints before it listens.
-use Rattle.std.specs.Prelude.{◌≡◌, ℕ, List, [], ◌∷◌, ◌++◌, codes, Option, Some, None, Result, Ok, Err, IfOk, IfErr}
+-- What `serve --raise COUNT` does before it listens, and what it tells.
+use Rattle.std.specs.Prelude.{◌≡◌, ℕ, List, [], ◌∷◌, ◌++◌, codes, Option, Some, None, Result, Ok, Err, IfOk, IfErr, IsSome}
 use Rattle.std.specs.Fmt.{decimal}
 use Rattle.chpw_table.specs.State.{State}
 use Rattle.chpw_table.specs.declared.times.Moment.{Moment}
@@ -38,13 +38,16 @@ pub record IsRaise {C : Type 0} (gives : C → Moment → C → Type 0) (opening
   pub noted : IfOk raised (λ verdict. Notes opening mine more now (Raise count verdict))
   pub refused : IfErr raised (λ fault. more ≡ raise_refused_with fault mine)
 
--- it was asked by the first of these passes, and the others are unchanged
-abbrev pub IsRaiseOfFirst : {C : Type 0} → (C → Moment → C → Type 0) → State → C → C → List PassView → List PassView → ℕ → Type 0
-IsRaiseOfFirst gives opening before after [] new count = new ≡ []
-IsRaiseOfFirst gives opening before after (mine ∷ others) new count =
-    (more : PassView) × (told : RaiseReport) × (new ≡ more ∷ others) × IsRaise gives opening before after mine more count (Some told)
+-- it was asked by the first of these passes, and the others are unchanged; the result is what is told. Without passes
+-- nothing is asked
+abbrev pub IsRaiseOfFirst : {C : Type 0} → (C → Moment → C → Type 0) → State → C → C → List PassView → List PassView → ℕ
+    → Option RaiseReport → Type 0
+IsRaiseOfFirst gives opening before after [] new count told = (new ≡ []) × (after ≡ before) × (told ≡ None)
+IsRaiseOfFirst gives opening before after (mine ∷ others) new count told =
+    (more : PassView) × (new ≡ more ∷ others) × IsRaise gives opening before after mine more count told × IsSome told
 
 -- if it is asked for
-abbrev pub IsRaisedWhereAsked : {C : Type 0} → (C → Moment → C → Type 0) → State → C → C → List PassView → List PassView → Option ℕ → Type 0
-IsRaisedWhereAsked gives opening before after old new None = new ≡ old
-IsRaisedWhereAsked gives opening before after old new (Some count) = IsRaiseOfFirst gives opening before after old new count
+abbrev pub IsRaisedWhereAsked : {C : Type 0} → (C → Moment → C → Type 0) → State → C → C → List PassView → List PassView → Option ℕ
+    → Option RaiseReport → Type 0
+IsRaisedWhereAsked gives opening before after old new None told = (new ≡ old) × (after ≡ before) × (told ≡ None)
+IsRaisedWhereAsked gives opening before after old new (Some count) told = IsRaiseOfFirst gives opening before after old new count told

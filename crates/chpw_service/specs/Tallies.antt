@@ -1,5 +1,5 @@
--- What a service's last line counts.
-use Rattle.std.specs.Prelude.{◌≡◌, ℕ, ◌<◌, List, ◌++◌, Bool, false, codes, length, count_by}
+-- What a service's last line counts, and what follows where it isn't printed.
+use Rattle.std.specs.Prelude.{◌≡◌, ℕ, ◌<◌, List, ◌++◌, Bool, false, codes, length, count_by, if◌then◌else◌}
 use Rattle.std.specs.Fmt.{decimal}
 use Rattle.chpw_table.specs.State.{State}
 use Rattle.chpw_table.specs.Agreement.{Held, Agrees}
@@ -15,10 +15,20 @@ use Rattle.chpw_book.specs.Recorded.{RecordedView, IsLinearized}
 use Rattle.chpw_book.specs.Closing.{HasCalls, IsRefusal, is_full}
 use Rattle.chpw_book.specs.declared.closing.CloseFault.{CloseFault}
 use Rattle.chpw_service.specs.declared.closing.Tally.{Tally}
+use Rattle.chpw_service.specs.declared.histories.AfterPrint.{AfterPrint}
+use Rattle.chpw_service.specs.declared.histories.AfterPrint.TheVariants.{GoOn, ReportLoss, Fail}
 
 -- the line about a history
 abbrev pub tally_line : Tally → List ℕ
 tally_line t = codes "entries " ++ decimal t.entries ++ codes " changes " ++ decimal t.changes
+
+-- a line that isn't printed is a fault after the last history; after another one it is lost, which is reported once
+abbrev pub after_print : Bool → Bool → Bool → AfterPrint
+after_print is_printed is_last is_reported =
+    if is_printed then GoOn
+    else if is_last then Fail
+    else if is_reported then GoOn
+    else ReportLoss
 
 -- a raise of the iteration count is an entry, and no change
 abbrev pub changes_a_password : Event → Bool

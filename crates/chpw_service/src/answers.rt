@@ -1,21 +1,27 @@
 //! Answers to orders.
-ghost use Rattle.std.specs.Prelude.{◌≡◌, ◌++◌, [], ◌∷◌, codes, IfOk, IfErr, OnOk, OnErr};
-ghost use Rattle.chpw_control.specs.Answers.{error_line, lines_text, ok_line};
+ghost use Rattle.std.specs.Prelude.{◌≡◌, ◌++◌, ◌∷◌, [], IfOk, IfErr, OnOk, OnErr};
+ghost use Rattle.chpw_control.specs.Answers.{lines_text};
+ghost use Rattle.chpw_reload.specs.Reasons.{fault_text};
+ghost use Rattle.chpw_service.specs.Answers.{compact_words, done_lines, lacked_line, prepare_words, refused_lines};
+ghost use Rattle.chpw_service.specs.Answers.{reloaded_lines, replaced_lines, unwritten};
 ghost use Rattle.chpw_service.specs.Faults.{line_of};
 
-use crate::compacting::CompactFault;
+use crate::compacting::{CompactFault, NotReplaced};
 use crate::fault::ServeFault;
 use crate::orders::PrepareFault;
-use chpw_control::{put_error, put_ok};
+use chpw_control::put_ok;
+use chpw_printing::{put_name, put_words};
 use chpw_reload::{ReloadFault, put_fault};
+use chpw_rules::Name;
 use std::alloc::{AllocError, Global};
-use std::str;
 
 /// The answer to a reload that was refused before the desk was closed.
 pub(crate) fn prepare_refusal(
     alloc: Global,
     fault: &PrepareFault<'_>,
-) -> Result<Vec<u8>, AllocError> {
+) -> Result<Vec<u8>, AllocError>
+    ensures value { IfOk result (λ text. text.items ≡ lines_text (refused_lines (prepare_words fault.now))) }
+{
     match fault {
         PrepareFault::Start(fault) => refusal(alloc, fault.to_string(alloc)?.as_str()),
         PrepareFault::Config(words) => refusal(alloc, words.as_str()),
@@ -24,10 +30,33 @@ pub(crate) fn prepare_refusal(
 }
 
 /// The answer to a reload that was refused.
-pub(crate) fn reload_refusal(alloc: Global, fault: &ReloadFault) -> Result<Vec<u8>, AllocError> {
+pub(crate) fn reload_refusal(alloc: Global, fault: &ReloadFault) -> Result<Vec<u8>, AllocError>
+    ensures value { IfOk result (λ text. text.items ≡ lines_text (refused_lines (fault_text fault.now))) }
+{
     let mut words = Vec::new(alloc);
     put_fault(&mut words, fault)?;
-    refusal(alloc, str::from_utf8(&words).unwrap_or(""))
+    refusal_in(alloc, words.as_slice())
+}
+
+/// The answer to a reload: a line for each principal that the configuration lacks, and `ok`.
+pub(crate) fn reload_answer(alloc: Global, lacked: &[Name]) -> Result<Vec<u8>, AllocError>
+    ensures value { IfOk result (λ text. text.items ≡ lines_text (reloaded_lines lacked.now)) }
+{
+    let mut text = Vec::new(alloc);
+    for name in lacked {
+        put_lacked(&mut text, name)?;
+    }
+    put_ok(&mut text)?;
+    Ok(text)
+}
+
+fn put_lacked(text: &mut Vec<u8>, name: &Name) -> Result<(), AllocError>
+    ensures value { OnOk result (text.new.items ≡ text.old.items ++ lines_text (lacked_line name.now ∷ [])) }
+{
+    text.extend_from_slice(b"lacked ")?;
+    put_name(text, name)?;
+    text.push(b'\n')?;
+    Ok(())
 }
 
 /// The answer when the log was reopened.
@@ -35,8 +64,8 @@ pub(crate) fn reopen_answer(
     alloc: Global,
     opened: Result<(), ServeFault<'_>>,
 ) -> Result<Vec<u8>, AllocError>
-    ensures done { OnOk opened.entry (IfOk result (λ text. text.items ≡ lines_text (ok_line ∷ []))) }
-    ensures refused { IfErr opened.entry (λ fault. IfOk result (λ text. text.items ≡ lines_text (error_line (line_of fault) ∷ []))) }
+    ensures done { OnOk opened.entry (IfOk result (λ text. text.items ≡ lines_text done_lines)) }
+    ensures refused { IfErr opened.entry (λ fault. IfOk result (λ text. text.items ≡ lines_text (refused_lines (line_of fault)))) }
 {
     match opened {
         Ok(()) => ok_answer(alloc),
@@ -46,7 +75,7 @@ pub(crate) fn reopen_answer(
 
 /// The answer when an order was carried out.
 pub(crate) fn ok_answer(alloc: Global) -> Result<Vec<u8>, AllocError>
-    ensures value { IfOk result (λ text. text.items ≡ lines_text (ok_line ∷ [])) }
+    ensures value { IfOk result (λ text. text.items ≡ lines_text done_lines) }
 {
     let mut text = Vec::new(alloc);
     put_ok(&mut text)?;
@@ -55,7 +84,7 @@ pub(crate) fn ok_answer(alloc: Global) -> Result<Vec<u8>, AllocError>
 
 /// The answer when a file can't be written.
 pub(crate) fn write_refusal(alloc: Global, path: &str) -> Result<Vec<u8>, AllocError>
-    ensures value { IfOk result (λ text. text.items ≡ lines_text (error_line (codes "cannot write " ++ path.now) ∷ [])) }
+    ensures value { IfOk result (λ text. text.items ≡ lines_text (refused_lines (unwritten path.now))) }
 {
     refusal(
         alloc,
@@ -67,19 +96,50 @@ pub(crate) fn write_refusal(alloc: Global, path: &str) -> Result<Vec<u8>, AllocE
 pub(crate) fn compact_refusal(
     alloc: Global,
     fault: &CompactFault<'_>,
-) -> Result<Vec<u8>, AllocError> {
+) -> Result<Vec<u8>, AllocError>
+    ensures value { IfOk result (λ text. text.items ≡ lines_text (refused_lines (compact_words fault.now))) }
+{
     match fault {
         CompactFault::Unread(fault) => refusal(alloc, fault.to_string(alloc)?.as_str()),
         CompactFault::NoCopy(copy) => write_refusal(alloc, copy.as_str()),
     }
 }
 
+/// The answer to a compact journal once the desk was closed: whether it has replaced the one at this path.
+pub(crate) fn compact_answer(
+    alloc: Global,
+    path: &str,
+    replaced: Result<(), NotReplaced>,
+) -> Result<Vec<u8>, AllocError>
+    ensures value { IfOk result (λ text. text.items ≡ lines_text (replaced_lines path.now replaced)) }
+{
+    match replaced {
+        Ok(()) => ok_answer(alloc),
+        Err(NotReplaced::Failed) => refusal(alloc, "journal failed"),
+        Err(NotReplaced::Changed) => {
+            refusal(alloc, "the configuration has changed: reload it first")
+        }
+        Err(NotReplaced::Waited) => refusal(alloc, "replies wait for the follower"),
+        Err(NotReplaced::Unwritten | NotReplaced::Unsafe) => write_refusal(alloc, path),
+        Err(NotReplaced::Memory) => refusal(alloc, "memory"),
+    }
+}
+
 /// The answer when it is refused, for this reason.
 pub(crate) fn refusal(alloc: Global, words: &str) -> Result<Vec<u8>, AllocError>
-    ensures value { IfOk result (λ text. text.items ≡ lines_text (error_line words.now ∷ [])) }
+    ensures value { IfOk result (λ text. text.items ≡ lines_text (refused_lines words.now)) }
+{
+    refusal_in(alloc, words.as_bytes())
+}
+
+// The answer when it is refused, for the reason in these bytes.
+fn refusal_in(alloc: Global, words: &[u8]) -> Result<Vec<u8>, AllocError>
+    ensures value { IfOk result (λ text. text.items ≡ lines_text (refused_lines words.now)) }
 {
     let mut text = Vec::new(alloc);
-    put_error(&mut text, words)?;
+    text.extend_from_slice(b"error: ")?;
+    put_words(&mut text, words)?;
+    text.push(b'\n')?;
     Ok(text)
 }
 

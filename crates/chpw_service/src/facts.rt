@@ -1,11 +1,16 @@
-//! Counters of a running service.
+//! Counters of a running service, and the events that are counted.
 ghost use Rattle.std.specs.Prelude.{◌≡◌, ◌<◌};
 ghost use Rattle.std.specs.Option.{ForSome};
 ghost use Rattle.chpw_table.specs.Times.{IsMoment};
 ghost use Rattle.chpw_control.specs.Statuses.{IsTold};
-ghost use Rattle.chpw_service.specs.Facts.{behind_decision, after_loss, after_opening, behind_raise, quiet_time};
+ghost use Rattle.chpw_log.specs.Events.{IsQuietTold, IsWholeMoment};
+ghost use Rattle.chpw_service.specs.Facts.{after_line, after_loss, after_opening, after_raise, behind_decision, behind_raise};
+ghost use Rattle.chpw_service.specs.Facts.{ended_event, quiet_moment, quiet_time, raised_event, reloaded_event};
+ghost use Rattle.chpw_service.specs.Facts.{principals_told, rolled_over_event, started_event};
 
+use crate::raising::RaiseReport;
 use chpw_control::Time;
+use chpw_log::{Line, MessageEvent, ServiceEvent};
 use chpw_table::{LAST_SECOND, Moment, Table, Verdict};
 
 /// The counters, up to 64 bits.
@@ -27,6 +32,88 @@ pub(crate) struct Facts {
 }
 
 impl Facts {
+    /// The service starts at this moment, and its first history opens with this table: the event.
+    pub fn start(&mut self, now: Moment, table: &Table) -> ServiceEvent
+        ensures value { self.new ≡ after_opening self.old table.now }
+        ensures event { result ≡ started_event table.now now }
+        ensures told { IsQuietTold result }
+    {
+        self.open(table);
+        ServiceEvent::Started {
+            principals: principals_told(table),
+            iterations: table.count(),
+            quiet_until: self.quiet_moment(now),
+        }
+    }
+
+    /// A further history opens with this table, after a reload: the event.
+    pub fn reload(&mut self, table: &Table) -> ServiceEvent
+        ensures value { self.new ≡ after_opening self.old table.now }
+        ensures event { result ≡ reloaded_event table.now }
+        ensures told { IsQuietTold result }
+    {
+        self.open(table);
+        ServiceEvent::Reloaded {
+            principals: principals_told(table),
+            iterations: table.count(),
+        }
+    }
+
+    /// A further history opens with this table, which the last one left: the event, with the counts of the last one.
+    pub fn roll_over(&mut self, table: &Table) -> ServiceEvent
+        ensures value { self.new ≡ after_opening self.old table.now }
+        ensures event { result ≡ rolled_over_event self.old }
+        ensures told { IsQuietTold result }
+    {
+        let event = ServiceEvent::RolledOver {
+            entries: self.entries,
+            changes: self.changes,
+        };
+        self.open(table);
+        event
+    }
+
+    /// A raise was decided so, which is an entry of the history: the event, if the count was raised. It is no entry if
+    /// the history was full.
+    pub fn raise(&mut self, told: RaiseReport) -> Option<ServiceEvent>
+        ensures value { self.new ≡ after_raise self.old told }
+        ensures event { result ≡ raised_event told }
+        ensures told { ForSome result IsQuietTold }
+    {
+        match told {
+            RaiseReport::Raised(iterations) => {
+                self.count_raise(u64::from(iterations));
+                Some(ServiceEvent::Raised { iterations })
+            }
+            RaiseReport::NotHigher | RaiseReport::Broken => {
+                let iterations = self.iterations;
+                self.count_raise(iterations);
+                None
+            }
+            RaiseReport::Full => None,
+        }
+    }
+
+    /// The service ends: the event, with the counts of all histories.
+    pub fn end(&self) -> ServiceEvent
+        ensures event { result ≡ ended_event self.now }
+        ensures told { IsQuietTold result }
+    {
+        ServiceEvent::Ended {
+            entries: self.all_entries,
+            changes: self.all_changes,
+        }
+    }
+
+    /// The line of a message is to be written: of these a decision is counted.
+    pub fn count_line(&mut self, line: &Line<'_>)
+        ensures value { self.new ≡ after_line self.old line.now.news }
+    {
+        if let MessageEvent::Decided { verdict, .. } = line.news {
+            self.count_decision(verdict);
+        }
+    }
+
     /// A history opens with this table.
     pub fn open(&mut self, table: &Table)
         ensures value { self.new ≡ after_opening self.old table.now }
@@ -80,6 +167,27 @@ impl Facts {
         };
         Some(Time { seconds, micros: 0 })
     }
+
+    // The same as a moment.
+    fn quiet_moment(&self, now: Moment) -> Option<Moment>
+        ensures value { result ≡ quiet_moment self.now.quiet_until now.seconds }
+        ensures told { ForSome result IsWholeMoment }
+    {
+        match self.quiet_time(now) {
+            None => None,
+            Some(time) => Some(Moment {
+                seconds: time.seconds,
+                micros: time.micros,
+            }),
+        }
+    }
+}
+
+// How many principals are told: at most 32 bits.
+fn principals_told(table: &Table) -> u32
+    ensures value { result ≡ principals_told table.now }
+{
+    u32::try_from(table.principals()).unwrap_or(u32::MAX)
 }
 
 /// A moment as it is printed.

@@ -1,13 +1,15 @@
 //! The follower of a service: where it is, and the reports of changes that it hasn't confirmed.
-ghost use Rattle.std.specs.Prelude.{◌≡◌, ◌||◌, false, is_some, None, if◌then◌else◌, IfOk, IfErr};
-ghost use Rattle.chpw_control.specs.declared.status.FollowerState.TheVariants as follower;
+ghost use Rattle.std.specs.Prelude.{◌≡◌, ◌||◌, ◌⊎◌, [], false, is_some, None, IfOk, IfErr};
 ghost use Rattle.chpw_control.specs.Statuses.{IsTold};
 ghost use Rattle.chpw_service.specs.Faults.{IsOfJournal};
+ghost use Rattle.chpw_service.specs.Status.{IsStatusAnswer};
 
 use crate::fault::ServeFault;
+use crate::files::unread_fault;
 use crate::logging::Log;
 use crate::notices::{Notice, is_first};
-use chpw_control::{FollowerState, JournalState, Status, Time, status_answer};
+use crate::status::{Readings, answer_with, status_of};
+use chpw_control::Time;
 use chpw_invocation::VERSION;
 use chpw_journal::FileSink;
 use chpw_pool::{
@@ -18,7 +20,6 @@ use chpw_table::JournalSink;
 use mio::net::{UnixListener, UnixStream};
 use std::alloc::Global;
 use std::fs::File;
-use std::io::ErrorKind;
 use std::net::{Net, TcpListener, TcpStream};
 use std::sync::atomic::{AtomicU64, Ordering};
 use std::sync::{Arc, Wait};
@@ -44,8 +45,7 @@ pub(crate) fn journal_length<'a>(
 {
     match sink.show_end(alloc) {
         Ok(end) => Ok(JournalLength { end, has_follower }),
-        Err(error) if error.kind() == ErrorKind::OutOfMemory => Err(ServeFault::Memory),
-        Err(_) => Err(ServeFault::CannotRead(path)),
+        Err(error) => Err(unread_fault(path, error)),
     }
 }
 
@@ -185,50 +185,22 @@ impl<R: Net<Listener = TcpListener, Stream = TcpStream> + Wait + Eprint, T: Cloc
         self.listener.take()
     }
 
-    fn status(&mut self, alloc: Global, standing: &ConnectionCounts) -> Vec<u8> {
-        let now = self.clock.now();
+    fn status(&mut self, alloc: Global, standing: &ConnectionCounts) -> Vec<u8>
+        ensures told { (result.items ≡ [])
+            ⊎ IsStatusAnswer VERSION.now self.old.since self.old.workers (is_some self.old.terms.socket)
+            standing.now result.items }
+        ensures unchanged { (self.new.is_told ≡ self.old.is_told) × (self.new.terms ≡ self.old.terms) }
+    {
+        let moment = self.clock.now();
         let facts = self.log.facts();
-        let status = Status {
-            version: VERSION,
+        let readings = Readings {
             since: self.since,
-            quiet_until: facts.quiet_time(now),
-            principals: facts.principals,
-            iterations: facts.iterations,
-            entries: facts.entries,
-            changes: facts.changes,
-            all_entries: facts.all_entries,
-            all_changes: facts.all_changes,
-            connections: standing.connections() as u64,
-            reading: standing.reading as u64,
-            waiting: standing.waiting as u64,
-            answering: standing.answering as u64,
-            confirming: standing.confirming as u64,
-            writing: standing.writing as u64,
-            ending: standing.ending as u64,
-            workers: u64::from(self.workers),
-            busy: standing.answering as u64,
-            queue: standing.waiting as u64,
+            moment,
+            workers: self.workers,
             journal_bytes: self.journal.bytes(),
-            journal: if self.log.has_failed() {
-                JournalState::Failed
-            } else {
-                JournalState::Good
-            },
-            log_lost: facts.lost,
-            follower: follower_state(self.terms.socket.is_some(), standing.is_behind),
+            has_failed: self.log.has_failed(),
+            has_follower: self.terms.socket.is_some(),
         };
-        status_answer(alloc, &status).unwrap_or(Vec::new(alloc))
-    }
-}
-
-fn follower_state(has_follower: bool, is_behind: bool) -> FollowerState
-    ensures value { result ≡ (if has_follower then (if is_behind then follower.Unconfirmed else follower.Confirmed) else follower.Absent) }
-{
-    if !has_follower {
-        FollowerState::Absent
-    } else if is_behind {
-        FollowerState::Unconfirmed
-    } else {
-        FollowerState::Confirmed
+        answer_with(alloc, &status_of(VERSION, &readings, &facts, standing))
     }
 }

@@ -1,12 +1,14 @@
 //! One history after the other.
-ghost use Rattle.std.specs.Prelude.{◌≡◌, ◌≤◌, ◌<◌, ◌-◌, ◌^◌, max, IfOk, IfErr, OnOk, OnErr, false, true, length};
+ghost use Rattle.std.specs.Prelude.{◌≡◌, ◌≤◌, ◌<◌, ◌-◌, ◌^◌, ◌||◌, not, max, IfOk, IfErr, Ok, OnOk, OnErr, false, true};
+ghost use Rattle.std.specs.Prelude.{length};
 ghost use Rattle.chpw_changelog.specs.Pens.{opening_state, opening_table};
 ghost use Rattle.chpw_book.specs.Starting.{IsNamed, table_of, workers_of};
 ghost use Rattle.chpw_pool.specs.Engines.{workers_at};
 ghost use Rattle.chpw_service.specs.Faults.{IsLate};
-ghost use Rattle.chpw_service.specs.Following.{reopened};
+ghost use Rattle.chpw_service.specs.Following.{DoesWhatIsDue, reopened};
 ghost use Rattle.chpw_reload.specs.ReloadRuns.{GoesOn, IsHistory, IsServiceRun};
 ghost use Rattle.chpw_service.specs.Serving.{is_full_with};
+ghost use Rattle.chpw_service.specs.Tallies.{after_print};
 ghost use Rattle.chpw_service.specs.declared.fault.ServeFault.TheVariants.{CannotPrint, Memory};
 
 use crate::closing::{Left, Tally, close_desk};
@@ -114,6 +116,7 @@ fn further_opening<'a, 'l, R: Files<File = File> + Wait + Clock + Eprint + Alloc
     served: Served,
 ) -> Result<Opening, ServeFault<'a>>
     ensures goes_on { IfOk result (λ next. GoesOn served.table.state (table_of next.unnamed).state) }
+    ensures due { IfOk result (λ next. DoesWhatIsDue served.due served.table rules.old rules.new (table_of next.unnamed)) }
     ensures workers { IfOk result (λ next. workers_of next.unnamed ≡ hall.now.workers) }
     ensures fault { IfErr result (λ fault. fault ≡ Memory) }
 {
@@ -225,6 +228,8 @@ fn after_close<'a, 'l, R: Wait + Print + Eprint + AllocGlobal>(
     reported: &mut Reported,
 ) -> Result<Served, ServeFault<'a>>
     ensures table { IfOk result (λ served. served.table ≡ left.table) }
+    ensures sink { IfOk result (λ served. served.sink ≡ left.sink) }
+    ensures due { IfOk result (λ after. served ≡ Ok after.due) }
     ensures fault { IfErr result IsLate }
 {
     let Left { tally, table, sink } = left;
@@ -335,26 +340,44 @@ fn tell_tally<'a, R: Wait + Print + Eprint>(
 ) -> Result<(), ServeFault<'a>>
     ensures fault { IfErr result (λ fault. fault ≡ CannotPrint) }
     ensures last { OnErr result (last ≡ true) }
+    ensures kept { lost.old ≡ true → lost.new ≡ true }
+    ensures unchanged { last ≡ true → lost.new ≡ lost.old }
 {
-    match print_tally(rt, tally) {
-        Ok(()) => Ok(()),
-        Err(fault) if last => Err(fault),
-        Err(_) => {
-            if is_first(lost) {
-                log.tell(Notice::OutputLost);
-            }
+    let is_printed = println!(rt; "{tally}").is_ok();
+    match after_print(is_printed, last, lost) {
+        AfterPrint::GoOn => Ok(()),
+        AfterPrint::ReportLoss => {
+            log.tell(Notice::OutputLost);
             Ok(())
         }
+        AfterPrint::Fail => Err(ServeFault::CannotPrint),
     }
 }
 
-// What was done, as a line.
-fn print_tally<'a, R: Print>(rt: &R, tally: Tally) -> Result<(), ServeFault<'a>>
-    ensures fault { IfErr result (λ fault. fault ≡ CannotPrint) }
+/// What follows from printing the line of a history.
+#[derive(Clone, Copy, Drop)]
+enum AfterPrint {
+    /// Nothing.
+    GoOn,
+    /// The line is lost, and that is to be reported.
+    ReportLoss,
+    /// The service ends with a fault.
+    Fail,
+}
+
+// What follows from printing the line of a history, the last one or another. A first loss counts as reported then.
+fn after_print(is_printed: bool, is_last: bool, is_reported: &mut bool) -> AfterPrint
+    ensures value { result ≡ after_print is_printed is_last is_reported.old }
+    ensures reported { is_reported.new ≡ (is_reported.old || not (is_printed || is_last)) }
 {
-    match println!(rt; "{tally}") {
-        Ok(()) => Ok(()),
-        Err(_) => Err(ServeFault::CannotPrint),
+    if is_printed {
+        AfterPrint::GoOn
+    } else if is_last {
+        AfterPrint::Fail
+    } else if is_first(is_reported) {
+        AfterPrint::ReportLoss
+    } else {
+        AfterPrint::GoOn
     }
 }
 

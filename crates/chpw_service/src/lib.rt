@@ -27,6 +27,7 @@ mod service_manager;
 mod serving;
 mod shared_files;
 mod starting;
+mod status;
 mod table;
 
 pub use fault::ServeFault;

@@ -1,21 +1,23 @@
 //! The log of a service: a line for the result of each message.
-ghost use Rattle.std.specs.Prelude.{◌+◌, ◌≤◌, ◌≡◌, ◌<◌, IfErr};
+ghost use Rattle.std.specs.Prelude.{◌+◌, ◌≤◌, ◌≡◌, ◌≢◌, ◌<◌, IfErr};
+ghost use Rattle.std.specs.IoError.{error_kind};
 ghost use Rattle.std.specs.Option.{ForSome};
 ghost use Rattle.chpw_table.specs.Times.{IsMoment};
 ghost use Rattle.chpw_log.specs.Events.{IsQuietTold};
 ghost use Rattle.chpw_service.specs.Faults.{IsOfClash, IsOfLog, IsUnlogged};
+ghost use Rattle.chpw_service.specs.declared.fault.ServeFault.TheVariants.{Memory};
 
 use crate::facts::Facts;
 use crate::fault::ServeFault;
 use crate::file_ids::keep_apart;
 use crate::line_output::{LineOutput, is_standard_error};
-use crate::notices::{Losses, Notice, is_first};
+use crate::notices::{Appended, Losses, Notice, is_first};
 use crate::observers::Lines;
 use crate::raising::RaiseReport;
 use chpw_invocation::ServeOptions;
 use chpw_log::{
-    Held, Line, LineLimit, MessageEvent, ServiceEvent, micros_of, write_event, write_held,
-    write_line, write_unconfirmed,
+    Held, Line, LineLimit, ServiceEvent, micros_of, write_event, write_held, write_line,
+    write_unconfirmed,
 };
 use chpw_pool::Unconfirmed;
 use chpw_table::{Moment, Table};
@@ -105,6 +107,8 @@ fn book_at<'l, 'a: 'l, R: Files<File = File> + Net>(
 
 fn unlogged_fault(path: &str, error: io::Error) -> ServeFault<'_>
     ensures fault { IsUnlogged path.now result }
+    ensures memory { error_kind error ≡ ErrorKind.OutOfMemory → result ≡ Memory }
+    ensures other { error_kind error ≢ ErrorKind.OutOfMemory → result ≢ Memory }
 {
     if error.kind() == ErrorKind::OutOfMemory {
         ServeFault::Memory
@@ -119,19 +123,8 @@ impl<R: Wait + Eprint> Log<'_, R> {
         requires moment { IsMoment now }
         requires micros { now.micros < 1000000 }
     {
-        self.facts.lock(self.rt).open(table);
-        let quiet_until = self.facts().quiet_time(now);
-        self.put_event(
-            now,
-            &ServiceEvent::Started {
-                principals: u32::try_from(table.principals()).unwrap_or(u32::MAX),
-                iterations: table.count(),
-                quiet_until: quiet_until.map(|time| Moment {
-                    seconds: time.seconds,
-                    micros: time.micros,
-                }),
-            },
-        );
+        let event = self.facts.lock(self.rt).start(now, table);
+        self.put_event(now, &event);
     }
 
     /// A raise was decided: an entry of the history, and a line if the count was raised.
@@ -139,16 +132,9 @@ impl<R: Wait + Eprint> Log<'_, R> {
         requires moment { IsMoment now }
         requires micros { now.micros < 1000000 }
     {
-        match told {
-            RaiseReport::Raised(iterations) => {
-                self.facts.lock(self.rt).count_raise(u64::from(iterations));
-                self.put_event(now, &ServiceEvent::Raised { iterations });
-            }
-            RaiseReport::NotHigher | RaiseReport::Broken => {
-                let iterations = self.facts().iterations;
-                self.facts.lock(self.rt).count_raise(iterations);
-            }
-            RaiseReport::Full => {}
+        let raised = self.facts.lock(self.rt).raise(told);
+        if let Some(event) = raised {
+            self.put_event(now, &event);
         }
         if matches!(told, RaiseReport::Broken) {
             self.tell_failed(now);
@@ -164,18 +150,7 @@ impl<R: Wait + Eprint> Log<'_, R> {
             let held = book.end.lock(self.rt).limit.rest();
             self.put_held(book, now, held);
         }
-        let Facts {
-            all_entries,
-            all_changes,
-            ..
-        } = self.facts();
-        self.put_event(
-            now,
-            &ServiceEvent::Ended {
-                entries: all_entries,
-                changes: all_changes,
-            },
-        );
+        self.put_event(now, &self.facts().end());
     }
 
     /// The counters.
@@ -188,14 +163,8 @@ impl<R: Wait + Eprint> Log<'_, R> {
         requires moment { IsMoment now }
         requires micros { now.micros < 1000000 }
     {
-        self.facts.lock(self.rt).open(table);
-        self.put_event(
-            now,
-            &ServiceEvent::Reloaded {
-                principals: u32::try_from(table.principals()).unwrap_or(u32::MAX),
-                iterations: table.count(),
-            },
-        );
+        let event = self.facts.lock(self.rt).reload(table);
+        self.put_event(now, &event);
     }
 
     /// A further history opens with the table that the last one left: the line has the counts of the last one.
@@ -203,13 +172,8 @@ impl<R: Wait + Eprint> Log<'_, R> {
         requires moment { IsMoment now }
         requires micros { now.micros < 1000000 }
     {
-        let Facts {
-            entries,
-            changes,
-            ..
-        } = self.facts();
-        self.facts.lock(self.rt).open(table);
-        self.put_event(now, &ServiceEvent::RolledOver { entries, changes });
+        let event = self.facts.lock(self.rt).roll_over(table);
+        self.put_event(now, &event);
     }
 
     /// Whether the journal failed.
@@ -317,14 +281,6 @@ impl<R: Wait + Eprint> Log<'_, R> {
     }
 }
 
-// The result of appending a line.
-#[derive(Clone, Copy, Drop)]
-struct Appended {
-    is_lost: bool,
-    /// Whether a first loss is to be reported.
-    is_due: bool,
-}
-
 impl<R: Files<File = File> + Net + Wait + Eprint> Log<'_, R> {
     /// Reopens the log's file, and goes on there with a line that says so. If it can't be opened the log goes on as
     /// before. A service without a log has nothing to reopen.
@@ -358,14 +314,8 @@ impl Book<'_> {
             Ok(line) => end.sheet.append(rt, line.as_slice()),
             Err(_) => false,
         };
-        if !whole {
-            end.losses.is_any = true;
-        }
         let can_tell = end.sheet.can_tell();
-        Appended {
-            is_lost: !whole,
-            is_due: end.losses.are_due(can_tell),
-        }
+        end.losses.note(whole, can_tell)
     }
 }
 
@@ -380,9 +330,7 @@ impl<R: Wait + Eprint> Lines for LogLines<'_, R> {
     ghost takes = { λ a n b. Unit {0} };
 
     fn put(&mut self, line: &Line<'_>) {
-        if let MessageEvent::Decided { verdict, .. } = line.news {
-            self.log.facts.lock(self.log.rt).count_decision(verdict);
-        }
+        self.log.facts.lock(self.log.rt).count_line(line);
         self.log.put(line);
     }
 

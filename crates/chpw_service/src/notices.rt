@@ -83,7 +83,29 @@ pub(crate) struct Losses {
     pub is_told: bool,
 }
 
+/// The result of appending a line.
+#[derive(Clone, Copy, Drop)]
+pub(crate) struct Appended {
+    pub is_lost: bool,
+    /// Whether a first loss is to be reported.
+    pub is_due: bool,
+}
+
 impl Losses {
+    /// A line was appended, whole or not. A first loss is to be reported now, if it can be.
+    pub(crate) fn note(&mut self, whole: bool, can_tell: bool) -> Appended
+        ensures lost { result.is_lost ≡ not whole }
+        ensures due { result.is_due ≡ ((self.old.is_any || not whole) && (not self.old.is_told && can_tell)) }
+        ensures any { self.new.is_any ≡ (self.old.is_any || not whole) }
+        ensures told { self.new.is_told ≡ (self.old.is_told || result.is_due) }
+    {
+        self.is_any = self.is_any || !whole;
+        Appended {
+            is_lost: !whole,
+            is_due: self.are_due(can_tell),
+        }
+    }
+
     /// Whether a first loss is to be reported now, if it can be. It counts as reported then.
     pub(crate) fn are_due(&mut self, can_tell: bool) -> bool
         ensures due { result ≡ (self.old.is_any && (not self.old.is_told && can_tell)) }

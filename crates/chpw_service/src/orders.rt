@@ -1,4 +1,8 @@
 //! Orders of callers at the control socket.
+ghost use Rattle.std.specs.Prelude.{IfErr, IfOk};
+ghost use Rattle.chpw_service.specs.Faults.{IsOfBytes};
+ghost use Rattle.chpw_service.specs.Orders.{BeginsCompaction, BeginsReload, IsCarriedOut, RefusesAtOnce, ReopensLog};
+ghost use Rattle.chpw_service.specs.Rereading.{IsNotReadAnew, IsReadAnew, IsUnset};
 
 use crate::answers::{answer_or_empty, compact_refusal, prepare_refusal, refusal, reopen_answer};
 use crate::checked_reload::CheckedReload;
@@ -8,7 +12,7 @@ use crate::files::{open_file, read_regular, settings};
 use crate::histories::ServiceContext;
 use crate::rules::{Rules, rules_of};
 use chpw_config::explain;
-use chpw_control::Command;
+use chpw_control::{Command, FileName};
 use chpw_invocation::ServeOptions;
 use chpw_pool::{BackgroundTask, MachineClock};
 use chpw_reload::{ReloadFault, prepare};
@@ -84,26 +88,56 @@ impl<R: Files<File = File> + Net + Wait + Clock + Eprint + AllocGlobal, T: Clock
     R,
     T,
 > {
-    fn carry_out(&self, command: Command) -> Carried {
-        let alloc = self.rt.alloc();
-        let options = self.hall.options;
-        let answer = match command {
-            Command::Reload => match read_anew(self.rt, options) {
-                Ok(anew) => return Carried::AfterClose(AfterClose::Reload(anew)),
-                Err(fault) => prepare_refusal(alloc, &fault),
-            },
-            Command::ReopenLog => {
-                let now = MachineClock::new(self.time).now();
-                reopen_answer(alloc, self.hall.log.reopen(options, now))
-            }
-            Command::Compact(copy) => match begin_compaction(self.rt, options, copy) {
-                Ok(compaction) => return Carried::AfterClose(AfterClose::Compact(compaction)),
-                Err(fault) => compact_refusal(alloc, &fault),
-            },
-            Command::Status | Command::Stop => refusal(alloc, "not an order"),
-        };
-        Carried::Answered(answer_or_empty(alloc, answer))
+    fn carry_out(&self, command: Command) -> Carried
+        ensures carried { IsCarriedOut self.now.hall.now.options.now command result }
+    {
+        match command {
+            Command::Reload => self.begin_reload(),
+            Command::ReopenLog => self.reopen_log(),
+            Command::Compact(copy) => self.begin_compaction(copy),
+            Command::Status | Command::Stop => not_an_order(self.rt.alloc()),
+        }
     }
+
+    fn begin_reload(&self) -> Carried
+        ensures begins { BeginsReload self.now.hall.now.options.now result }
+    {
+        match read_anew(self.rt, self.hall.options) {
+            Ok(anew) => Carried::AfterClose(AfterClose::Reload(anew)),
+            Err(fault) => {
+                let answer = prepare_refusal(self.rt.alloc(), &fault);
+                Carried::Answered(answer_or_empty(self.rt.alloc(), answer))
+            }
+        }
+    }
+
+    fn reopen_log(&self) -> Carried
+        ensures reopens { ReopensLog self.now.hall.now.options.now result }
+    {
+        let options = self.hall.options;
+        let now = MachineClock::new(self.time).now();
+        let answer = reopen_answer(self.rt.alloc(), self.hall.log.reopen(options, now));
+        Carried::Answered(answer_or_empty(self.rt.alloc(), answer))
+    }
+
+    fn begin_compaction(&self, copy: FileName) -> Carried
+        ensures begins { BeginsCompaction self.now.hall.now.options.now copy result }
+    {
+        match begin_compaction(self.rt, self.hall.options, copy) {
+            Ok(compaction) => Carried::AfterClose(AfterClose::Compact(compaction)),
+            Err(fault) => {
+                let answer = compact_refusal(self.rt.alloc(), &fault);
+                Carried::Answered(answer_or_empty(self.rt.alloc(), answer))
+            }
+        }
+    }
+}
+
+// The answer to what is no order.
+fn not_an_order(alloc: Global) -> Carried
+    ensures refuses { RefusesAtOnce result }
+{
+    Carried::Answered(answer_or_empty(alloc, refusal(alloc, "not an order")))
 }
 
 /// Why a configuration can't be reloaded.
@@ -121,7 +155,10 @@ pub(crate) enum PrepareFault<'a> {
 fn read_anew<'a, R: Files<File = File> + AllocGlobal>(
     rt: &R,
     options: &ServeOptions<'a>,
-) -> Result<PendingReload, PrepareFault<'a>> {
+) -> Result<PendingReload, PrepareFault<'a>>
+    ensures read { IfOk result (IsReadAnew options.now) }
+    ensures fault { IfErr result (IsNotReadAnew options.now) }
+{
     let text = match read_regular(rt, options.config) {
         Ok(text) => text,
         Err(fault) => return Err(PrepareFault::Start(fault)),
@@ -159,7 +196,10 @@ fn rest_of<R: Files<File = File>>(rt: &R, path: &str, kept: u64) -> io::Result<F
 }
 
 // A fault of the configuration with this text.
-fn unset_fault<'a>(alloc: Global, text: &[u8], fault: ServeFault<'a>) -> PrepareFault<'a> {
+fn unset_fault<'a>(alloc: Global, text: &[u8], fault: ServeFault<'a>) -> PrepareFault<'a>
+    requires fault { IsOfBytes text.now fault }
+    ensures fault { IsUnset text.now result }
+{
     match (fault, str::from_utf8(text)) {
         (ServeFault::Config(fault), Ok(text)) => match explain(alloc, text, fault) {
             Ok(words) => PrepareFault::Config(words),

@@ -1,5 +1,5 @@
 //! A raise of the iteration count of new keys, before the service listens.
-ghost use Rattle.std.specs.Prelude.{◌≡◌, ◌≤◌, ℕ, IfErr, OnOk, Some, true, length};
+ghost use Rattle.std.specs.Prelude.{◌≡◌, ◌≤◌, ℕ, IfErr, IfOk, Some, true, length};
 ghost use Rattle.chpw_rules.specs.Limits.{is_in, iteration_counts};
 ghost use Rattle.chpw_changelog.specs.Pens.{opening_state};
 ghost use Rattle.chpw_service.specs.Faults.{IsLate};
@@ -54,7 +54,7 @@ pub(crate) fn raise_where_asked<'a, D: DeskName, R: Wait + Print, C: Clock>(
     asked: Option<u32>,
 ) -> Result<Option<RaiseReport>, ServeFault<'a>>
     requires count { (count : ℕ) → asked ≡ Some count → (1 ≤ count) × (count ≤ 16777216) }
-    ensures raised { OnOk result (IsRaisedWhereAsked C.gives (opening_state D.root) clock.old clock.new
+    ensures raised { IfOk result (IsRaisedWhereAsked C.gives (opening_state D.root) clock.old clock.new
         passes.old passes.new asked) }
     ensures passes { length passes.new ≡ length passes.old }
     ensures fault { IfErr result IsLate }
@@ -74,7 +74,7 @@ fn raise_by_first<'a, D: DeskName, R: Wait + Print, C: Clock>(
     count: u32,
 ) -> Result<Option<RaiseReport>, ServeFault<'a>>
     requires count { is_in iteration_counts count ≡ true }
-    ensures raised { OnOk result (IsRaiseOfFirst C.gives (opening_state D.root) clock.old clock.new
+    ensures raised { IfOk result (IsRaiseOfFirst C.gives (opening_state D.root) clock.old clock.new
         passes.old passes.new count) }
     ensures passes { length passes.new ≡ length passes.old }
     ensures fault { IfErr result IsLate }

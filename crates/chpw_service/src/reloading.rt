@@ -6,7 +6,7 @@ ghost use Rattle.chpw_book.specs.Starting.{table_of, workers_of};
 ghost use Rattle.chpw_reload.specs.ReloadRuns.{GoesOn};
 ghost use Rattle.chpw_service.specs.declared.fault.ServeFault.TheVariants.{Memory};
 
-use crate::answers::{answer_or_empty, reload_refusal};
+use crate::answers::{answer_or_empty, reload_answer, reload_refusal};
 use crate::checked_reload::CheckedReload;
 use crate::fault::ServeFault;
 use crate::histories::{Opening, ServiceContext, next_opening};
@@ -14,15 +14,13 @@ use crate::notices::Notice;
 use crate::orders::PendingReload;
 use crate::rules::Rules;
 use chpw_book::UnnamedDesk;
-use chpw_control::put_ok;
 use chpw_journal::FileSink;
 use chpw_pool::MachineClock;
-use chpw_printing::put_name;
 use chpw_reload::{Refused, Reloaded, finish};
 use chpw_rules::Name;
 use chpw_serve::Clock as _;
 use chpw_table::{JournalSink, Table};
-use std::alloc::{AllocError, Global};
+use std::alloc::Global;
 use std::fs::File;
 use std::sync::Wait;
 use std::time::Clock;
@@ -104,16 +102,4 @@ fn tell_reloaded<'l, R: Wait + Eprint + AllocGlobal, T: Clock>(
     let answer = reload_answer(rt.alloc(), lacked);
     hall.engine
         .answer_order(rt, answer_or_empty(rt.alloc(), answer));
-}
-
-// The answer: a line for each principal that the configuration lacks.
-fn reload_answer(alloc: Global, lacked: &[Name]) -> Result<Vec<u8>, AllocError> {
-    let mut text = Vec::new(alloc);
-    for name in lacked {
-        text.extend_from_slice(b"lacked ")?;
-        put_name(&mut text, name)?;
-        text.push(b'\n')?;
-    }
-    put_ok(&mut text)?;
-    Ok(text)
 }

@@ -1,5 +1,7 @@
 //! The service's threads: the reactor, and the one that serves at the desks.
-ghost use Rattle.std.specs.Prelude.{◌≡◌, IfErr, IfSome, None, OnOk, OnErr, length};
+ghost use Rattle.std.specs.Prelude.{◌≡◌, IfErr, IfOk, IfSome, IsSome, IsSomeAnd, None, Ok, OnOk, OnErr, length};
+ghost use Rattle.chpw_changelog.specs.Pens.{opening_state};
+ghost use Rattle.chpw_reload.specs.ReloadRuns.{IsServiceRun};
 ghost use Rattle.chpw_service.specs.Faults.{IsLate, told_as};
 
 use crate::fault::{LateFault, ServeFault};
@@ -8,6 +10,7 @@ use crate::histories::{Opened, ServiceContext, serve_histories};
 use crate::rules::Rules;
 use chpw_book::DeskName;
 use chpw_pool::{Follower, Pool, PoolFault, StatusReporter};
+use chpw_table::Table;
 use std::fs::{File, Files};
 use std::net::{Net, TcpListener, TcpStream};
 use std::sync::Wait;
@@ -97,7 +100,7 @@ fn serve_all<
     let ended = thread::scope(
         thread::scope_env(),
         rt,
-        move |scope| -> Result<(), LateFault>
+        move |scope| -> Result<Option<Table>, LateFault>
             requires { IfSome first.now (λ opened. length opened.passes.items ≡ hall.now.workers) }
         {
             let engine = &hall.engine;
@@ -111,13 +114,14 @@ fn serve_all<
         },
     );
     match ended {
-        Ok(()) if hall.engine.was_stopped(rt) => Ok(()),
-        Ok(()) => end(hall.engine.outcome(rt, connections)),
+        Ok(_) if hall.engine.was_stopped(rt) => Ok(()),
+        Ok(_) => end(hall.engine.outcome(rt, connections)),
         Err(late) => Err(late.fault()),
     }
 }
 
-// Serves at one desk after the other. After a fault nobody is left to answer, and all connections end.
+// Serves at one desk after the other, and returns the table of the last one; none if there is no first one. After a
+// fault nobody is left to answer, and all connections end.
 fn serve_or_desert<
     'l,
     D: DeskName + Send + Sync,
@@ -129,14 +133,17 @@ fn serve_or_desert<
     hall: &ServiceContext<'l, R>,
     rules: Rules,
     first: &mut Option<Opened<D>>,
-) -> Result<(), LateFault>
+) -> Result<Option<Table>, LateFault>
     requires passes { IfSome first.old (λ opened. length opened.passes.items ≡ hall.now.workers) }
+    ensures taken { first.new ≡ None }
+    ensures none { first.old ≡ None → result ≡ Ok None }
+    ensures served { IsSome first.old → IfOk result (λ table. IsSomeAnd table (IsServiceRun (opening_state D.root))) }
 {
     let Some(opened) = first.take() else {
-        return Ok(());
+        return Ok(None);
     };
     match serve_histories(rt, time, hall, rules, opened) {
-        Ok(_) => Ok(()),
+        Ok(table) => Ok(Some(table)),
         Err(fault) => {
             hall.engine.desert(rt);
             Err(LateFault::of(fault))

@@ -1,11 +1,12 @@
 //! The service on a port.
-ghost use Rattle.std.specs.Prelude.{◌≡◌, ◌≤◌, IfOk, IfErr, IsSome, None, Ok, OnOk, false, true, length};
+ghost use Rattle.std.specs.Prelude.{◌≡◌, ◌≤◌, IfOk, IfErr, IsSome, None, Ok, OnOk, Option, false, true, length};
 ghost use Rattle.chpw_book.specs.Starting.{IsNamed, workers_of};
 ghost use Rattle.chpw_pool.specs.Engines.{seed_of, workers_at};
 ghost use Rattle.chpw_service.specs.Faults.{IsLate, IsOfService};
 ghost use Rattle.chpw_changelog.specs.Pens.{opening_state};
 ghost use Rattle.chpw_service.specs.Raised.{IsRaisedWhereAsked};
 ghost use Rattle.chpw_service.specs.Serving.{IsAskedFor};
+ghost use Rattle.chpw_service.specs.declared.raising.RaiseReport.{RaiseReport};
 ghost use Rattle.chpw_service.specs.declared.fault.ServeFault.TheVariants.{CannotListen};
 
 use crate::control_socket::{control_socket, take_away};
@@ -215,8 +216,8 @@ fn raise_and_listen<
     ensures follower { IfOk result (λ r. (r.1.follower.socket ≡ start.entry.options.now.follower)
         × (r.1.follower.wait ≡ start.entry.options.now.follower_wait)) }
     ensures seed { IfOk result (λ r. seed_of r.1.engine ≡ start.entry.terms.seed) }
-    ensures raised { OnOk result (IsRaisedWhereAsked C.gives (opening_state D.root) clock.old clock.new
-        passes.old passes.new start.entry.options.now.raise) }
+    ensures raised { OnOk result ((told : Option RaiseReport) × IsRaisedWhereAsked C.gives (opening_state D.root)
+        clock.old clock.new passes.old passes.new start.entry.options.now.raise told) }
     ensures passes { length passes.new ≡ length passes.old }
     ensures fault { IfErr result IsLate }
 {

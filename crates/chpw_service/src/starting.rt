@@ -3,7 +3,7 @@ ghost use Rattle.std.specs.Prelude.{◌≡◌, IfOk, IfErr, true};
 ghost use Rattle.chpw_rules.specs.Fitting.{config_fits};
 ghost use Rattle.chpw_table.specs.Agreement.{Agrees};
 ghost use Rattle.chpw_table.specs.Times.{IsTime};
-ghost use Rattle.chpw_service.specs.Faults.{IsOfFile, IsOfJournal};
+ghost use Rattle.chpw_service.specs.Faults.{IsOfFile, IsOfJournal, line_of, open_line};
 ghost use Rattle.chpw_service.specs.Modes.{can_be_journal};
 ghost use Rattle.chpw_service.specs.Opening.{IsOpening, opening_at};
 ghost use Rattle.chpw_service.specs.declared.fault.ServeFault.TheVariants.{Memory};
@@ -79,6 +79,7 @@ fn opening_table<'a>(
 fn journal_fault(path: &str, fault: OpenFault) -> ServeFault<'_>
     requires fault { IsOfFile fault }
     ensures fault { IsOfJournal path.now result }
+    ensures line { line_of result ≡ open_line path.now fault }
 {
     match fault {
         OpenFault::CannotRead => ServeFault::CannotRead(path),

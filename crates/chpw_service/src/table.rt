@@ -8,7 +8,7 @@ ghost use Rattle.chpw_report.specs.Reports.{report as report_text};
 ghost use Rattle.chpw_report.specs.Configurations.{config_held};
 ghost use Rattle.chpw_report.specs.Held.{IsHeld};
 ghost use Rattle.chpw_journal.specs.declared.fault.RestoreFault.TheVariants.{Memory as NoMemory};
-ghost use Rattle.chpw_service.specs.Faults.{IsLate, IsOfBytes, IsOfJournal, IsOfRecords, Sets};
+ghost use Rattle.chpw_service.specs.Faults.{IsLate, IsOfBytes, IsOfJournal, IsOfRecords, Sets, report_fault, restore_fault};
 ghost use Rattle.chpw_service.specs.Telling.{IsOfTable, IsTold, Tells};
 
 use crate::fault::ServeFault;
@@ -105,6 +105,7 @@ fn held_table<'a, R: Files<File = File> + AllocGlobal>(
 fn journal_fault<'a>(fault: RestoreFault) -> ServeFault<'a>
     requires fault { fault ≢ NoMemory → IsOfRecords fault }
     ensures fault { (path : List ℕ) → IsOfJournal path result }
+    ensures value { result ≡ restore_fault fault }
 {
     match fault {
         RestoreFault::Memory => ServeFault::Memory,
@@ -148,6 +149,7 @@ fn configuration<'a, W: Write>(
 
 fn late<'a>(fault: ReportFault) -> ServeFault<'a>
     ensures late { IsLate result }
+    ensures value { result ≡ report_fault fault }
 {
     match fault {
         ReportFault::Memory => ServeFault::Memory,

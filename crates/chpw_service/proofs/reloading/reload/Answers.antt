@@ -1,4 +1,4 @@
-use Rattle.std.proofs.Common.{sym, subst, ◌∙◌, ap}
+use Rattle.std.proofs.Common.{sym, subst}
 use Rattle.chpw_table.specs.Agreement.{Held}
 use Rattle.chpw_reload.specs.ReloadRuns.{GoesOn}
 use Rattle.chpw_service.specs.Following.{TakesRules}

@@ -1,0 +1,62 @@
+-- What `status` tells of a service.
+use Rattle.std.specs.Prelude.{◌≡◌, ℕ, ◌-◌, ◌^◌, min, List, [], ◌∷◌, ◌++◌, Bool, if◌then◌else◌}
+use Rattle.chpw_control.specs.Answers.{lines_text, ok_line}
+use Rattle.chpw_control.specs.Statuses.{status_lines}
+use Rattle.chpw_control.specs.declared.status.Status.{Status}
+use Rattle.chpw_control.specs.declared.status.JournalState.{JournalState}
+use Rattle.chpw_control.specs.declared.status.JournalState.TheVariants.{Good, Failed}
+use Rattle.chpw_control.specs.declared.status.FollowerState.{FollowerState}
+use Rattle.chpw_control.specs.declared.status.FollowerState.TheVariants.{Absent, Confirmed, Unconfirmed}
+use Rattle.chpw_control.specs.declared.time.Time.{Time}
+use Rattle.chpw_pool.specs.Controlling.{sum_of}
+use Rattle.chpw_pool.specs.declared.status_reporter.ConnectionCounts.{ConnectionCounts}
+use Rattle.chpw_service.specs.Facts.{quiet_time}
+use Rattle.chpw_service.specs.declared.facts.Facts.{Facts}
+use Rattle.chpw_service.specs.declared.status.Readings.{Readings}
+
+abbrev pub journal_state : Bool → JournalState
+journal_state has_failed = if has_failed then Failed else Good
+
+abbrev pub follower_state : Bool → Bool → FollowerState
+follower_state has_follower is_behind =
+    if has_follower then (if is_behind then Unconfirmed else Confirmed) else Absent
+
+-- the status of a service of this version, by what was read of it, its counters and its connections: busy are the
+-- workers that answer a message, queued the messages that wait for one
+pub record IsStatusOf (version : List ℕ) (r : Readings) (f : Facts) (c : ConnectionCounts) (s : Status) : Type 0 where
+  pub version_is : s.version.now ≡ version
+  pub since : s.since ≡ r.since
+  pub quiet_until : s.quiet_until ≡ quiet_time f.quiet_until r.moment.seconds
+  pub principals : s.principals ≡ f.principals
+  pub iterations : s.iterations ≡ f.iterations
+  pub entries : s.entries ≡ f.entries
+  pub changes : s.changes ≡ f.changes
+  pub all_entries : s.all_entries ≡ f.all_entries
+  pub all_changes : s.all_changes ≡ f.all_changes
+  pub connections : s.connections ≡ min (sum_of c) (2 ^ 64 - 1)
+  pub reading : s.reading ≡ c.reading
+  pub waiting : s.waiting ≡ c.waiting
+  pub answering : s.answering ≡ c.answering
+  pub confirming : s.confirming ≡ c.confirming
+  pub writing : s.writing ≡ c.writing
+  pub ending : s.ending ≡ c.ending
+  pub workers : s.workers ≡ r.workers
+  pub busy : s.busy ≡ c.answering
+  pub queue : s.queue ≡ c.waiting
+  pub journal_bytes : s.journal_bytes ≡ r.journal_bytes
+  pub journal : s.journal ≡ journal_state r.has_failed
+  pub log_lost : s.log_lost ≡ f.lost
+  pub follower : s.follower ≡ follower_state r.has_follower c.is_behind
+
+-- the whole answer of a service that started then, with this many workers, and with a follower or without: its status at
+-- some moment
+pub record IsStatusAnswer (version : List ℕ) (since : Time) (workers : ℕ) (has_follower : Bool) (c : ConnectionCounts)
+    (text : List ℕ) : Type 0 where
+  pub readings : Readings
+  pub facts : Facts
+  pub status : Status
+  pub is_status : IsStatusOf version readings facts c status
+  pub since_is : readings.since ≡ since
+  pub workers_is : readings.workers ≡ workers
+  pub follower_is : readings.has_follower ≡ has_follower
+  pub text_is : text ≡ lines_text (status_lines status ++ ok_line ∷ [])

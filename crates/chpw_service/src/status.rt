@@ -1,0 +1,94 @@
+//! What `status` tells of a service.
+ghost use Rattle.std.specs.Prelude.{◌≡◌, ◌++◌, ◌∷◌, ◌⊎◌, []};
+ghost use Rattle.chpw_control.specs.Answers.{lines_text, ok_line};
+ghost use Rattle.chpw_control.specs.Statuses.{AreTold, IsTold, status_lines};
+ghost use Rattle.chpw_service.specs.Status.{IsStatusOf, follower_state, journal_state};
+
+use crate::answers::answer_or_empty;
+use crate::facts::Facts;
+use chpw_control::{FollowerState, JournalState, Status, Time, status_answer};
+use chpw_pool::ConnectionCounts;
+use chpw_table::Moment;
+use std::alloc::Global;
+
+/// What is read of a service for its status, beside its counters and its connections.
+#[derive(Clone, Copy, Drop)]
+pub(crate) struct Readings {
+    /// When the service started.
+    pub since: Time,
+    /// The moment of the status.
+    pub moment: Moment,
+    pub workers: u8,
+    pub journal_bytes: u64,
+    /// Whether an append to the journal has failed.
+    pub has_failed: bool,
+    pub has_follower: bool,
+}
+
+/// The status of a service of this version.
+pub(crate) fn status_of<'a>(
+    version: &'a str,
+    readings: &Readings,
+    facts: &Facts,
+    counts: &ConnectionCounts,
+) -> Status<'a>
+    requires since { IsTold readings.now.since }
+    ensures value { IsStatusOf version.now readings.now facts.now counts.now result }
+    ensures told { AreTold result }
+{
+    Status {
+        version,
+        since: readings.since,
+        quiet_until: facts.quiet_time(readings.moment),
+        principals: facts.principals,
+        iterations: facts.iterations,
+        entries: facts.entries,
+        changes: facts.changes,
+        all_entries: facts.all_entries,
+        all_changes: facts.all_changes,
+        connections: counts.connections() as u64,
+        reading: counts.reading as u64,
+        waiting: counts.waiting as u64,
+        answering: counts.answering as u64,
+        confirming: counts.confirming as u64,
+        writing: counts.writing as u64,
+        ending: counts.ending as u64,
+        workers: u64::from(readings.workers),
+        busy: counts.answering as u64,
+        queue: counts.waiting as u64,
+        journal_bytes: readings.journal_bytes,
+        journal: journal_state(readings.has_failed),
+        log_lost: facts.lost,
+        follower: follower_state(readings.has_follower, counts.is_behind),
+    }
+}
+
+/// The whole answer that tells a status; empty if memory was refused.
+pub(crate) fn answer_with(alloc: Global, status: &Status<'_>) -> Vec<u8>
+    requires times { AreTold status.now }
+    ensures value { (result.items ≡ []) ⊎ (result.items ≡ lines_text (status_lines status.now ++ ok_line ∷ [])) }
+{
+    answer_or_empty(alloc, status_answer(alloc, status))
+}
+
+fn journal_state(has_failed: bool) -> JournalState
+    ensures value { result ≡ journal_state has_failed }
+{
+    if has_failed {
+        JournalState::Failed
+    } else {
+        JournalState::Good
+    }
+}
+
+fn follower_state(has_follower: bool, is_behind: bool) -> FollowerState
+    ensures value { result ≡ follower_state has_follower is_behind }
+{
+    if !has_follower {
+        FollowerState::Absent
+    } else if is_behind {
+        FollowerState::Unconfirmed
+    } else {
+        FollowerState::Confirmed
+    }
+}
