@@ -1,5 +1,5 @@
 -- What a call moved that did this.
-use Rattle.std.proofs.Common.{◌≡◌, ◌≤◌, ℕ, List, [], ◌++◌, length, take, sym, ◌∙◌, ap, subst, Option, Some, None, Result, Ok, Err, append-nil}
+use Rattle.std.proofs.Common.{◌≤◌, ℕ, List, [], length, take, sym, ◌∙◌, ap, subst, Option, Some, None, Result, Ok, Err, append-nil}
 use Rattle.std.specs.Io.{ReadsAtMost}
 use Rattle.std.specs.Io.KnownBytes.{Appends, Consumes, Keeps, ReadConsumes, WriteAppends}
 use Rattle.std.specs.declared.io.Error.{Error}

@@ -1,19 +1,10 @@
 -- What stands at the places of the connections' sockets, and what stays there.
-use Rattle.std.specs.Prelude.{◌≡◌, ⊤, ℕ, length, Option, Some, None, Result, Ok, Err, Bool, true, false, is_some}
+use Rattle.std.specs.Prelude.{◌≡◌, length, Option, Some, None, Result, Ok, Err, Bool, true, false, is_some}
 use Rattle.std.specs.declared.io.Error.{Error}
-use Rattle.slab.specs.Slab.{Slab}
-use Rattle.chpw_connections.specs.Sets.{Happens}
-use Rattle.chpw_connections.specs.Stages.{closed}
-use Rattle.chpw_connections.specs.declared.connection.Connection.{Connection}
-use Rattle.chpw_connections.specs.declared.todo.Todo.{Todo}
-use Rattle.chpw_connections.specs.declared.todo.Todo.TheVariants as todo
 use Rattle.chpw_pool.specs.declared.sockets.Socket.{Socket}
 use Rattle.chpw_pool.specs.declared.sockets.Sockets.{Sockets}
 use Rattle.chpw_pool.specs.declared.sockets.Transport.{Transport}
 use Rattle.chpw_pool.specs.declared.sockets.Transport.TheVariants as place
-use Rattle.chpw_pool.specs.declared.state.Progress.{Progress}
-use Rattle.chpw_pool.specs.declared.state.Progress.TheVariants as progress
-use Rattle.chpw_pool.specs.declared.udp.Datagram.{Datagram}
 
 -- how many places there are, how long the buffers are, and whether there is a socket for datagrams
 abbrev pub KeepsSizes : Sockets → Sockets → Type 0
