@@ -1,12 +1,12 @@
 //! The sockets of the connections.
-ghost use Rattle.std.specs.Prelude.{◌≡◌, ◌≢◌, ℕ, ◌<◌, ◌≤◌, IfOk, IfErr, IfSome, IfNone, false, true, is_some};
+ghost use Rattle.std.specs.Prelude.{◌≡◌, ◌≢◌, ◌⊎◌, ℕ, List, ◌<◌, ◌≤◌, IfOk, IfErr, IfSome, IfNone, false, true, is_some};
 ghost use Rattle.std.specs.Prelude.{length, slice_get, if◌then◌else◌};
 ghost use Rattle.slab.specs.Slab.{get};
 ghost use Rattle.chpw_connections.specs.Held.{slots_of, bounds_of, accepted_by};
 ghost use Rattle.chpw_connections.specs.Queues.{workers_of};
 ghost use Rattle.chpw_connections.specs.Todos.{todo_in};
 ghost use Rattle.chpw_connections.specs.declared.todo.Todo.TheVariants as todo;
-ghost use Rattle.chpw_pool.specs.Datagrams.{DropsDatagram};
+ghost use Rattle.chpw_pool.specs.Datagrams.{BeginsAndDrops, DropsDatagram};
 ghost use Rattle.chpw_pool.specs.Deciding.{AreElsewhere, IsFree, IsFresh, Queues, IsQueued, IsPlaced, is_decided, is_at, is_under_way};
 ghost use Rattle.chpw_pool.specs.Pools.{IsUnmade};
 ghost use Rattle.chpw_pool.specs.Places.{IsStream, KeepsSizes, has_pending};
@@ -243,6 +243,9 @@ impl Sockets {
         ensures idle { result ≡ progress.None → state.new ≡ state.old }
         ensures bounds { bounds_of state.new.connections ≡ bounds_of state.old.connections }
         ensures dropped { result ≡ progress.Some → DropsDatagram (slots_of state.old.connections) (slots_of state.new.connections) }
+        ensures in_turn { result ≡ progress.Some → (state.new ≡ state.old) ⊎ (sender : Sender) × (message : List ℕ)
+            × BeginsAndDrops (bounds_of state.old.connections) now sender.address (accepted_by state.old.connections) message
+            (slots_of state.old.connections) (slots_of state.new.connections) }
         ensures kept { result ≡ progress.Some → self.new.by_slot.items ≡ self.old.by_slot.items }
         ensures idle_places { result ≡ progress.None → self.new.by_slot.items ≡ self.old.by_slot.items }
         ensures places { length self.new.by_slot.items ≡ length self.old.by_slot.items }
@@ -298,6 +301,9 @@ fn decide(
     ensures some { (result ≡ progress.None) → ⊥ }
     ensures bounds { bounds_of state.new.connections ≡ bounds_of state.old.connections }
     ensures dropped { result ≡ progress.Some → DropsDatagram (slots_of state.old.connections) (slots_of state.new.connections) }
+    ensures in_turn { result ≡ progress.Some → (state.new ≡ state.old)
+        ⊎ BeginsAndDrops (bounds_of state.old.connections) now sender.address (accepted_by state.old.connections) message.now
+        (slots_of state.old.connections) (slots_of state.new.connections) }
     ensures kept { result ≡ progress.Some → by_slot.new ≡ by_slot.old }
 {
     let is_decided = datagrams.is_to_be_decided(sender, message, now)
@@ -340,6 +346,9 @@ fn queue(
     ensures some { (result ≡ progress.None) → ⊥ }
     ensures bounds { bounds_of state.new.connections ≡ bounds_of state.old.connections }
     ensures dropped { result ≡ progress.Some → DropsDatagram (slots_of state.old.connections) (slots_of state.new.connections) }
+    ensures in_turn { result ≡ progress.Some → (state.new ≡ state.old)
+        ⊎ BeginsAndDrops (bounds_of state.old.connections) now sender.address (accepted_by state.old.connections) message.now
+        (slots_of state.old.connections) (slots_of state.new.connections) }
     ensures kept { result ≡ progress.Some → by_slot.new ≡ by_slot.old }
 {
     let Ok(copy) = Vec::from_slice(alloc, message) else {
