@@ -55,3 +55,16 @@ abbrev pub is_datagram_at : Option (Option Transport) → Bool
 is_datagram_at (Some (Some t)) = is_datagram t
 is_datagram_at (Some None) = false
 is_datagram_at None = false
+
+-- behind one step after another before the connection is to be closed: a stream stays one, and shut if it is, and a
+-- datagram one of the same sender
+abbrev pub Remains : Transport → Transport → Type 0
+Remains (place.Stream s) (place.Stream t) = s.is_shut ≡ true → t.is_shut ≡ true
+Remains (place.Datagram d) (place.Datagram e) = e.sender ≡ d.sender
+Remains (place.Stream s) (place.Datagram e) = ⊥
+Remains (place.Datagram d) (place.Stream t) = ⊥
+
+abbrev pub RemainsAt : Option (Option Transport) → Option (Option Transport) → Type 0
+RemainsAt (Some (Some t)) after = IsSomeAnd after (λ at. IsSomeAnd at (Remains t))
+RemainsAt (Some None) after = after ≡ Some None
+RemainsAt None after = after ≡ None

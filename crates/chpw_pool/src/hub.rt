@@ -12,7 +12,7 @@ ghost use Rattle.chpw_pool.specs.Datagrams.{DropsDatagram};
 ghost use Rattle.chpw_pool.specs.Deciding.{AreElsewhere, IsFree, IsFresh, Queues};
 ghost use Rattle.chpw_pool.specs.Following.{awaited};
 ghost use Rattle.chpw_pool.specs.Newcomers.{IsAdmitted, IsBegun};
-ghost use Rattle.chpw_pool.specs.Places.{StaysAt};
+ghost use Rattle.chpw_pool.specs.Places.{RemainsAt, StaysAt};
 ghost use Rattle.chpw_pool.specs.Pools.{IsUnmade, peer_in};
 ghost use Rattle.chpw_pool.specs.declared.state.Progress.TheVariants as progress;
 
@@ -148,6 +148,7 @@ impl Hub {
         ensures answers { Answers (bounds_of self.old.state.connections) now (awaited self.old.state.asking change)
             reply (slots_of self.old.state.connections) (slots_of self.new.state.connections) slot }
         ensures others { AreElsewhere self.old.sockets.by_slot.items self.new.sockets.by_slot.items slot }
+        ensures kept { RemainsAt (slice_get self.old.sockets.by_slot.items slot) (slice_get self.new.sockets.by_slot.items slot) }
     {
         self.state.answer(slot, reply, change, now);
         self.run(slot, now);
@@ -158,6 +159,7 @@ impl Hub {
     fn run(&mut self, slot: usize, now: u64)
         ensures runs { RunsTo (bounds_of self.old.state.connections) now slot (slots_of self.old.state.connections) (slots_of self.new.state.connections) }
         ensures others { AreElsewhere self.old.sockets.by_slot.items self.new.sockets.by_slot.items slot }
+        ensures kept { RemainsAt (slice_get self.old.sockets.by_slot.items slot) (slice_get self.new.sockets.by_slot.items slot) }
     {
         for _ in 0..STEPS {
             if self.state.todo(slot) == Todo::Close {
