@@ -1,6 +1,7 @@
 //! The connections with their sockets, which reactor and workers share under one lock.
 ghost use Rattle.slab.specs.Slab.{get, slab_len};
-ghost use Rattle.std.specs.Prelude.{◌≡◌, ◌≢◌, ◌<◌, ◌==◌, ◌⊎◌, ℕ, IfSome, IfOk, IfErr, Err, is_err, false, nat_lt, length, slice_get, if◌then◌else◌};
+ghost use Rattle.std.specs.Prelude.{◌≡◌, ◌≢◌, ◌<◌, ◌==◌, ◌⊎◌, ℕ, nat_lt, length, slice_get, if◌then◌else◌};
+ghost use Rattle.std.specs.Prelude.{IfSome, IfOk, IfErr, Err, is_err, false};
 ghost use Rattle.chpw_connections.specs.Held.{slots_of, bounds_of, accepted_by};
 ghost use Rattle.chpw_connections.specs.Queues.{workers_of};
 ghost use Rattle.chpw_connections.specs.Todos.{todo_in};
