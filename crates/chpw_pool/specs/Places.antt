@@ -41,7 +41,7 @@ StaysAt due (Some (Some t)) after = IsSomeAnd after (λ at. IsSomeAnd at (Stays 
 StaysAt due (Some None) after = after ≡ Some None
 StaysAt due None after = after ≡ None
 
--- no more comes for a message that came in a datagram, neither another message nor an end
+-- what still comes is to be read: the next message, or what is discarded behind the last one; behind a datagram nothing comes
 abbrev pub reads_on : Todo → Bool
 reads_on (todo.Read count) = true
 reads_on todo.Linger = true

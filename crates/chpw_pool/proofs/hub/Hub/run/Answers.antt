@@ -7,7 +7,12 @@ use Rattle.chpw_pool.proofs.RunLemmas.{remains, remains_on, runs_on}
 use Rattle.chpw_pool.proofs.hub.Hub.run.Goals as goal
 
 pub loop-init : goal.loop-init
-loop-init c = record { bounds = refl; runs = stays; others = λ other differs. refl; kept = remains (slice_get c.args.self.now.sockets.by_slot.items c.args.slot) }
+loop-init c = record {
+  bounds = refl;
+  runs = stays;
+  others = λ other differs. refl;
+  kept = remains (slice_get c.args.self.now.sockets.by_slot.items c.args.slot);
+}
 
 pub returns-in-Queued : goal.returns-in-Queued
 returns-in-Queued c = record {
