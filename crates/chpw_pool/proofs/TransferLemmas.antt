@@ -1,9 +1,16 @@
--- What a call moved that did this.
-use Rattle.std.proofs.Common.{◌≡◌, ◌≤◌, ℕ, List, [], ◌++◌, length, take, sym, ◌∙◌, ap, subst, Option, Some, None, Result, Ok, Err, append-nil}
+-- What a call moved that did this, and which step of its connection it was.
+use Rattle.std.proofs.Common.{◌≤◌, ◌⊎◌, ℕ, List, [], length, take, sym, ◌∙◌, ap, subst, Option, Some, None, Result, Ok, Err, append-nil}
+use Rattle.std.proofs.Common.{inl, inr, arith, length-take}
 use Rattle.std.specs.Io.{ReadsAtMost}
 use Rattle.std.specs.Io.KnownBytes.{Appends, Consumes, Keeps, ReadConsumes, WriteAppends}
 use Rattle.std.specs.declared.io.Error.{Error}
-use Rattle.chpw_pool.specs.Transfers.{IsOf, IsRead, IsWithin, IsWritten}
+use Rattle.slab.specs.Slab.{Slab, get}
+use Rattle.chpw_connections.specs.Sets.{left_at, wanted_at}
+use Rattle.chpw_connections.specs.declared.connection.Connection.{Connection}
+use Rattle.chpw_connections.specs.declared.limits.ConnectionLimits.{ConnectionLimits}
+use Rattle.chpw_pool.specs.Steps.{Gives, GivesNone, LetsGo, Takes, TakesNone}
+use Rattle.chpw_pool.specs.Transfers.{ComesOfDrain, ComesOfMessageRead, ComesOfReplyWrite, IsOf, IsRead, IsWithin, IsWritten}
+use Rattle.chpw_pool.specs.declared.state.Progress.{Progress}
 use Rattle.chpw_pool.specs.declared.transfer.Transfer.{Transfer}
 use Rattle.chpw_pool.specs.declared.transfer.Transfer.TheVariants.{Bytes, End, Later, Again, Fault}
 
@@ -60,3 +67,35 @@ is_written Again (Ok n) before after bytes is writes = absurd is
 is_written Again (Err e) before after bytes is writes = writes
 is_written Fault (Ok n) before after bytes is writes = absurd is
 is_written Fault (Err e) before after bytes is writes = writes
+
+pub reads : (t : Transfer) (b : ConnectionLimits) (now : ℕ) (buffer : List ℕ) (old new : Slab Connection) (slot : ℕ)
+    (before after : Option (List ℕ)) (p : Progress) → length buffer ≤ wanted_at (get old slot) → IsRead t before after buffer
+    → ComesOfMessageRead t b now buffer old new slot p → Takes b now old new slot before after ⊎ TakesNone old new slot before after
+reads (Bytes count) b now buffer old new slot before after p few is comes = inl (record {
+  bytes = take count buffer;
+  few = omega (arith, length-take count buffer, few);
+  read = is;
+  happens = comes.1;
+})
+reads End b now buffer old new slot before after p few is comes = inr (record { kept = is.0; happens = inl comes.1 })
+reads Later b now buffer old new slot before after p few is comes = inr (record { kept = is; happens = inr (inr comes.1) })
+reads Again b now buffer old new slot before after p few is comes = inr (record { kept = is; happens = inr (inr comes.1) })
+reads Fault b now buffer old new slot before after p few is comes = inr (record { kept = is; happens = inr (inl comes.1) })
+
+pub writes : (t : Transfer) (now : ℕ) (old new : Slab Connection) (slot : ℕ) (before after : Option (List ℕ)) (p : Progress)
+    → IsWritten t before after (left_at (get old slot)) → ComesOfReplyWrite t now old new slot p
+    → Gives now old new slot before after ⊎ GivesNone old new slot before after
+writes (Bytes count) now old new slot before after p is comes = inl (record { count = count; written = is; happens = comes.1 })
+writes End now old new slot before after p is comes = inr (record { kept = is; happens = inl comes.1 })
+writes Later now old new slot before after p is comes = inr (record { kept = is; happens = inr comes.1 })
+writes Again now old new slot before after p is comes = inr (record { kept = is; happens = inr comes.1 })
+writes Fault now old new slot before after p is comes = inr (record { kept = is; happens = inl comes.1 })
+
+pub drains : (t : Transfer) (buffer : List ℕ) (old new : Slab Connection) (slot : ℕ) (before after : Option (List ℕ)) (p : Progress)
+    → IsRead t before after buffer → ComesOfDrain t old new slot p
+    → LetsGo old new before after ⊎ TakesNone old new slot before after
+drains (Bytes count) buffer old new slot before after p is comes = inl (record { bytes = take count buffer; read = is; same = comes.1 })
+drains End buffer old new slot before after p is comes = inr (record { kept = is.0; happens = inl comes.1 })
+drains Later buffer old new slot before after p is comes = inr (record { kept = is; happens = inr (inr comes.1) })
+drains Again buffer old new slot before after p is comes = inr (record { kept = is; happens = inr (inr comes.1) })
+drains Fault buffer old new slot before after p is comes = inr (record { kept = is; happens = inr (inl comes.1) })

@@ -1,19 +1,12 @@
 -- What stands at the places of the connections' sockets, and what stays there.
-use Rattle.std.specs.Prelude.{◌≡◌, ⊤, ℕ, length, Option, Some, None, Result, Ok, Err, Bool, true, false, is_some}
+use Rattle.std.specs.Prelude.{◌≡◌, length, Option, Some, None, IsSomeAnd, Result, Ok, Err, Bool, true, false, is_some}
 use Rattle.std.specs.declared.io.Error.{Error}
-use Rattle.slab.specs.Slab.{Slab}
-use Rattle.chpw_connections.specs.Sets.{Happens}
-use Rattle.chpw_connections.specs.Stages.{closed}
-use Rattle.chpw_connections.specs.declared.connection.Connection.{Connection}
 use Rattle.chpw_connections.specs.declared.todo.Todo.{Todo}
 use Rattle.chpw_connections.specs.declared.todo.Todo.TheVariants as todo
 use Rattle.chpw_pool.specs.declared.sockets.Socket.{Socket}
 use Rattle.chpw_pool.specs.declared.sockets.Sockets.{Sockets}
 use Rattle.chpw_pool.specs.declared.sockets.Transport.{Transport}
 use Rattle.chpw_pool.specs.declared.sockets.Transport.TheVariants as place
-use Rattle.chpw_pool.specs.declared.state.Progress.{Progress}
-use Rattle.chpw_pool.specs.declared.state.Progress.TheVariants as progress
-use Rattle.chpw_pool.specs.declared.udp.Datagram.{Datagram}
 
 -- how many places there are, how long the buffers are, and whether there is a socket for datagrams
 abbrev pub KeepsSizes : Sockets → Sockets → Type 0
@@ -29,3 +22,49 @@ abbrev pub has_pending : Result (Option Error) Error → Bool
 has_pending (Ok None) = false
 has_pending (Ok (Some error)) = true
 has_pending (Err error) = true
+
+-- whether a stream's writing side is shut behind a step: before what still comes is discarded, and as it was otherwise
+abbrev pub is_shut_behind : Todo → Bool → Bool
+is_shut_behind todo.Linger was = true
+is_shut_behind due was = was
+
+-- behind a step a stream stays one, and a datagram one of the same sender
+abbrev pub Stays : Todo → Transport → Transport → Type 0
+Stays due (place.Stream s) (place.Stream t) = t.is_shut ≡ is_shut_behind due s.is_shut
+Stays due (place.Datagram d) (place.Datagram e) = e.sender ≡ d.sender
+Stays due (place.Stream s) (place.Datagram e) = ⊥
+Stays due (place.Datagram d) (place.Stream t) = ⊥
+
+-- at its place, and where nothing stood nothing does
+abbrev pub StaysAt : Todo → Option (Option Transport) → Option (Option Transport) → Type 0
+StaysAt due (Some (Some t)) after = IsSomeAnd after (λ at. IsSomeAnd at (Stays due t))
+StaysAt due (Some None) after = after ≡ Some None
+StaysAt due None after = after ≡ None
+
+-- what still comes is to be read: the next message, or what is discarded behind the last one; behind a datagram nothing comes
+abbrev pub reads_on : Todo → Bool
+reads_on (todo.Read count) = true
+reads_on todo.Linger = true
+reads_on due = false
+
+abbrev pub is_datagram : Transport → Bool
+is_datagram (place.Datagram d) = true
+is_datagram (place.Stream s) = false
+
+abbrev pub is_datagram_at : Option (Option Transport) → Bool
+is_datagram_at (Some (Some t)) = is_datagram t
+is_datagram_at (Some None) = false
+is_datagram_at None = false
+
+-- behind one step after another before the connection is to be closed: a stream stays one, and shut if it is, and a
+-- datagram one of the same sender
+abbrev pub Remains : Transport → Transport → Type 0
+Remains (place.Stream s) (place.Stream t) = s.is_shut ≡ true → t.is_shut ≡ true
+Remains (place.Datagram d) (place.Datagram e) = e.sender ≡ d.sender
+Remains (place.Stream s) (place.Datagram e) = ⊥
+Remains (place.Datagram d) (place.Stream t) = ⊥
+
+abbrev pub RemainsAt : Option (Option Transport) → Option (Option Transport) → Type 0
+RemainsAt (Some (Some t)) after = IsSomeAnd after (λ at. IsSomeAnd at (Remains t))
+RemainsAt (Some None) after = after ≡ Some None
+RemainsAt None after = after ≡ None

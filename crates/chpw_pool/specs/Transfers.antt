@@ -8,8 +8,10 @@ use Rattle.std.specs.declared.io.ErrorKind.{ErrorKind}
 use Rattle.std.specs.declared.io.ErrorKind.TheVariants.{Interrupted, WouldBlock}
 use Rattle.slab.specs.Slab.{Slab, get}
 use Rattle.chpw_connections.specs.Sets.{Happens, left_at}
-use Rattle.chpw_connections.specs.Stages.{failed, wrote}
+use Rattle.chpw_connections.specs.Stages.{closed, failed, wrote}
 use Rattle.chpw_connections.specs.declared.connection.Connection.{Connection}
+use Rattle.chpw_connections.specs.declared.limits.ConnectionLimits.{ConnectionLimits}
+use Rattle.chpw_pool.specs.Datagrams.{CameOrFailed}
 use Rattle.chpw_pool.specs.declared.state.Progress.{Progress}
 use Rattle.chpw_pool.specs.declared.state.Progress.TheVariants as progress
 use Rattle.chpw_pool.specs.declared.transfer.Transfer.{Transfer}
@@ -73,3 +75,30 @@ ComesOfSend End now old new slot p = (p ≡ progress.Some) × Happens now old ne
 ComesOfSend Later now old new slot p = (p ≡ progress.None) × (new ≡ old)
 ComesOfSend Again now old new slot p = (p ≡ progress.Some) × (new ≡ old)
 ComesOfSend Fault now old new slot p = (p ≡ progress.Some) × Happens 0 old new slot failed
+
+-- What comes of a read of a connection's message into this buffer: its first bytes came, or without room or memory for
+-- them the connection ended; the other side has ended; nothing has come yet; a signal interrupted it; or the connection
+-- has failed.
+abbrev pub ComesOfMessageRead : Transfer → ConnectionLimits → ℕ → List ℕ → Slab Connection → Slab Connection → ℕ → Progress → Type 0
+ComesOfMessageRead (Bytes count) b now buffer old new slot p = (p ≢ progress.None) × CameOrFailed b now old new slot (take count buffer)
+ComesOfMessageRead End b now buffer old new slot p = (p ≡ progress.Some) × Happens 0 old new slot closed
+ComesOfMessageRead Later b now buffer old new slot p = (p ≡ progress.None) × (new ≡ old)
+ComesOfMessageRead Again b now buffer old new slot p = (p ≡ progress.Some) × (new ≡ old)
+ComesOfMessageRead Fault b now buffer old new slot p = (p ≡ progress.Some) × Happens 0 old new slot failed
+
+-- What comes of a write of a connection's reply: this many of its bytes were written; nothing happened; or the
+-- connection has failed, also where the socket took none.
+abbrev pub ComesOfReplyWrite : Transfer → ℕ → Slab Connection → Slab Connection → ℕ → Progress → Type 0
+ComesOfReplyWrite (Bytes count) now old new slot p = (p ≡ progress.Some) × Happens now old new slot (wrote count)
+ComesOfReplyWrite End now old new slot p = (p ≡ progress.Some) × Happens 0 old new slot failed
+ComesOfReplyWrite Later now old new slot p = (p ≡ progress.None) × (new ≡ old)
+ComesOfReplyWrite Again now old new slot p = (p ≡ progress.Some) × (new ≡ old)
+ComesOfReplyWrite Fault now old new slot p = (p ≡ progress.Some) × Happens 0 old new slot failed
+
+-- What comes of a read of what is discarded: nothing, until the other side has ended or the connection has failed.
+abbrev pub ComesOfDrain : Transfer → Slab Connection → Slab Connection → ℕ → Progress → Type 0
+ComesOfDrain (Bytes count) old new slot p = (p ≡ progress.Some) × (new ≡ old)
+ComesOfDrain End old new slot p = (p ≡ progress.Some) × Happens 0 old new slot closed
+ComesOfDrain Later old new slot p = (p ≡ progress.None) × (new ≡ old)
+ComesOfDrain Again old new slot p = (p ≡ progress.Some) × (new ≡ old)
+ComesOfDrain Fault old new slot p = (p ≡ progress.Some) × Happens 0 old new slot failed

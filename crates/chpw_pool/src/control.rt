@@ -194,7 +194,8 @@ fn hear<I: Read>(
     reader: &mut I,
     buffer: &mut [u8],
 )
-    ensures heard { IsHeard (seats_of callers.old) (seats_of callers.new) slot (I.remaining reader.old) (I.remaining reader.new) buffer.new }
+    ensures heard { IsHeard (seats_of callers.old) (seats_of callers.new) slot
+        (I.remaining reader.old) (I.remaining reader.new) buffer.new }
     ensures ordering { ordering_of callers.new ≡ ordering_of callers.old }
 {
     let read = Transfer::of(reader.read(buffer));

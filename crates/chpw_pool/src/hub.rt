@@ -1,16 +1,19 @@
 //! The connections with their sockets, which reactor and workers share under one lock.
 ghost use Rattle.slab.specs.Slab.{get, slab_len};
-ghost use Rattle.std.specs.Prelude.{◌≡◌, ◌<◌, ◌==◌, ◌⊎◌, ℕ, IfSome, IfOk, IfErr, Err, is_err, false, nat_lt, length, if◌then◌else◌};
+ghost use Rattle.std.specs.Prelude.{◌≡◌, ◌≢◌, ◌<◌, ◌==◌, ◌⊎◌, ℕ, nat_lt, length, slice_get, if◌then◌else◌};
+ghost use Rattle.std.specs.Prelude.{IfSome, IfOk, IfErr, Err, is_err, false};
 ghost use Rattle.chpw_connections.specs.Held.{slots_of, bounds_of, accepted_by};
 ghost use Rattle.chpw_connections.specs.Queues.{workers_of};
 ghost use Rattle.chpw_connections.specs.Todos.{todo_in};
+ghost use Rattle.chpw_connections.specs.declared.todo.Todo.TheVariants as todo;
 ghost use Rattle.chpw_connections.specs.Sets.{Happens};
 ghost use Rattle.chpw_connections.specs.Stages.{failed};
 ghost use Rattle.chpw_pool.specs.Steps.{IsCalled, Steps, RunsTo, Answers};
 ghost use Rattle.chpw_pool.specs.Datagrams.{DropsDatagram};
-ghost use Rattle.chpw_pool.specs.Deciding.{AreElsewhere, IsFresh, Queues};
+ghost use Rattle.chpw_pool.specs.Deciding.{AreElsewhere, IsFree, IsFresh, Queues};
 ghost use Rattle.chpw_pool.specs.Following.{awaited};
 ghost use Rattle.chpw_pool.specs.Newcomers.{IsAdmitted, IsBegun};
+ghost use Rattle.chpw_pool.specs.Places.{RemainsAt, StaysAt};
 ghost use Rattle.chpw_pool.specs.Pools.{IsUnmade, peer_in};
 ghost use Rattle.chpw_pool.specs.declared.state.Progress.TheVariants as progress;
 
@@ -87,6 +90,13 @@ impl Hub {
             (todo_in (get (slots_of self.old.state.connections) slot))
             (slots_of self.old.state.connections) (slots_of self.new.state.connections) slot }
         ensures others { AreElsewhere self.old.sockets.by_slot.items self.new.sockets.by_slot.items slot }
+        ensures kept { todo_in (get (slots_of self.old.state.connections) slot) ≢ todo.Close
+            → StaysAt (todo_in (get (slots_of self.old.state.connections) slot))
+            (slice_get self.old.sockets.by_slot.items slot) (slice_get self.new.sockets.by_slot.items slot) }
+        ensures closed { todo_in (get (slots_of self.old.state.connections) slot) ≡ todo.Close
+            → IsFree self.new.sockets.by_slot.items slot }
+        ensures idle { todo_in (get (slots_of self.old.state.connections) slot) ≢ todo.Close → result ≡ progress.None
+            → slots_of self.new.state.connections ≡ slots_of self.old.state.connections }
         ensures queued { IsCalled (workers_of self.old.state.connections) (get (slots_of self.new.state.connections) slot) result }
         ensures bounds { bounds_of self.new.state.connections ≡ bounds_of self.old.state.connections }
     {
@@ -139,6 +149,7 @@ impl Hub {
         ensures answers { Answers (bounds_of self.old.state.connections) now (awaited self.old.state.asking change)
             reply (slots_of self.old.state.connections) (slots_of self.new.state.connections) slot }
         ensures others { AreElsewhere self.old.sockets.by_slot.items self.new.sockets.by_slot.items slot }
+        ensures kept { RemainsAt (slice_get self.old.sockets.by_slot.items slot) (slice_get self.new.sockets.by_slot.items slot) }
     {
         self.state.answer(slot, reply, change, now);
         self.run(slot, now);
@@ -149,6 +160,7 @@ impl Hub {
     fn run(&mut self, slot: usize, now: u64)
         ensures runs { RunsTo (bounds_of self.old.state.connections) now slot (slots_of self.old.state.connections) (slots_of self.new.state.connections) }
         ensures others { AreElsewhere self.old.sockets.by_slot.items self.new.sockets.by_slot.items slot }
+        ensures kept { RemainsAt (slice_get self.old.sockets.by_slot.items slot) (slice_get self.new.sockets.by_slot.items slot) }
     {
         for _ in 0..STEPS {
             if self.state.todo(slot) == Todo::Close {

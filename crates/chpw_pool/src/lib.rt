@@ -5,6 +5,7 @@
 mod accepting;
 mod attending;
 mod clock;
+mod confirming;
 mod control;
 mod datagrams;
 mod engine;
@@ -12,6 +13,7 @@ mod entrance;
 mod follower;
 mod following;
 mod hub;
+mod input_output;
 mod one_message;
 mod options;
 mod pool;

@@ -1,14 +1,18 @@
 //! The sockets of the connections.
-ghost use Rattle.std.specs.Prelude.{◌≡◌, ◌≢◌, ℕ, ◌<◌, ◌≤◌, IfOk, IfErr, IfSome, IfNone, false, true, is_some, length, slice_get, if◌then◌else◌};
+ghost use Rattle.std.specs.Prelude.{◌≡◌, ◌≢◌, ◌⊎◌, ℕ, List, ◌<◌, ◌≤◌, IfOk, IfErr, IfSome, IfNone, false, true, is_some};
+ghost use Rattle.std.specs.Prelude.{length, slice_get, if◌then◌else◌};
 ghost use Rattle.slab.specs.Slab.{get};
 ghost use Rattle.chpw_connections.specs.Held.{slots_of, bounds_of, accepted_by};
 ghost use Rattle.chpw_connections.specs.Queues.{workers_of};
+ghost use Rattle.chpw_connections.specs.Sets.{Happens};
+ghost use Rattle.chpw_connections.specs.Stages.{closed};
 ghost use Rattle.chpw_connections.specs.Todos.{todo_in};
 ghost use Rattle.chpw_connections.specs.declared.todo.Todo.TheVariants as todo;
-ghost use Rattle.chpw_pool.specs.Datagrams.{DropsDatagram};
+ghost use Rattle.chpw_pool.specs.Datagrams.{BeginsAndDrops, DropsDatagram};
 ghost use Rattle.chpw_pool.specs.Deciding.{AreElsewhere, IsFree, IsFresh, Queues, IsQueued, IsPlaced, is_decided, is_at, is_under_way};
 ghost use Rattle.chpw_pool.specs.Pools.{IsUnmade};
-ghost use Rattle.chpw_pool.specs.Places.{IsStream, KeepsSizes, has_pending};
+ghost use Rattle.chpw_pool.specs.Places.{IsStream, KeepsSizes, Stays, StaysAt};
+ghost use Rattle.chpw_pool.specs.Places.{has_pending, is_datagram, is_datagram_at, is_shut_behind, reads_on};
 ghost use Rattle.chpw_pool.specs.Steps.{IsCalled, Steps, Drains};
 ghost use Rattle.chpw_pool.specs.declared.state.Progress.TheVariants as progress;
 
@@ -38,6 +42,35 @@ pub(crate) enum Transport {
     Datagram(Datagram),
 }
 
+impl Transport {
+    // Does what is to be done for the connection, in one call of its socket.
+    fn step(
+        &mut self,
+        datagrams: &mut Option<Datagrams>,
+        state: &mut State,
+        slot: usize,
+        due: Todo,
+        buffer: &mut [u8],
+        now: u64,
+    ) -> Progress
+        ensures steps { due ≢ todo.Close → Steps (bounds_of state.old.connections) now due
+            (slots_of state.old.connections) (slots_of state.new.connections) slot }
+        ensures stays { Stays due self.old self.new }
+        ensures ended { is_datagram self.old ≡ true → reads_on due ≡ true → (result ≡ progress.Some)
+            × Happens 0 (slots_of state.old.connections) (slots_of state.new.connections) slot closed }
+        ensures idle { result ≡ progress.None → slots_of state.new.connections ≡ slots_of state.old.connections }
+        ensures waits { due ≡ todo.Wait → result ≡ progress.None }
+        ensures socket { is_some datagrams.new ≡ is_some datagrams.old }
+        ensures queued { IsCalled (workers_of state.old.connections) (get (slots_of state.new.connections) slot) result }
+        ensures bounds { bounds_of state.new.connections ≡ bounds_of state.old.connections }
+    {
+        match self {
+            Transport::Stream(socket) => socket.step(state, slot, due, buffer, now),
+            Transport::Datagram(datagram) => datagram.step(datagrams, state, slot, due, now),
+        }
+    }
+}
+
 /// A connection's socket.
 #[derive(Drop)]
 pub(crate) struct Socket {
@@ -57,9 +90,35 @@ impl Socket {
         }
     }
 
+    // Does what is to be done for its connection, in one call.
+    fn step(
+        &mut self,
+        state: &mut State,
+        slot: usize,
+        due: Todo,
+        buffer: &mut [u8],
+        now: u64,
+    ) -> Progress
+        ensures steps { due ≢ todo.Close → Steps (bounds_of state.old.connections) now due
+            (slots_of state.old.connections) (slots_of state.new.connections) slot }
+        ensures shut { self.new.is_shut ≡ is_shut_behind due self.old.is_shut }
+        ensures idle { result ≡ progress.None → slots_of state.new.connections ≡ slots_of state.old.connections }
+        ensures waits { due ≡ todo.Wait → result ≡ progress.None }
+        ensures queued { IsCalled (workers_of state.old.connections) (get (slots_of state.new.connections) slot) result }
+        ensures bounds { bounds_of state.new.connections ≡ bounds_of state.old.connections }
+    {
+        match due {
+            Todo::Read(_) => state.read(slot, &mut self.stream, buffer, now),
+            Todo::Write => state.write(slot, &mut self.stream, now),
+            Todo::Linger => self.linger(state, slot, buffer),
+            Todo::Close | Todo::Wait => Progress::None,
+        }
+    }
+
     // Shuts the writing side, and discards what still comes.
     fn linger(&mut self, state: &mut State, slot: usize, buffer: &mut [u8]) -> Progress
         ensures drained { Drains (slots_of state.old.connections) (slots_of state.new.connections) slot }
+        ensures idle { result ≡ progress.None → state.new ≡ state.old }
         ensures queued { IsCalled (workers_of state.old.connections) (get (slots_of state.new.connections) slot) result }
         ensures bounds { bounds_of state.new.connections ≡ bounds_of state.old.connections }
         ensures shut { self.new.is_shut ≡ true }
@@ -179,6 +238,14 @@ impl Sockets {
         ensures closed { todo_in (get (slots_of state.old.connections) slot) ≡ todo.Close → IsFree self.new.by_slot.items slot }
         ensures over { todo_in (get (slots_of state.old.connections) slot) ≡ todo.Close → result ≡ progress.None }
         ensures waits { todo_in (get (slots_of state.old.connections) slot) ≡ todo.Wait → result ≡ progress.None }
+        ensures idle { todo_in (get (slots_of state.old.connections) slot) ≢ todo.Close → result ≡ progress.None
+            → slots_of state.new.connections ≡ slots_of state.old.connections }
+        ensures kept { todo_in (get (slots_of state.old.connections) slot) ≢ todo.Close
+            → StaysAt (todo_in (get (slots_of state.old.connections) slot))
+            (slice_get self.old.by_slot.items slot) (slice_get self.new.by_slot.items slot) }
+        ensures ended { is_datagram_at (slice_get self.old.by_slot.items slot) ≡ true
+            → reads_on (todo_in (get (slots_of state.old.connections) slot)) ≡ true → (result ≡ progress.Some)
+            × Happens 0 (slots_of state.old.connections) (slots_of state.new.connections) slot closed }
         ensures sizes { KeepsSizes self.old self.new }
         ensures queued { IsCalled (workers_of state.old.connections) (get (slots_of state.new.connections) slot) result }
         ensures bounds { bounds_of state.new.connections ≡ bounds_of state.old.connections }
@@ -198,23 +265,9 @@ impl Sockets {
             datagrams,
             ..
         } = self;
-        match (todo, &mut by_slot[slot], datagrams) {
-            (Todo::Read(_), Some(Transport::Stream(socket)), _) => {
-                state.read(slot, &mut socket.stream, buffer, now)
-            }
-            (Todo::Write, Some(Transport::Stream(socket)), _) => {
-                state.write(slot, &mut socket.stream, now)
-            }
-            (Todo::Linger, Some(Transport::Stream(socket)), _) => {
-                socket.linger(state, slot, buffer)
-            }
-            (Todo::Write, Some(Transport::Datagram(datagram)), Some(datagrams)) => {
-                datagrams.reply(state, slot, datagram, now)
-            }
-            (Todo::Read(_) | Todo::Linger, Some(Transport::Datagram(_)), _) => state.end_input(
-                slot,
-            ),
-            _ => Progress::None,
+        match &mut by_slot[slot] {
+            Some(transport) => transport.step(datagrams, state, slot, todo, buffer, now),
+            None => Progress::None,
         }
     }
 
@@ -242,6 +295,9 @@ impl Sockets {
         ensures idle { result ≡ progress.None → state.new ≡ state.old }
         ensures bounds { bounds_of state.new.connections ≡ bounds_of state.old.connections }
         ensures dropped { result ≡ progress.Some → DropsDatagram (slots_of state.old.connections) (slots_of state.new.connections) }
+        ensures in_turn { result ≡ progress.Some → (state.new ≡ state.old) ⊎ (sender : Sender) × (message : List ℕ)
+            × BeginsAndDrops (bounds_of state.old.connections) now sender.address (accepted_by state.old.connections) message
+            (slots_of state.old.connections) (slots_of state.new.connections) }
         ensures kept { result ≡ progress.Some → self.new.by_slot.items ≡ self.old.by_slot.items }
         ensures idle_places { result ≡ progress.None → self.new.by_slot.items ≡ self.old.by_slot.items }
         ensures places { length self.new.by_slot.items ≡ length self.old.by_slot.items }
@@ -297,6 +353,9 @@ fn decide(
     ensures some { (result ≡ progress.None) → ⊥ }
     ensures bounds { bounds_of state.new.connections ≡ bounds_of state.old.connections }
     ensures dropped { result ≡ progress.Some → DropsDatagram (slots_of state.old.connections) (slots_of state.new.connections) }
+    ensures in_turn { result ≡ progress.Some → (state.new ≡ state.old)
+        ⊎ BeginsAndDrops (bounds_of state.old.connections) now sender.address (accepted_by state.old.connections) message.now
+        (slots_of state.old.connections) (slots_of state.new.connections) }
     ensures kept { result ≡ progress.Some → by_slot.new ≡ by_slot.old }
 {
     let is_decided = datagrams.is_to_be_decided(sender, message, now)
@@ -339,6 +398,9 @@ fn queue(
     ensures some { (result ≡ progress.None) → ⊥ }
     ensures bounds { bounds_of state.new.connections ≡ bounds_of state.old.connections }
     ensures dropped { result ≡ progress.Some → DropsDatagram (slots_of state.old.connections) (slots_of state.new.connections) }
+    ensures in_turn { result ≡ progress.Some → (state.new ≡ state.old)
+        ⊎ BeginsAndDrops (bounds_of state.old.connections) now sender.address (accepted_by state.old.connections) message.now
+        (slots_of state.old.connections) (slots_of state.new.connections) }
     ensures kept { result ≡ progress.Some → by_slot.new ≡ by_slot.old }
 {
     let Ok(copy) = Vec::from_slice(alloc, message) else {

@@ -1,30 +1,22 @@
 //! The connections, as reactor and workers see them under their lock.
-
-ghost use Rattle.std.specs.Prelude.{◌≡◌, ◌≢◌, ◌<◌, ◌⊎◌, ◌||◌, ◌&&◌, not, ℕ, [], ◌∷◌, length, if◌then◌else◌, nat_lt};
-ghost use Rattle.std.specs.Prelude.{IfOk, IfSome, IfNone, OnOk, OnErr, is_none, is_some, Some, None, true, false, Ok};
-ghost use Rattle.std.specs.Io as io;
+ghost use Rattle.std.specs.Prelude.{◌≡◌, ◌≢◌, ◌<◌, ◌⊎◌, ◌||◌, ◌&&◌, not, ℕ, [], ◌∷◌, length, nat_lt};
+ghost use Rattle.std.specs.Prelude.{IfSome, IfNone, is_none, Some, None, true, false};
 ghost use Rattle.slab.specs.Slab.{get, slab_len};
 ghost use Rattle.chpw_connections.specs.Held.{accepted_by, slots_of, bounds_of};
-ghost use Rattle.chpw_connections.specs.Queues.{queue_of, workers_of, DropsLate};
+ghost use Rattle.chpw_connections.specs.Queues.{queue_of, DropsLate};
 ghost use Rattle.chpw_connections.specs.Todos.{todo_in};
-ghost use Rattle.chpw_connections.specs.Sets.{Happens, IsLongest, IsNew, NobodyWaits, Passes, queued_at, is_late_in, wanted_at};
-ghost use Rattle.chpw_connections.specs.Stages.{came, taken, failed};
-ghost use Rattle.chpw_connections.specs.Room.{HappensWithRoom, for_message, is_large_in, has_room_to_read};
-ghost use Rattle.chpw_connections.specs.Counting.{count_in};
-ghost use Rattle.chpw_connections.specs.declared.counting.Counted.TheVariants as counted;
-ghost use Rattle.chpw_follower.specs.Asks.{asked_by, at_start, after_ask, after_bytes, after_loss, confirmed_by};
-ghost use Rattle.chpw_pool.specs.Following.{awaited, asking_after, Releases, ReleasesOne, is_waited_for as is_waited};
-ghost use Rattle.chpw_pool.specs.Steps.{IsAnswered, IsCalled, Takes, TakesNone, LetsGo, Gives, GivesNone, is_short_for, may_be_read, short_of};
+ghost use Rattle.chpw_connections.specs.Sets.{Happens, IsLongest, IsNew, NobodyWaits, Passes, queued_at, is_late_in};
+ghost use Rattle.chpw_connections.specs.Stages.{taken, failed};
+ghost use Rattle.chpw_follower.specs.Asks.{at_start};
+ghost use Rattle.chpw_pool.specs.Following.{is_waited_for as is_waited};
+ghost use Rattle.chpw_pool.specs.Steps.{is_short_for, short_of};
 ghost use Rattle.chpw_pool.specs.Controlling.{IsCounted, sum_of};
 ghost use Rattle.chpw_pool.specs.Rounds.{is_done, is_finished, is_looked_at, is_reading, milliseconds_to_wait, wants_reactor};
-ghost use Rattle.chpw_pool.specs.declared.state.Progress.TheVariants as progress;
 
 use crate::accepting::Accepting;
 use crate::status_reporter::ConnectionCounts;
-use crate::worker::Reply;
-use chpw_connections::{Connections, Counted, TakenMessage, Todo, Unconfirmed};
-use chpw_follower::{FollowerDialog, ProtocolFault};
-use std::io::{ErrorKind, Read, Write};
+use chpw_connections::{Connections, Counted, TakenMessage, Todo};
+use chpw_follower::FollowerDialog;
 
 /// The milliseconds between two searches for connections whose time is up.
 pub(crate) const TICK: u64 = 100;
@@ -65,7 +57,7 @@ pub(crate) struct Shortage {
 
 impl Shortage {
     /// Whether there is a shortage for messages of this kind.
-    fn is_for(self, is_large: bool) -> bool
+    pub fn is_for(self, is_large: bool) -> bool
         ensures value { result ≡ is_short_for is_large self }
     {
         if is_large {
@@ -76,7 +68,7 @@ impl Shortage {
     }
 
     /// There is a shortage for messages of this kind from now on.
-    fn begin(&mut self, is_large: bool)
+    pub fn begin(&mut self, is_large: bool)
         ensures value { self.new ≡ short_of is_large self.old }
     {
         if is_large {
@@ -209,290 +201,6 @@ impl State {
             return None;
         }
         self.connections.take(worker, now)
-    }
-
-    /// A worker's reply to a connection's message is to be written, or there is none and the connection ends. If it is
-    /// the reply to a change, after which the journal has `change` bytes, it waits until the follower has confirmed
-    /// that the KDC has as many, unless it has already.
-    pub fn answer(&mut self, slot: usize, reply: Option<Reply>, change: Option<u64>, now: u64)
-        ensures answered { IsAnswered (bounds_of self.old.connections) now (awaited self.old.asking change) reply
-            (slots_of self.old.connections) (slots_of self.new.connections) slot }
-        ensures asking { self.new.asking ≡ asking_after (awaited self.old.asking change) reply self.old.asking }
-        ensures bounds { bounds_of self.new.connections ≡ bounds_of self.old.connections }
-        ensures rest { self.new ≡ record self.old { connections = self.new.connections; asking = self.new.asking } }
-    {
-        match (reply, self.length_awaited(change)) {
-            (None, _) => self.connections.leave_unanswered(slot, now),
-            (Some(Reply { bytes, is_last }), None) => {
-                self.connections.answer(slot, bytes, is_last, now);
-            }
-            (Some(Reply { bytes, is_last }), Some(mark)) => {
-                self.asking.want(mark);
-                self.connections.defer(slot, bytes, is_last, mark, now);
-            }
-        }
-    }
-
-    // How much of the journal the follower has to confirm before the reply to a change is written.
-    fn length_awaited(&self, change: Option<u64>) -> Option<u64>
-        ensures value { result ≡ awaited self.now.asking change }
-    {
-        match change {
-            Some(mark) if !self.asking.has(mark) => Some(mark),
-            _ => None,
-        }
-    }
-
-    // The follower sent these bytes. If they confirm a mark of the journal, the replies that need no more are to be
-    // written.
-    fn hear(&mut self, bytes: &[u8], now: u64) -> Result<Option<u64>, ProtocolFault>
-        ensures asking { OnOk result (after_bytes self.old.asking bytes.now ≡ Some self.new.asking) }
-        ensures confirmed { IfOk result (λ mark. mark ≡ confirmed_by self.old.asking.asked bytes.now) }
-        ensures released { IfOk result (λ mark. Releases mark now (slots_of self.old.connections) (slots_of self.new.connections)) }
-        ensures misspoken { OnErr result (after_bytes self.old.asking bytes.now ≡ None) }
-        ensures lost { OnErr result (self.new.asking ≡ after_loss self.old.asking) }
-        ensures same { OnErr result (self.new.connections ≡ self.old.connections) }
-        ensures bounds { bounds_of self.new.connections ≡ bounds_of self.old.connections }
-        ensures rest { self.new ≡ record self.old { connections = self.new.connections; asking = self.new.asking } }
-    {
-        let confirmed = self.asking.hear(bytes)?;
-        if let Some(mark) = confirmed {
-            self.connections.confirm(mark, now);
-        }
-        Ok(confirmed)
-    }
-
-    /// As `hear`, unless the connection concerns a former journal: that is ignored.
-    pub fn hear_unless_former(
-        &mut self,
-        bytes: &[u8],
-        now: u64,
-    ) -> Result<Option<u64>, ProtocolFault>
-        ensures former { self.old.is_of_former ≡ true → (result ≡ Ok None) × (self.new ≡ self.old) }
-        ensures asking { self.old.is_of_former ≡ false → OnOk result (after_bytes self.old.asking bytes.now ≡ Some self.new.asking) }
-        ensures confirmed { self.old.is_of_former ≡ false → IfOk result (λ mark. mark ≡ confirmed_by self.old.asking.asked bytes.now) }
-        ensures released { self.old.is_of_former ≡ false
-            → IfOk result (λ mark. Releases mark now (slots_of self.old.connections) (slots_of self.new.connections)) }
-        ensures misspoken { OnErr result (after_bytes self.old.asking bytes.now ≡ None) }
-        ensures lost { OnErr result (self.new.asking ≡ after_loss self.old.asking) }
-        ensures same { OnErr result (self.new.connections ≡ self.old.connections) }
-        ensures rest { self.new ≡ record self.old { connections = self.new.connections; asking = self.new.asking } }
-    {
-        if self.is_of_former {
-            return Ok(None);
-        }
-        self.hear(bytes, now)
-    }
-
-    /// The first reply that has waited this long for the follower: it is to be written.
-    pub fn overdue(&mut self, wait: u64, now: u64) -> Option<Unconfirmed>
-        ensures released { ReleasesOne wait now (slots_of self.old.connections) (slots_of self.new.connections) result }
-        ensures unchanged { result ≡ None → self.new ≡ self.old }
-        ensures asking { self.new.asking ≡ self.old.asking }
-        ensures rest { self.new ≡ record self.old { connections = self.new.connections } }
-    {
-        self.connections.overdue(wait, now)
-    }
-
-    /// Whether an answer of the follower is due, or something is to be asked.
-    pub fn is_waited_for(&self) -> bool
-        ensures value { result ≡ is_waited self.now.asking }
-    {
-        self.asking.is_asked() || self.asking.is_to_ask()
-    }
-
-    /// The connection to the follower has ended, or there was none. Whether an answer was due: then none comes, and
-    /// nothing is asked until another change is made.
-    pub fn hang_up(&mut self) -> bool
-        ensures due { result ≡ is_some self.old.asking.asked }
-        ensures asking { self.new.asking ≡ (if result then after_loss self.old.asking else self.old.asking) }
-        ensures same { self.new.connections ≡ self.old.connections }
-        ensures rest { self.new ≡ record self.old { asking = self.new.asking } }
-    {
-        let is_due = self.asking.is_asked();
-        if is_due {
-            self.asking.lose();
-        }
-        is_due
-    }
-
-    /// Whether a reply waits for the follower.
-    pub fn has_waiting(&self) -> bool
-        ensures value { result ≡ nat_lt 0 (count_in counted.Confirming (slots_of self.now.connections)) }
-    {
-        self.connections.count(Counted::Confirming) > 0
-    }
-
-    /// Another journal has replaced the one that the follower was asked about: marks count from its beginning, and what
-    /// still comes about the former one is ignored.
-    pub fn begin_marks_anew(&mut self)
-        ensures asking { self.new.asking ≡ at_start }
-        ensures of_former { self.new.is_of_former ≡ true }
-        ensures same { self.new.connections ≡ self.old.connections }
-        ensures rest { self.new ≡ record self.old { asking = self.new.asking; is_of_former = true } }
-    {
-        self.asking = FollowerDialog::new();
-        self.is_of_former = true;
-    }
-
-    /// What is to be asked now, and whether the connection to the follower concerns a former journal: then it is closed
-    /// first.
-    pub fn ask(&mut self) -> (bool, Option<u64>)
-        ensures of_former { result.0 ≡ self.old.is_of_former }
-        ensures mark { result.1 ≡ asked_by self.old.asking }
-        ensures asking { self.new.asking ≡ after_ask self.old.asking }
-        ensures of_present { self.new.is_of_former ≡ false }
-        ensures same { self.new.connections ≡ self.old.connections }
-        ensures rest { self.new ≡ record self.old { asking = self.new.asking; is_of_former = false } }
-    {
-        let is_of_former = self.is_of_former;
-        self.is_of_former = false;
-        (is_of_former, self.asking.ask())
-    }
-
-    /// Reads what is wanted of a connection's message, as far as it has come, fits into the buffer and has room. If
-    /// there is no room, it is left in the socket.
-    pub fn read<I: Read>(
-        &mut self,
-        slot: usize,
-        reader: &mut I,
-        buffer: &mut [u8],
-        now: u64,
-    ) -> Progress
-        ensures read { Takes (bounds_of self.old.connections) now (slots_of self.old.connections) (slots_of self.new.connections) slot
-            (I.remaining reader.old) (I.remaining reader.new)
-            ⊎ TakesNone (slots_of self.old.connections) (slots_of self.new.connections) slot
-            (I.remaining reader.old) (I.remaining reader.new) }
-        ensures held_back { 0 < length buffer.old → wanted_at (get (slots_of self.old.connections) slot) ≢ 0
-            → may_be_read now self.old slot ≡ false
-            → (result ≡ progress.None) × (reader.new ≡ reader.old) × (self.new.connections ≡ self.old.connections)
-            × (self.new.shortage ≡ short_of (is_large_in (get (slots_of self.old.connections) slot)) self.old.shortage) }
-        ensures shortage { may_be_read now self.old slot ≡ true → self.new.shortage ≡ self.old.shortage }
-        ensures queued { IsCalled (workers_of self.old.connections) (get (slots_of self.new.connections) slot) result }
-        ensures bounds { bounds_of self.new.connections ≡ bounds_of self.old.connections }
-        ensures rest { self.new ≡ record self.old { connections = self.new.connections; shortage = self.new.shortage } }
-    {
-        let most = buffer.len().min(self.connections.bytes_to_read(slot));
-        if most == 0 || !self.may_read(slot, now) {
-            return Progress::None;
-        }
-        match reader.read(&mut buffer[..most]) {
-            Ok(0) => {
-                self.connections.input_ended(slot);
-                Progress::Some
-            }
-            Ok(count) => self.receive(slot, &buffer[..count], now),
-            Err(error) => self.stumble(slot, error.kind()),
-        }
-    }
-
-    // Whether the next bytes of a connection's message may be read; not if there was no room for one of its kind in
-    // this round.
-    fn may_read(&mut self, slot: usize, now: u64) -> bool
-        ensures value { result ≡ may_be_read now self.old slot }
-        ensures shortage { self.new.shortage ≡ (if result then self.old.shortage
-            else short_of (is_large_in (get (slots_of self.old.connections) slot)) self.old.shortage) }
-        ensures same { self.new.connections ≡ self.old.connections }
-        ensures rest { self.new ≡ record self.old { shortage = self.new.shortage } }
-    {
-        let is_large = self.connections.is_large(slot);
-        let may_read = !self.shortage.is_for(is_large)
-            && self.connections.has_room_to_read(slot, now);
-        if !may_read {
-            self.shortage.begin(is_large);
-        }
-        may_read
-    }
-
-    // These bytes came.
-    fn receive(&mut self, slot: usize, bytes: &[u8], now: u64) -> Progress
-        ensures happens { HappensWithRoom (for_message (bounds_of self.old.connections) now
-            (get (slots_of self.old.connections) slot)) now
-            (slots_of self.old.connections) (slots_of self.new.connections) slot (came bytes.now)
-            ⊎ HappensWithRoom (for_message (bounds_of self.old.connections) now (get (slots_of self.old.connections)
-            slot)) 0 (slots_of self.old.connections) (slots_of self.new.connections) slot failed }
-        ensures queued { IsCalled (workers_of self.old.connections) (get (slots_of self.new.connections) slot) result }
-        ensures shortage { self.new.shortage ≡ self.old.shortage }
-        ensures bounds { bounds_of self.new.connections ≡ bounds_of self.old.connections }
-        ensures rest { self.new ≡ record self.old { connections = self.new.connections } }
-    {
-        match self.connections.receive(slot, bytes, now) {
-            Some(worker) => Progress::Queued(worker),
-            None => Progress::Some,
-        }
-    }
-
-    /// Writes what is left of a connection's reply, as much as the socket takes.
-    pub fn write<W: Write>(&mut self, slot: usize, writer: &mut W, now: u64) -> Progress
-        ensures written { Gives now (slots_of self.old.connections) (slots_of self.new.connections) slot
-            (W.contents writer.old) (W.contents writer.new)
-            ⊎ GivesNone (slots_of self.old.connections) (slots_of self.new.connections) slot
-            (W.contents writer.old) (W.contents writer.new) }
-        ensures queued { IsCalled (workers_of self.old.connections) (get (slots_of self.new.connections) slot) result }
-        ensures bounds { bounds_of self.new.connections ≡ bounds_of self.old.connections }
-        ensures rest { self.new ≡ record self.old { connections = self.new.connections } }
-    {
-        let left = self.connections.pending_output(slot);
-        if left.is_empty() {
-            self.connections.wrote(slot, 0, now);
-            return Progress::Some;
-        }
-        match writer.write(left) {
-            Ok(0) => {
-                self.connections.fail(slot);
-                Progress::Some
-            }
-            Ok(count) => {
-                self.connections.wrote(slot, count, now);
-                Progress::Some
-            }
-            Err(error) => self.stumble(slot, error.kind()),
-        }
-    }
-
-    /// Reads and discards what a client still sends after its last reply.
-    pub fn drain<I: Read>(&mut self, slot: usize, reader: &mut I, buffer: &mut [u8]) -> Progress
-        ensures queued { IsCalled (workers_of self.old.connections) (get (slots_of self.new.connections) slot) result }
-        ensures drained { LetsGo (slots_of self.old.connections) (slots_of self.new.connections)
-            (I.remaining reader.old) (I.remaining reader.new)
-            ⊎ TakesNone (slots_of self.old.connections) (slots_of self.new.connections) slot
-            (I.remaining reader.old) (I.remaining reader.new) }
-        ensures bounds { bounds_of self.new.connections ≡ bounds_of self.old.connections }
-        ensures rest { self.new ≡ record self.old { connections = self.new.connections } }
-    {
-        match reader.read(buffer) {
-            Ok(0) => {
-                self.connections.input_ended(slot);
-                Progress::Some
-            }
-            Ok(_) => Progress::Some,
-            Err(error) => self.stumble(slot, error.kind()),
-        }
-    }
-
-    /// A read or a write failed: one that would have blocked is tried again once the socket is reported, one that a
-    /// signal interrupted at once; at any other fault the connection ends.
-    pub fn stumble(&mut self, slot: usize, kind: ErrorKind) -> Progress
-        ensures blocked { kind ≡ ErrorKind.WouldBlock → (result ≡ progress.None) × (self.new ≡ self.old) }
-        ensures interrupted { kind ≡ ErrorKind.Interrupted → (result ≡ progress.Some) × (self.new ≡ self.old) }
-        ensures fails { kind ≢ ErrorKind.WouldBlock → kind ≢ ErrorKind.Interrupted → (result ≡ progress.Some)
-            × Happens 0 (slots_of self.old.connections) (slots_of self.new.connections) slot failed }
-        ensures happens { Happens 0 (slots_of self.old.connections) (slots_of self.new.connections) slot failed
-            ⊎ (slots_of self.new.connections ≡ slots_of self.old.connections) }
-        ensures blocked_alone { result ≡ progress.None → slots_of self.new.connections ≡ slots_of self.old.connections }
-        ensures queued { IsCalled (workers_of self.old.connections) (get (slots_of self.new.connections) slot) result }
-        ensures shortage { self.new.shortage ≡ self.old.shortage }
-        ensures bounds { bounds_of self.new.connections ≡ bounds_of self.old.connections }
-        ensures rest { self.new ≡ record self.old { connections = self.new.connections } }
-    {
-        match kind {
-            ErrorKind::WouldBlock => Progress::None,
-            ErrorKind::Interrupted => Progress::Some,
-            _ => {
-                self.connections.fail(slot);
-                Progress::Some
-            }
-        }
     }
 
     /// Whether something is left for the reactor: connections have ended, a client waits for room, or the follower is

@@ -1,14 +1,17 @@
 //! The socket for datagrams, and those that are being answered.
-ghost use Rattle.std.specs.Prelude.{◌≡◌, ◌≤◌, [], IfErr, IfOk, false, length, take};
+ghost use Rattle.std.specs.Prelude.{◌≡◌, ◌≢◌, ◌≤◌, [], IfErr, IfOk, is_some, true, false, length, take};
 ghost use Rattle.slab.specs.Slab.{get};
 ghost use Rattle.chpw_connections.specs.Held.{slots_of, bounds_of};
 ghost use Rattle.chpw_connections.specs.Queues.{workers_of};
-ghost use Rattle.chpw_connections.specs.Sets.{left_at};
+ghost use Rattle.chpw_connections.specs.Sets.{Happens, left_at};
+ghost use Rattle.chpw_connections.specs.Stages.{closed};
+ghost use Rattle.chpw_connections.specs.declared.todo.Todo.TheVariants as todo;
 ghost use Rattle.chpw_pool.specs.Addresses.{sender_in, IsAddressOf};
 ghost use Rattle.chpw_pool.specs.Datagrams.{in_datagram};
 ghost use Rattle.chpw_pool.specs.Deciding.{is_same_datagram, is_unanswered, KeepsReply};
+ghost use Rattle.chpw_pool.specs.Places.{reads_on};
 ghost use Rattle.chpw_pool.specs.Pools.{IsUnmade};
-ghost use Rattle.chpw_pool.specs.Steps.{IsCalled, Writes};
+ghost use Rattle.chpw_pool.specs.Steps.{IsCalled, Steps, Writes};
 ghost use Rattle.chpw_pool.specs.Transfers.{is_sent, ComesOfSend};
 ghost use Rattle.chpw_pool.specs.declared.state.Progress.TheVariants as progress;
 
@@ -18,6 +21,7 @@ use crate::state::{Progress, State};
 use crate::tokens::DATAGRAMS;
 use crate::transfer::Transfer;
 use crate::worker::peer_of;
+use chpw_connections::Todo;
 use chpw_datagrams::{Answered, Sender, is_answerable};
 use mio::net::UdpSocket;
 use mio::{Interest, Registry};
@@ -43,6 +47,34 @@ impl Datagram {
         self.sender.address == sender.address
             && self.sender.port == sender.port
             && self.message.as_slice() == message
+    }
+
+    /// Does what is to be done for its connection: its reply is sent, in one call of the socket for datagrams, and then
+    /// the connection ends, for which no more comes.
+    pub fn step(
+        &mut self,
+        datagrams: &mut Option<Datagrams>,
+        state: &mut State,
+        slot: usize,
+        due: Todo,
+        now: u64,
+    ) -> Progress
+        ensures steps { due ≢ todo.Close → Steps (bounds_of state.old.connections) now due
+            (slots_of state.old.connections) (slots_of state.new.connections) slot }
+        ensures ended { reads_on due ≡ true → (result ≡ progress.Some)
+            × Happens 0 (slots_of state.old.connections) (slots_of state.new.connections) slot closed }
+        ensures idle { result ≡ progress.None → slots_of state.new.connections ≡ slots_of state.old.connections }
+        ensures waits { due ≡ todo.Wait → result ≡ progress.None }
+        ensures sender { self.new.sender ≡ self.old.sender }
+        ensures socket { is_some datagrams.new ≡ is_some datagrams.old }
+        ensures queued { IsCalled (workers_of state.old.connections) (get (slots_of state.new.connections) slot) result }
+        ensures bounds { bounds_of state.new.connections ≡ bounds_of state.old.connections }
+    {
+        match (due, datagrams) {
+            (Todo::Write, Some(datagrams)) => datagrams.reply(state, slot, self, now),
+            (Todo::Read(_) | Todo::Linger, _) => state.end_input(slot),
+            _ => Progress::None,
+        }
     }
 }
 

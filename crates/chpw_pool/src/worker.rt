@@ -93,7 +93,8 @@ fn take_turn<M: Messages, K: Decider, G: Gate + Observer, C: Clock, X: Words, J:
     worker: &mut Worker<'_, M, K, G, C, X>,
 ) -> Turn
     ensures slot { result.slot ≡ taken.now.slot }
-    ensures change { IsChangeBehind J.ends journal.now (length (K.gathered worker.old.decider)) (K.gathered worker.new.decider) result.change }
+    ensures change { IsChangeBehind J.ends journal.now (length (K.gathered worker.old.decider))
+        (K.gathered worker.new.decider) result.change }
     ensures full { result.is_full ≡ fills_at (K.gathered worker.new.decider) room }
     ensures replied { (ended : Ended) × (bytes : List ℕ) × (left : Option (List ℕ))
         × IsServed (Answering (M.error_frame worker.old.service.now)
@@ -102,7 +103,8 @@ fn take_turn<M: Messages, K: Decider, G: Gate + Observer, C: Clock, X: Words, J:
         (Unanswered K.gathered K.follows K.made G.passes G.hears (M.opens worker.old.service.now taken.now.peer) taken.now.peer)
         (λ now. M.error_frame worker.old.service.now message_too_long now)
         C.gives X.gives G.passes G.hears taken.now.peer ended
-        (stream_state (Some taken.now.message.items) worker.old.decider (Some []) worker.old.clock worker.old.words worker.old.gate.now)
+        (stream_state (Some taken.now.message.items) worker.old.decider (Some [])
+        worker.old.clock worker.old.words worker.old.gate.now)
         (stream_state left worker.new.decider (Some bytes) worker.new.clock worker.new.words worker.new.gate.now)
         × IsReplyBehind ended bytes result.reply }
 {

@@ -1,11 +1,18 @@
-use Rattle.std.proofs.Common.{refl, ◌∙◌}
+use Rattle.std.proofs.Common.{refl, rules, ◌∙◌, slice_get}
+use Rattle.slab.specs.Slab.{get}
 use Rattle.chpw_connections.specs.Held.{slots_of, bounds_of}
+use Rattle.chpw_connections.specs.Todos.{todo_in}
 use Rattle.chpw_pool.specs.Steps.{stays}
-use Rattle.chpw_pool.proofs.RunLemmas.{runs_on}
+use Rattle.chpw_pool.proofs.RunLemmas.{remains, remains_on, runs_on}
 use Rattle.chpw_pool.proofs.hub.Hub.run.Goals as goal
 
 pub loop-init : goal.loop-init
-loop-init c = record { bounds = refl; runs = stays; others = λ other differs. refl }
+loop-init c = record {
+  bounds = refl;
+  runs = stays;
+  others = λ other differs. refl;
+  kept = remains (slice_get c.args.self.now.sockets.by_slot.items c.args.slot);
+}
 
 pub returns-in-Queued : goal.returns-in-Queued
 returns-in-Queued c = record {
@@ -13,6 +20,9 @@ returns-in-Queued c = record {
       (slots_of c.args.self.now.state.connections) (slots_of c.loop.self.state.connections) (slots_of c.step.new.self.state.connections)
       c.loop.invariant.bounds c.loop.invariant.runs c.step.ensures.steps;
   others = λ other differs. c.step.ensures.others other differs ∙ c.loop.invariant.others other differs;
+  kept = remains_on (todo_in (get (slots_of c.loop.self.state.connections) c.args.slot))
+      (slice_get c.args.self.now.sockets.by_slot.items c.args.slot) (slice_get c.loop.self.sockets.by_slot.items c.args.slot)
+      (slice_get c.step.new.self.sockets.by_slot.items c.args.slot) c.loop.invariant.kept (c.step.ensures.kept (search rules));
 }
 
 pub loop-preserved : goal.loop-preserved
@@ -22,4 +32,7 @@ loop-preserved c = record {
       (slots_of c.args.self.now.state.connections) (slots_of c.loop.self.state.connections) (slots_of c.step.new.self.state.connections)
       c.loop.invariant.bounds c.loop.invariant.runs c.step.ensures.steps;
   others = λ other differs. c.step.ensures.others other differs ∙ c.loop.invariant.others other differs;
+  kept = remains_on (todo_in (get (slots_of c.loop.self.state.connections) c.args.slot))
+      (slice_get c.args.self.now.sockets.by_slot.items c.args.slot) (slice_get c.loop.self.sockets.by_slot.items c.args.slot)
+      (slice_get c.step.new.self.sockets.by_slot.items c.args.slot) c.loop.invariant.kept (c.step.ensures.kept (search rules));
 }
