@@ -10,6 +10,6 @@ set -euo pipefail
 . "$(dirname "$0")/../interop/command.sh"
 command_line any number "$@"
 cd "$(dirname "$0")/.."
-(cd crates/chpw_drill && rt run </dev/null >/dev/null)
+bench/build chpw_drill
 export PYTHONDONTWRITEBYTECODE=1
 exec python3 bench/drill.py crates/chpw_drill/out/chpw_drill "$@"

@@ -16,7 +16,7 @@ set -euo pipefail
 command_line 1 number "$@"
 cd "$(dirname "$0")/../crates/support_bench"
 export PYTHONPATH=../../bench PYTHONDONTWRITEBYTECODE=1
-log=$(rt run <stdin 2>&1) || { echo "$log" >&2; exit 1; }
+../../bench/build support_bench
 exec python3 - out/support_bench "${1:-25}" <<'END'
 import hashlib
 import ssl

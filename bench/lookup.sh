@@ -12,7 +12,7 @@ set -euo pipefail
 . "$(dirname "$0")/../interop/command.sh"
 command_line 1 number "$@"
 cd "$(dirname "$0")/../crates/support_bench"
-rt run <stdin >/dev/null
+../../bench/build support_bench
 exec python3 - out/support_bench "${1:-5}" <<'END'
 import re
 import subprocess

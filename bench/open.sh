@@ -12,7 +12,7 @@ set -euo pipefail
 command_line 1 number "$@"
 cd "$(dirname "$0")/../crates/support_bench"
 export PYTHONPATH=../../bench PYTHONDONTWRITEBYTECODE=1
-rt run <stdin >/dev/null
+../../bench/build support_bench
 out/support_bench open it 1 <stdin
 exec python3 - out/support_bench stdin "${1:-15}" <<'END'
 import sys

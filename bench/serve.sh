@@ -16,8 +16,8 @@ shopt -s inherit_errexit
 cd "$(dirname "$0")/.."
 rounds=${1:-3} changes=${2:-500}
 limit=$((60 + changes / 10))
-(cd crates/chpw_server && rt run -- drill </dev/null >/dev/null)
-(cd crates/support_bench && rt run <stdin >/dev/null)
+bench/build chpw_server
+bench/build support_bench
 work=$(mktemp -d)
 trap 'rm -rf "$work"' EXIT
 export PYTHONDONTWRITEBYTECODE=1

@@ -16,7 +16,7 @@ cd "$(dirname "$0")/../crates/support_bench"
 export PYTHONPATH=../../bench:../../interop PYTHONDONTWRITEBYTECODE=1
 room=$(mktemp -d)
 trap 'rm -rf "$room"' EXIT
-rt run <stdin >/dev/null
+../../bench/build support_bench
 python3 ../../bench/stream_input.py 100 1 >"$room/first"
 out/support_bench stream serve 1 <"$room/first"
 python3 - out/support_bench "$room" "${1:-5}" <<'END'

@@ -11,6 +11,6 @@ set -euo pipefail
 . "$(dirname "$0")/../interop/command.sh"
 command_line any number "$@"
 cd "$(dirname "$0")/.."
-(cd crates/chpw_server && rt run -- drill </dev/null >/dev/null)
+bench/build chpw_server
 export PYTHONPATH=interop PYTHONDONTWRITEBYTECODE=1
 exec python3 bench/table.py crates/chpw_server/out/chpw_server "$@"
