@@ -29,6 +29,11 @@ class Script:
     # in place of the temporary folder
     folder: str | None = None
 
+    @property
+    def where(self):
+        """On what the files are."""
+        return "in memory" if self.folder else "on the disk"
+
     def command(self, program, is_quick):
         words = [it.format(program=program) for it in (self.words[0], *(self.quick if is_quick else self.words[1:]))]
         path = HERE / words[0]
@@ -47,22 +52,22 @@ MEMORY = "/dev/shm"
 
 def followers():
     """On the disk of the temporary folder, and in memory."""
-    for folder, where in (None, "on the disk"), (MEMORY, "in memory"):
+    for folder in None, MEMORY:
         for kind, name in ("mit", "MIT"), ("heimdal", "Heimdal"):
             yield Script(("follower.py", "{program}", kind), ("{program}", kind, "100", "5", "1"),
-                         f"time to {name}'s KDC, {where}", True, folder)
+                         f"time to {name}'s KDC", True, folder)
 
 
 SCRIPTS = (
-    Script(("keys.sh",), ("1",), "keys and the cipher, beside OpenSSL"),
-    Script(("der.sh",), ("1",), "an AP-REQ as DER"),
+    Script(("keys.sh",), ("1",), "keys and the cipher, beside OpenSSL; the last line is an iteration's time over OpenSSL's"),
+    Script(("der.sh",), ("1",), "an AP-REQ as DER, megabytes a second"),
     Script(("open.sh",), ("1",), "an AP-REQ and its KRB-PRIV opened"),
-    Script(("stream.sh",), ("1",), "a change from memory to memory, by principals"),
-    Script(("lookup.sh",), ("1",), "lookups"),
+    Script(("stream.sh",), ("1",), "a change from memory to memory without its keys' derivation, by principals; at last of 100"),
+    Script(("lookup.sh",), ("1",), "lookups by one worker, by each of four, and beside a held lock; at last of 16 principals"),
     Script(("drill.sh",), ("2000",), "decisions, by events"),
     Script(("restore.sh",), ("1000", "100"), "a journal restored"),
     Script(("table.sh",), ("3000", "100"), "`table` of a long journal"),
-    Script(("serve.sh",), ("1", "20"), "changes a second over one connection each"),
+    Script(("serve.sh",), ("1", "20"), "changes a second, each client over one connection: one client and worker, four of each"),
     Script(("replays.sh",), ("500",), "replays refused"),
     Script(("sync.sh", *OF_THE_PROGRAM), (*OF_THE_PROGRAM, "--count", "3", "--changers", "1"), "a slow sync"),
     Script(("reload.sh", *OF_THE_PROGRAM), (*OF_THE_PROGRAM, "--principals", "100", "--reloads", "2"), "a reload"),

@@ -381,7 +381,7 @@ def forged(size):
     return wire.framed(0xFF80, wire.application(14, ap), private)
 
 
-def dearest():
+def most_expensive():
     """The longest message of these: between 32 kB and 64 kB lengths take as many bytes."""
     size = LONGEST_MESSAGE // 2
     size += LONGEST_MESSAGE - len(forged(size))
@@ -664,7 +664,7 @@ SIEGES = {
         entries=ENTRIES,
     ),
     # two processes, so that they are no slower than the service
-    6: Siege("a flood of dear messages", ((Flood, "flood"), (Flood, "flood")), is_flood=True, is_compared=False),
+    6: Siege("a flood of the most expensive message", ((Flood, "flood"), (Flood, "flood")), is_flood=True, is_compared=False),
 }
 
 
@@ -672,7 +672,7 @@ def parts_of(siege, options, own):
     """Kind, number and text of each process."""
     text = b""
     if siege.is_flood:
-        text = as_sent(dearest())
+        text = as_sent(most_expensive())
     elif siege.entries:
         text = own
     elif siege.kinds:
@@ -745,20 +745,20 @@ def tell(report, options, number, requests, calm, beside):
     within("files", beside.files, (options.clients or CLIENTS) + MORE_FILES)
 
 
-def tell_dearest(report, options, number):
+def tell_most_expensive(report, options, number):
     """What the flood's message is told, and in how many milliseconds where it comes alone."""
     with service(options, [HOSTILE]) as server:
-        answers, _ = ask_all(server.port, [as_sent(dearest()) for _ in range(5)], lambda: None)
+        answers, _ = ask_all(server.port, [as_sent(most_expensive()) for _ in range(5)], lambda: None)
     took = statistics.median(1000 * seconds for seconds, _ in answers)
     told = said(None, answers[-1][1])
-    report.tell(f"{number}: the dear message, alone answered in {took:.1f} ms", told, FORGED)
+    report.tell(f"{number}: the most expensive message, alone answered in {took:.1f} ms", told, FORGED)
 
 
 def measure(report, options, number):
     siege = SIEGES[number]
     print(f"siege {number}: {siege.what}", flush=True)
     if siege.is_flood:
-        tell_dearest(report, options, number)
+        tell_most_expensive(report, options, number)
     requests = list(requests_of(options.flooded if siege.is_flood else options.requests))
     calm = run(options, requests, siege.entries, lambda _: ())
     beside = run(options, requests, siege.entries, functools.partial(parts_of, siege, options))
