@@ -148,9 +148,7 @@ def calls(server, sizes):
 
 
 def waits(server, hostile, sizes):
-    """Median and longest milliseconds of an honest client's changes, and how many weren't made."""
-    if hostile and not server.tcp:
-        raise RuntimeError("it has no TCP, and so no connections")
+    """Median and longest milliseconds of an honest client's changes, None if none was made, and how many weren't."""
     client = Client(server, users_of(sizes)[0])
     drafts = client.drafts(sizes.honest)
     besiegers = Besiegers(server.tcp, [(Silent, hostile - hostile // 2, b""), (Slow, hostile // 2, b"")] if hostile else [])
@@ -160,10 +158,12 @@ def waits(server, hostile, sizes):
     finally:
         besiegers.leave()
     good = made(drafts, answers)
-    if not any(good):
-        raise RuntimeError(f"none of {len(good)} changes was made")
     times = [1000 * seconds for seconds, is_made in zip(times, good) if is_made]
-    return statistics.median(times), max(times), good.count(False)
+    if times:
+        return statistics.median(times), max(times), good.count(False)
+    if not hostile:
+        raise RuntimeError(f"none of {len(good)} changes was made")
+    return None, None, len(good)
 
 
 def tried(missing, what, work):
@@ -186,7 +186,9 @@ def measure(program, kinds, sizes):
             name = server.NAME
             found["cost"][kind] = tried(missing, f"{name}: processor", lambda: cost(server, sizes))
             found["calls"][kind] = tried(missing, f"{name}: system calls", lambda: calls(server, sizes))
-            for hostile in sizes.hostile:
+            if not server.tcp:
+                missing[f"{name}: wait beside connections"] = "it has no TCP, and so none"
+            for hostile in sizes.hostile if server.tcp else (0,):
                 what = f"{name}: wait beside {hostile:,} connections"
                 found["waits"][kind, hostile] = tried(missing, what, lambda: waits(server, hostile, sizes))
     return found, missing

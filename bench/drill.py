@@ -34,11 +34,16 @@ def drill_seconds(program, requests):
         return spent([program], script.name)
 
 
+def least_seconds(program, requests):
+    return min(drill_seconds(program, requests) for _ in range(3))
+
+
 def main():
     program, *counts = sys.argv[1:]
+    empty = least_seconds(program, 0)
     for requests in map(int, counts) if counts else REQUESTS:
-        least = min(drill_seconds(program, requests) for _ in range(3))
-        print(f"{requests} requests over {PRINCIPALS} principals in {least:.2f} s", flush=True)
+        seconds = least_seconds(program, requests) - empty
+        print(f"{requests} requests over {PRINCIPALS} principals in {seconds:.4f} s", flush=True)
 
 
 main()
