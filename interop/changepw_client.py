@@ -231,12 +231,15 @@ def ap_req(client, ctime, cusec, initial, service, kvno, subkey, starts, address
     )
 
 
-def change_data(password, target):
-    """A ChangePasswdData (RFC 3244 section 2)."""
+def change_data(password, target, realm="own", further=None):
+    """A ChangePasswdData (RFC 3244 section 2). Beside a target stands the realm, unless another value or None is given."""
+    if realm == "own":
+        realm = REALM if target else None
     return sequence(
         (0, octets(password)),
         (1, name(1, target) if target else None),
-        (2, string(REALM) if target else None),
+        (2, string(realm) if realm else None),
+        (3, further),
     )
 
 
@@ -340,6 +343,14 @@ def cases():
         ("old_by_admin", b"admin", b"New-pass2", {"old": True}),
         ("old_forged_private", b"alice", b"New-pass2", {"old": True, "forged": True}),
         ("old_no_ap_req", b"alice", b"New-pass2", {"old": True, "ap_first": 0x6F}),
+        ("old_names_bob_alone", b"alice", change_data(b"New-pass2", b"bob", None), {"old": True}),
+        ("old_names_realm", b"alice", change_data(b"New-pass2", None, REALM), {"old": True}),
+        ("old_names_bob_further", b"alice", change_data(b"New-pass2", b"bob", further=integer(7)), {"old": True}),
+        ("old_names_none_further", b"alice", change_data(b"New-pass2", None, further=integer(7)), {"old": True}),
+        ("old_names_bob_trailing", b"alice", change_data(b"New-pass2", b"bob") + b"!", {"old": True}),
+        ("old_names_none", b"alice", change_data(b"New-pass2", None), {"old": True}),
+        ("old_admin_sets_bobs", b"admin", change_data(b"New-pass2", b"bob"), {"old": True}),
+        ("old_names_bob_forged", b"alice", change_data(b"New-pass2", b"bob"), {"old": True, "forged": True}),
     ]
     for cusec, (what, client, password, changes) in enumerate(table, 1):
         ctime = changes.get("ctime", 1_000_100)

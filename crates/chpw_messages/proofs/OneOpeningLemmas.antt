@@ -1,11 +1,9 @@
 -- A message opens to one answer.
 use Rattle.std.proofs.Common.{◌≡◌, ℕ, List, Bool, true, Option, Some, None, option_map, Result, Ok, Err, refl, sym, ◌∙◌, ap, subst, false}
-use Rattle.std.specs.Prelude.{◌==◌, option_and_then}
+use Rattle.std.specs.Prelude.{◌==◌}
 use Rattle.krb_keys.specs.Keys.{IsProtocolKey}
 use Rattle.krb_codec.proofs.CompleteLemmas.{one_value}
 use Rattle.krb_der.specs.Types.{change_passwd_data}
-use Rattle.krb_der.specs.Values.{change_passwd_data_value}
-use Rattle.krb_der.specs.declared.change_passwd_data.ChangePasswdData.{ChangePasswdData}
 use Rattle.krb_der.specs.declared.principal_name.PrincipalName.{PrincipalName}
 use Rattle.krb_msgs.specs.ApExchange.{OpensAp}
 use Rattle.krb_msgs.specs.OneAnswer.{AreProtocolKeys, IsOne}
@@ -16,7 +14,6 @@ use Rattle.krb_msgs.specs.declared.fault.ApFault.{ApFault}
 use Rattle.krb_msgs.specs.declared.fault.PrivFault.{PrivFault}
 use Rattle.krb_msgs.proofs.OneAnswerLemmas.{ap_reqs_open_once, privs_open_once, subkey_is_key}
 use Rattle.chpw_frame.specs.declared.change_data.ChangeData.{ChangeData}
-use Rattle.chpw_frame.specs.declared.change_data.ChangeTarget.{ChangeTarget}
 use Rattle.chpw_frame.specs.declared.fault.FrameFault.{FrameFault}
 use Rattle.chpw_frame.specs.Asked.{asks}
 use Rattle.chpw_frame.specs.ChangeData.{change_value, Finds}
@@ -25,28 +22,9 @@ use Rattle.chpw_frame.proofs.ChangeLemmas.{asks_complete}
 use Rattle.chpw_serve.specs.Requests.{Content, new_password, bad_private, bad_data, opened}
 use Rattle.chpw_messages.specs.Opening.{Asks, IsContent, IsUserData, OpensAs, OpensFramed, OpensParts, request_of, stamp_in, target_in}
 use Rattle.chpw_messages.specs.OneOpening.{MessagesOpenOnce}
+use Rattle.chpw_messages.proofs.OldPasswordLemmas.{fields_of, fields_value, one_old_password}
 
 -- ---- what is asked
-
--- the fields of a change
-abbrev fields_of : ChangeData → ChangePasswdData
-fields_of change = record {
-  newpasswd = change.password;
-  targname = option_map (λ (t : ChangeTarget). t.name) change.target;
-  targrealm = option_and_then (λ (t : ChangeTarget). t.realm) change.target;
-}
-
-fields_value : (password : List ℕ) (target : Option ChangeTarget)
-    → change_value (record { password = password; target = target })
-    ≡ change_passwd_data_value (fields_of (record { password = password; target = target }))
-fields_value password None = refl
-fields_value password (Some target) = of_realm target.name target.realm
-  where
-    of_realm : (name : PrincipalName) (realm : Option (List ℕ))
-        → change_value (record { password = password; target = Some (record { name = name; realm = realm }) })
-        ≡ change_passwd_data_value (record { newpasswd = password; targname = Some name; targrealm = realm })
-    of_realm name None = refl
-    of_realm name (Some realm) = refl
 
 one_asks : (password : List ℕ) (name : Option PrincipalName) (realm : Option (List ℕ)) → IsOne (Finds (asks password name realm))
 one_asks password (Some name) realm one other h k = sym h ∙ k
@@ -75,7 +53,7 @@ one_change realm bytes bad_data bad_private h k = absurd k
 one_change realm bytes bad_private other h k = absurd h
 
 one_said : (is_old : Bool) (realm bytes : List ℕ) → IsOne (IsUserData is_old realm bytes)
-one_said true realm bytes one other h k = h ∙ sym k
+one_said true realm bytes one other h k = one_old_password bytes one other h k
 one_said false realm bytes one other h k = one_change realm bytes one other h k
 
 one_content : (realm : List ℕ) (version : ℕ) (private : Result Private PrivFault) → IsOne (IsContent realm version private)

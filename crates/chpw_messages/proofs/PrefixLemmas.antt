@@ -53,7 +53,7 @@ none_left subkey seq_number tail k m h lt =
 abbrev without_content : Request → Request
 without_content q = record q { stamp = None; content = bad_data }
 
-request_is : (q r : Request) → opened q ≡ opened r → q ≡ r
+pub request_is : (q r : Request) → opened q ≡ opened r → q ≡ r
 request_is q r h = cc
 
 -- the same AP-REQ with less of a KRB-PRIV behind it
@@ -96,12 +96,12 @@ no_header n bytes lt =
     let short : nat_lt (length (shortened n bytes)) 6 ≡ true = is_below _ _ (omega (arith, size, lt)) in
     rw short refl
 
-opens_so : (realm : List ℕ) (keys : List ServiceKey) (peer bytes : List ℕ) (o : Opens) (f : Option FrameFault)
+pub opens_so : (realm : List ℕ) (keys : List ServiceKey) (peer bytes : List ℕ) (o : Opens) (f : Option FrameFault)
     → first_fault request_versions false bytes ≡ f → OpensFramed realm keys peer bytes f o → OpensTo realm keys peer bytes o
 opens_so realm keys peer bytes o f is h = subst (λ (g : Option FrameFault). OpensFramed realm keys peer bytes g o) (sym is) h
 
 -- a request has no fault
-opened_has_none : (realm : List ℕ) (keys : List ServiceKey) (peer bytes : List ℕ) (q : Request) (f : Option FrameFault)
+pub opened_has_none : (realm : List ℕ) (keys : List ServiceKey) (peer bytes : List ℕ) (q : Request) (f : Option FrameFault)
     → first_fault request_versions false bytes ≡ f → OpensFramed realm keys peer bytes f (opened q)
     → (first_fault request_versions false bytes ≡ None) × OpensParts realm keys peer (version_of bytes) (ap_of bytes) (tail_of bytes) (opened q)
 opened_has_none realm keys peer bytes q (Some fault) is h = absurd cc

@@ -1,5 +1,5 @@
 -- What is made of a request opens to it.
-use Rattle.std.proofs.Common.{ℕ, List, Bool, true, false, Option, None, Ok, refl, sym, ◌∙◌, ap, subst}
+use Rattle.std.proofs.Common.{ℕ, List, Bool, true, false, Option, Ok, refl, sym, ap, subst}
 use Rattle.krb_codec.proofs.TextLemmas.{text_spells}
 use Rattle.krb_der.specs.Types.{change_passwd_data}
 use Rattle.krb_msgs.specs.Accepted.{opened_of}
@@ -8,7 +8,6 @@ use Rattle.krb_msgs.proofs.OpeningLemmas.{ap_reqs_open, privs_open}
 use Rattle.chpw_frame.specs.declared.fault.FrameFault.{FrameFault}
 use Rattle.chpw_frame.specs.Framing.{ap_of, framed, old_request_version, request_versions, tail_of}
 use Rattle.chpw_frame.specs.declared.change_data.ChangeData.{ChangeData}
-use Rattle.chpw_frame.specs.declared.change_data.ChangeTarget.{ChangeTarget}
 use Rattle.chpw_frame.specs.ChangeData.{IsChange, change_value}
 use Rattle.chpw_frame.proofs.FramingLemmas.{framed_is_whole}
 use Rattle.chpw_serve.specs.Requests.{new_password}
@@ -19,9 +18,7 @@ use Rattle.chpw_messages.specs.Laws.{FramesOpen, PartsOpen, SaysChange}
 -- user-data that asks for a change is read as that change
 change_said : (realm : List ℕ) (is_old : Bool) (bytes : List ℕ) (change : ChangeData) → SaysChange is_old bytes change
     → IsUserData is_old realm bytes (new_password (option_map (target_in realm) change.target) change.password)
-change_said realm true bytes change says =
-    ap (λ (t : Option ChangeTarget). new_password (option_map (target_in realm) t) change.password) says.0
-    ∙ ap (λ (p : List ℕ). new_password None p) (sym says.1)
+change_said realm true bytes change says = (says.2, ap (option_map (target_in realm)) says.0, sym says.1)
 change_said realm false bytes change says =
     let spelled = text_spells change_passwd_data refl (change_value change) says.0 in
     (change, subst (λ (b : List ℕ). IsChange b change) (sym says.1) spelled, refl, refl)

@@ -19,12 +19,13 @@ use Rattle.chpw_frame.specs.Framing.{framed, header_length, old_request_version,
 use Rattle.chpw_frame.specs.Stream.{longest}
 use Rattle.chpw_frame.specs.ChangeData.{change_value}
 use Rattle.chpw_serve.specs.Requests.{Opens, Request, opened, new_password}
+use Rattle.chpw_messages.specs.OldPasswords.{NamesTarget}
 use Rattle.chpw_messages.specs.Opening.{OpensParts, OpensTo, request_of, target_in}
 
--- User-data that asks for a change: in the earlier protocol the new password itself, with no target;
--- in the other its ChangePasswdData (RFC 3244 section 2).
+-- User-data that asks for a change: in the earlier protocol the new password itself, with no target, which must not be
+-- a ChangePasswdData with one; in the other its ChangePasswdData (RFC 3244 section 2).
 abbrev pub SaysChange : Bool → List ℕ → ChangeData → Type 0
-SaysChange true bytes change = (change.target ≡ None) × (bytes ≡ change.password)
+SaysChange true bytes change = (change.target ≡ None) × (bytes ≡ change.password) × (NamesTarget bytes → ⊥)
 SaysChange false bytes change =
     (fits change_passwd_data (change_value change) ≡ true) × (bytes ≡ text change_passwd_data (change_value change))
 

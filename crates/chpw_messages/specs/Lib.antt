@@ -1,7 +1,9 @@
 pub mod Replies
+pub mod OldPasswords
 pub mod Opening
 pub mod Versions
 pub mod VersionLaws
+pub mod ChangedVersions
 pub mod Service
 pub mod Holds
 pub mod Laws

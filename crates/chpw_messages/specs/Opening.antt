@@ -26,6 +26,7 @@ use Rattle.chpw_table.specs.declared.request.Target.{Target}
 use Rattle.chpw_table.specs.Replies.{by_error}
 use Rattle.chpw_serve.specs.declared.messages.Seal.{Seal}
 use Rattle.chpw_serve.specs.Requests.{Content, new_password, bad_private, bad_data, Request, Opens, refused, opened}
+use Rattle.chpw_messages.specs.OldPasswords.{IsOldPassword}
 
 -- ---- the new password
 
@@ -44,10 +45,9 @@ Asks realm bytes (new_password target password) =
 Asks realm bytes bad_data = (change : ChangeData) → IsChange bytes change → ⊥
 Asks realm bytes bad_private = ⊥
 
--- The user-data of the earlier protocol is the new password itself, the client's own
--- (draft-ietf-cat-kerb-chg-password-02 section 3); otherwise it is a ChangePasswdData.
+-- in the earlier protocol the new password itself, unless that names a target; otherwise a ChangePasswdData
 abbrev pub IsUserData : Bool → List ℕ → List ℕ → Content → Type 0
-IsUserData true realm bytes content = content ≡ new_password None bytes
+IsUserData true realm bytes content = IsOldPassword bytes content
 IsUserData false realm bytes content = Asks realm bytes content
 
 -- the user-data of a request of this version

@@ -1,8 +1,9 @@
 //! The content of a KRB-PRIV (RFC 4120 section 3.5.2, RFC 3244 section 2).
-ghost use Rattle.std.specs.Prelude.{◌≡◌, [], IfOk, option_map};
+ghost use Rattle.std.specs.Prelude.{◌≡◌, ◌↔◌, [], IfOk, IsTrue, option_map};
 ghost use Rattle.chpw_table.specs.declared.request.Target.{Target};
 ghost use Rattle.chpw_serve.specs.Requests as requests;
 ghost use Rattle.chpw_serve.specs.Requests.{body_under, new_password};
+ghost use Rattle.chpw_messages.specs.OldPasswords.{IsOldPassword, NamesTarget};
 ghost use Rattle.chpw_messages.specs.Opening.{Asks, IsAsked, content_despite, target_in};
 ghost use Rattle.chpw_messages.specs.Holds.{HoldsContent, IsHeld};
 
@@ -65,7 +66,8 @@ fn body_despite(fault: PrivFault) -> Body
     }
 }
 
-/// The content of one that opened: in the earlier protocol the new password itself, otherwise a ChangePasswdData.
+/// The content of one that opened: in the earlier protocol the new password itself, unless that names a target; otherwise a
+/// ChangePasswdData.
 fn read_content(
     alloc: Global,
     realm: &[u8],
@@ -77,13 +79,42 @@ fn read_content(
 {
     let Private { user_bytes, stamp } = private;
     if version == OLD_REQUEST_VERSION {
-        let change = ChangeData {
-            password: user_bytes,
-            target: None,
-        };
-        change_content(alloc, realm, change, stamp)
+        read_old_password(alloc, realm, user_bytes, stamp)
     } else {
         read_change(alloc, realm, user_bytes, stamp)
+    }
+}
+
+/// The content of a new password itself. A ChangePasswdData with a target is none: the version of a request to set
+/// another's password was changed on the way.
+fn read_old_password(
+    alloc: Global,
+    realm: &[u8],
+    user_bytes: OctetString,
+    stamp: Option<i64>,
+) -> Result<Content, AllocError>
+    ensures content { IfOk result (λ h. (c : requests.Content)
+        × IsOldPassword user_bytes c × IsHeld c stamp h) }
+{
+    if names_target(alloc, user_bytes.as_slice())? {
+        return Ok(bare(alloc, Body::BadData, stamp));
+    }
+    let change = ChangeData {
+        password: user_bytes,
+        target: None,
+    };
+    change_content(alloc, realm, change, stamp)
+}
+
+/// Whether bytes are a ChangePasswdData with a targname, a targrealm, or both (RFC 3244 section 2).
+fn names_target(alloc: Global, bytes: &[u8]) -> Result<bool, AllocError>
+    ensures value { IfOk result (λ named. IsTrue named ↔ NamesTarget bytes.now) }
+{
+    match read_change_data(alloc, bytes) {
+        Ok(change) => Ok(change.target.is_some()),
+        Err(ChangeFault::NotChangeData) => Ok(false),
+        Err(ChangeFault::RealmWithoutName) => Ok(true),
+        Err(ChangeFault::Memory) => Err(AllocError),
     }
 }
 

@@ -1,6 +1,7 @@
 //! Laws of the definitions alone, and worked replies.
 ghost use Rattle.std.specs.Prelude.{List};
 ghost use Rattle.chpw_table.specs.declared.history.Receipt.{Receipt};
+ghost use Rattle.chpw_messages.specs.ChangedVersions.{FlippedSetsAreBadData, FlippedSetsChangeNoKey, SetsAreTargeted};
 ghost use Rattle.chpw_messages.specs.Laws.{FramesOpen, PartsOpen};
 ghost use Rattle.chpw_messages.specs.OneOpening.{MessagesOpenOnce};
 ghost use Rattle.chpw_messages.specs.Prefixes.{KrbPrivsFollow, PrefixesOpen};
@@ -10,8 +11,8 @@ ghost use Rattle.chpw_messages.specs.WorkedReplies.{MalformedReply, VersionReply
 
 use chpw_decider::Decider;
 
-/// The two parts of a request for a password change, made from their records, open to that request, in either version;
-/// and parts in a frame open as they do.
+/// The two parts of a request for a password change, made from their records, open to that request, in either version, but
+/// in the earlier one only if the password is no ChangePasswdData with a target; and parts in a frame open as they do.
 pub fn openings()
     ensures parts { PartsOpen }
     ensures frames { FramesOpen }
@@ -36,6 +37,14 @@ pub fn versions()
 /// Whoever decides for such a service has the same receipts after a message of another version: it adds no entry.
 pub fn other_versions<D: Decider>()
     ensures adds { (decider : D) (receipts : List Receipt) → OthersAddNothing (D.may_be_full decider receipts) }
+{}
+
+/// A request of RFC 3244 that names a target changes no key if its version is changed into that of the earlier protocol:
+/// the same bytes are refused, or are the same request with bad data, and that leaves the keys of all principals.
+pub fn changed_versions()
+    ensures targets { SetsAreTargeted }
+    ensures keys { FlippedSetsChangeNoKey }
+    ensures same { FlippedSetsAreBadData }
 {}
 
 /// A reply opens, for the client that asked, to the result code, the text and the error code that it was made from.
