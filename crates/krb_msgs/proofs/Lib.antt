@@ -8,5 +8,6 @@ pub mod InverseLemmas
 pub mod OctetLemmas
 pub mod UniqueLemmas
 pub mod OneAnswerLemmas
+pub mod StrictLemmas
 pub mod ReplyFittingLemmas
 pub mod WordLemmas

@@ -45,7 +45,7 @@ use Rattle.krb_msgs.proofs.UniqueLemmas.{one_found, one_held, one_passed, one_so
 
 -- ---- parts
 
-one_read : {X F : Type 0} (s : Shape) (view : X → Value s) (text : List ℕ) (fault : F)
+pub one_read : {X F : Type 0} (s : Shape) (view : X → Value s) (text : List ℕ) (fault : F)
     → is_legal s ≡ true → TellsApart view → IsOne (Reads s view text fault)
 one_read s view text fault legal apart =
     one_found (λ x. Spells s text (view x)) fault Passed
@@ -56,7 +56,7 @@ one_unsealed : {F : Type 0} (key : Key) (usage : ℕ) (part : EncryptedData) (fa
 one_unsealed key usage part fault is_key =
     one_found _ fault Passed (λ plain other h k. sealed_once key usage part.cipher plain other is_key h.1 k.1) (λ x _. one_passed x)
 
-one_part : {X F : Type 0} (s : Shape) (view : X → Value s) (key : Key) (usage : ℕ) (part : EncryptedData) (f g : F)
+pub one_part : {X F : Type 0} (s : Shape) (view : X → Value s) (key : Key) (usage : ℕ) (part : EncryptedData) (f g : F)
     → is_legal s ≡ true → TellsApart view → IsProtocolKey key → IsOne (OpensPart s view key usage part f g)
 one_part s view key usage part f g legal apart is_key =
     one_then (Unseals key usage part f) (λ plain. Reads s view plain g) (one_unsealed key usage part f is_key)
@@ -169,11 +169,11 @@ ap_reqs_open_once realm keys bytes peer are =
 
 pub privs_open_once : PrivsOpenOnce
 unfolding OpensPriv
-privs_open_once subkey seq_number bytes is_key =
+privs_open_once strictness subkey seq_number bytes is_key =
     one_then _ _ (one_read krb_priv krb_priv_value bytes _ refl krb_priv_apart) (λ m _.
     one_held _ _ _
     (one_then _ _ (one_part enc_krb_priv_part enc_krb_priv_part_value subkey _ m.enc_part _ _ refl priv_part_apart is_key) (λ part _.
-    one_held _ _ _ (one_passed (private_of part)))))
+    one_held _ _ _ (one_held _ _ _ (one_passed (private_of part))))))
 
 one_code : (bytes : List ℕ) (error : Option ℤ) → IsOne (SaysCode bytes error)
 one_code bytes error = one_held _ _ _ (one_passed (reply_of bytes error))

@@ -29,10 +29,11 @@ use Rattle.krb_msgs.specs.Presented.{HasVersion, IsForUs, IsServiceKey, UsesSess
 use Rattle.krb_msgs.specs.Tickets.{IsKeyIn}
 use Rattle.krb_msgs.specs.Accepted.{IsSameClient, IsSubkey, MayComeFrom, opened_of}
 use Rattle.krb_msgs.specs.ApExchange.{OpensAp}
-use Rattle.krb_msgs.specs.PrivateMessages.{IsPrivate, MayFollow, OpensPriv, private_of}
+use Rattle.krb_msgs.specs.PrivateMessages.{IsPrivate, MayFollow, OpensPriv, meets, private_of}
 use Rattle.krb_msgs.specs.Replies.{IsApRep, IsKrbError, OpensReply}
 use Rattle.krb_msgs.specs.OneAnswer.{AreProtocolKeys}
 use Rattle.krb_msgs.specs.declared.ap_exchange.ApOpened.{ApOpened}
+use Rattle.krb_msgs.specs.declared.private_message.Strictness.{Strictness}
 use Rattle.krb_msgs.specs.declared.service_keys.ServiceKey.{ServiceKey}
 
 -- a part seals the text of a value that fits, whose bytes are bytes, under a confounder of 16 bytes
@@ -78,11 +79,12 @@ pub record IsKrbPriv (subkey : Key) (m : KrbPriv) (part : EncKrbPrivPart) : Type
   pub private : IsPrivate m
   pub sealed : Seals subkey usage_krb_priv m.enc_part enc_krb_priv_part (enc_krb_priv_part_value part)
 
--- its text opens to what the record says, after an authenticator that it may follow
+-- its text opens to what the record says, after an authenticator that it may follow, unless messages are strict and it
+-- isn't
 abbrev pub PrivsOpen : Type 0
-PrivsOpen = (subkey : Key) (seq_number : Option SeqNumber) (m : KrbPriv) (part : EncKrbPrivPart)
-    → IsKrbPriv subkey m part → MayFollow seq_number part.seq_number
-    → OpensPriv subkey seq_number (text krb_priv (krb_priv_value m)) (Ok (private_of part))
+PrivsOpen = (strictness : Strictness) (subkey : Key) (seq_number : Option SeqNumber) (m : KrbPriv) (part : EncKrbPrivPart)
+    → IsKrbPriv subkey m part → MayFollow seq_number part.seq_number → meets strictness seq_number part ≡ true
+    → OpensPriv strictness subkey seq_number (text krb_priv (krb_priv_value m)) (Ok (private_of part))
 
 -- Of an AP-REQ that opens, only the sealed parts and the service key count: two with the same ones open alike, whatever
 -- else their bytes say.

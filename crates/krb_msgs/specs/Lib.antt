@@ -9,6 +9,7 @@ pub mod Authenticators
 pub mod Accepted
 pub mod ApExchange
 pub mod PrivateMessages
+pub mod StrictLaws
 pub mod Replies
 pub mod Making
 pub mod Laws

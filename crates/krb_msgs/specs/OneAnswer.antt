@@ -9,6 +9,7 @@ use Rattle.krb_codec.specs.declared.numbers.SeqNumber.{SeqNumber}
 use Rattle.krb_msgs.specs.ApExchange.{OpensAp}
 use Rattle.krb_msgs.specs.PrivateMessages.{OpensPriv}
 use Rattle.krb_msgs.specs.Replies.{OpensReply}
+use Rattle.krb_msgs.specs.declared.private_message.Strictness.{Strictness}
 use Rattle.krb_msgs.specs.declared.service_keys.ServiceKey.{ServiceKey}
 
 abbrev pub IsOne : {A : Type 0} → (A → Type 0) → Type 0
@@ -23,8 +24,8 @@ ApReqsOpenOnce = (realm : List ℕ) (keys : List ServiceKey) (bytes peer : List 
     → AreProtocolKeys keys → IsOne (OpensAp realm keys bytes peer)
 
 abbrev pub PrivsOpenOnce : Type 0
-PrivsOpenOnce = (subkey : Key) (seq_number : Option SeqNumber) (bytes : List ℕ)
-    → IsProtocolKey subkey → IsOne (OpensPriv subkey seq_number bytes)
+PrivsOpenOnce = (strictness : Strictness) (subkey : Key) (seq_number : Option SeqNumber) (bytes : List ℕ)
+    → IsProtocolKey subkey → IsOne (OpensPriv strictness subkey seq_number bytes)
 
 abbrev pub RepliesOpenOnce : Type 0
 RepliesOpenOnce = (session subkey : Key) (ctime : KerberosTime) (cusec : Microseconds)

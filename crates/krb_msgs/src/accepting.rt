@@ -18,7 +18,8 @@ fn is_same_client(part: &EncTicketPart, authenticator: &Authenticator) -> bool
     part.crealm == authenticator.crealm && part.cname.name_string == authenticator.cname.name_string
 }
 
-fn is_ipv4(address: &HostAddress, peer: [u8; 4]) -> bool
+// Whether an address is this IPv4 address.
+pub(crate) fn is_ipv4(address: &HostAddress, peer: [u8; 4]) -> bool
     ensures { result ≡ is_ipv4 peer address.now }
 {
     address.addr_type == ADDR_TYPE_IPV4 && address.address.as_slice() == peer.as_slice()

@@ -115,6 +115,10 @@ pub enum PrivFault {
     /// Its sequence number isn't the authenticator's, and both are present.
     #[error("another sequence number")]
     WrongSeqNumber,
+    /// Messages are strict, and it lacks the sequence number that the authenticator has, or the microseconds of its
+    /// timestamp, or names another recipient than 127.0.0.1.
+    #[error("no number, no microseconds or another recipient")]
+    Loose,
 }
 
 /// Why a reply is refused. The AP-REP is checked in full before what follows it, and of each message the part in the

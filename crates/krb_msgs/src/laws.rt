@@ -2,6 +2,7 @@
 
 ghost use Rattle.krb_msgs.specs.Laws.{ApReqsOpen, ApReqsOpenAlike, ErrorsOpen, PrivsOpen, RepliesOpen};
 ghost use Rattle.krb_msgs.specs.OneAnswer.{ApReqsOpenOnce, PrivsOpenOnce, RepliesOpenOnce};
+ghost use Rattle.krb_msgs.specs.StrictLaws.{LoosePrivsAreRefused, OtherPrivsOpenAlike, StrictPrivsOpen};
 ghost use Rattle.krb_msgs.specs.Lengths.{ShortTextsFit, TextsAreShort};
 ghost use Rattle.krb_msgs.specs.ReplyFitting.{ApRepPartsFit, ErrorsFit, PrivPartsFit};
 ghost use Rattle.krb_msgs.specs.Fitting.{ApRepsFit, ApReqsFit, OpenedTimesFit, PrivsFit, TicketsAreShort, TicketsFit};
@@ -26,6 +27,13 @@ pub fn one_answer()
     ensures ap_req { ApReqsOpenOnce }
     ensures krb_priv { PrivsOpenOnce }
     ensures reply { RepliesOpenOnce }
+{}
+
+/// With strict messages a KRB-PRIV whose part isn't strict is refused, and each other is answered as without.
+pub fn strict_messages()
+    ensures loose { LoosePrivsAreRefused }
+    ensures strict { StrictPrivsOpen }
+    ensures others { OtherPrivsOpenAlike }
 {}
 
 /// A text is no longer than a sum over its value, and a value in its range whose text is short

@@ -2,15 +2,30 @@
 
 ghost use Rattle.std.specs.Prelude.{◌≡◌, ◌↔◌, IsTrue};
 ghost use Rattle.krb_msgs.specs.Answers.{Answers};
+ghost use Rattle.krb_msgs.specs.PrivateMessages as specs_of;
 ghost use Rattle.krb_msgs.specs.PrivateMessages.{IsPrivate, MayFollow, OpensPriv, private_of};
 
+use crate::accepting::is_ipv4;
 use crate::ap_exchange::ApOpened;
 use crate::fault::{OpenError, PrivFault};
 use crate::opening::{open_part, read_record};
-use krb_der::{EncKrbPrivPart, KrbPriv, OctetString, SeqNumber};
+use krb_der::{EncKrbPrivPart, HostAddress, KrbPriv, OctetString, SeqNumber};
 use krb_keys::USAGE_KRB_PRIV;
 use krb_protocol::{KRB_PRIV, PVNO};
 use std::alloc::Global;
+
+/// Which KRB-PRIVs are taken.
+#[derive(Clone, Copy, PartialEq, Eq, Debug, Drop)]
+pub enum Strictness {
+    /// Those whose sequence number is the authenticator's, where both have one.
+    Lenient,
+    /// Of these, those with a sequence number if the authenticator has one, with microseconds beside a timestamp, and
+    /// with no recipient's address but 127.0.0.1, as RFC 4120 section 3.5.2 asks.
+    Strict,
+}
+
+/// The service's address, of the type IPv4: it listens on loopback only.
+const LOOPBACK: [u8; 4] = [127, 0, 0, 1];
 
 /// What a KRB-PRIV says, once it is opened.
 #[derive(Drop)]
@@ -38,6 +53,44 @@ fn may_follow(first: Option<SeqNumber>, second: Option<SeqNumber>) -> bool
     }
 }
 
+// Whether messages aren't strict, or this one is.
+fn meets(strictness: Strictness, first: Option<SeqNumber>, part: &EncKrbPrivPart) -> bool
+    ensures { result ≡ specs_of.meets strictness first part.now }
+{
+    match strictness {
+        Strictness::Lenient => true,
+        Strictness::Strict => {
+            has_expected_number(first, part.seq_number)
+                && has_whole_time(part)
+                && is_recipient(&part.r_address)
+        }
+    }
+}
+
+// Whether the sequence number that is expected is there.
+fn has_expected_number(first: Option<SeqNumber>, second: Option<SeqNumber>) -> bool
+    ensures { result ≡ specs_of.has_expected_number first second }
+{
+    first.is_none() || second.is_some()
+}
+
+// Whether microseconds stand beside a timestamp.
+fn has_whole_time(part: &EncKrbPrivPart) -> bool
+    ensures { result ≡ specs_of.has_whole_time part.now }
+{
+    part.timestamp.is_none() || part.usec.is_some()
+}
+
+// Whether no recipient is named, or the service.
+fn is_recipient(address: &Option<HostAddress>) -> bool
+    ensures { result ≡ specs_of.is_recipient address.now }
+{
+    match address {
+        None => true,
+        Some(address) => is_ipv4(address, LOOPBACK),
+    }
+}
+
 // The contents of its sealed part.
 fn private_of(part: EncKrbPrivPart) -> Private
     ensures { result ≡ private_of part }
@@ -48,16 +101,18 @@ fn private_of(part: EncKrbPrivPart) -> Private
     }
 }
 
-/// Opens a KRB-PRIV that follows an AP-REQ (RFC 4120 section 3.5.2). Addresses aren't compared.
+/// Opens a KRB-PRIV that follows an AP-REQ (RFC 4120 section 3.5.2). The sender's address isn't compared, and the
+/// recipient's only of strict messages.
 ///
 /// Of several faults the first is returned, in the order of [`PrivFault`], except that a sealed part that isn't DER
 /// comes after [`PrivFault::NotSealed`].
 pub fn open_priv(
     alloc: Global,
+    strictness: Strictness,
     opened: &ApOpened,
     bytes: &[u8],
 ) -> Result<Private, OpenError<PrivFault>>
-    ensures opens { Answers (OpensPriv opened.now.subkey opened.now.seq_number bytes.now) result }
+    ensures opens { Answers (OpensPriv strictness opened.now.subkey opened.now.seq_number bytes.now) result }
 {
     let message: KrbPriv = read_record(alloc, bytes, PrivFault::Malformed)?;
     if !is_private(&message) {
@@ -73,6 +128,9 @@ pub fn open_priv(
     )?;
     if !may_follow(opened.seq_number, part.seq_number) {
         return Err(OpenError::Fault(PrivFault::WrongSeqNumber));
+    }
+    if !meets(strictness, opened.seq_number, &part) {
+        return Err(OpenError::Fault(PrivFault::Loose));
     }
     Ok(private_of(part))
 }
