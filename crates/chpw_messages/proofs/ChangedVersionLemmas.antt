@@ -13,6 +13,7 @@ use Rattle.krb_msgs.specs.declared.fault.ApFault.{ApFault}
 use Rattle.krb_msgs.specs.declared.fault.PrivFault.{PrivFault}
 use Rattle.krb_msgs.specs.declared.fault.PrivFault.TheVariants as priv
 use Rattle.krb_msgs.specs.declared.private_message.Private.{Private}
+use Rattle.krb_msgs.specs.declared.private_message.Strictness.{Strictness}
 use Rattle.krb_msgs.specs.declared.service_keys.ServiceKey.{ServiceKey}
 use Rattle.krb_msgs.proofs.OneAnswerLemmas.{ap_reqs_open_once, privs_open_once, subkey_is_key}
 use Rattle.chpw_frame.specs.declared.change_data.ChangeTarget.{ChangeTarget}
@@ -63,16 +64,16 @@ bad_data_changes_none q = (refl, λ s now counts io. bad_data_keeps q s now coun
 -- ---- the parts
 
 -- what they open to in the earlier protocol, if their user-data names a target
-set_parts : (realm : List ℕ) (keys : List ServiceKey) (peer ap_req tail : List ℕ) (a : ApOpened) (p : Private) (o : Opens)
-    → AreProtocolKeys keys → OpensAp realm keys ap_req peer (Ok a) → OpensPriv a.subkey a.seq_number tail (Ok p)
-    → NamesTarget p.user_bytes → OpensParts realm keys peer old_request_version ap_req tail o
+set_parts : (strictness : Strictness) (realm : List ℕ) (keys : List ServiceKey) (peer ap_req tail : List ℕ) (a : ApOpened) (p : Private) (o : Opens)
+    → AreProtocolKeys keys → OpensAp realm keys ap_req peer (Ok a) → OpensPriv strictness a.subkey a.seq_number tail (Ok p)
+    → NamesTarget p.user_bytes → OpensParts strictness realm keys peer old_request_version ap_req tail o
     → o ≡ opened (request_of a p.stamp bad_data)
-set_parts realm keys peer ap_req tail a p o are opens private named h =
+set_parts strictness realm keys peer ap_req tail a p o are opens private named h =
     let same : h.0 ≡ Ok a = ap_reqs_open_once realm keys ap_req peer are h.0 (Ok a) h.1 opens in
-    let is : OpensAs realm old_request_version tail (Ok a) o =
-    subst (λ (r : Result ApOpened ApFault). OpensAs realm old_request_version tail r o) same h.2 in
+    let is : OpensAs strictness realm old_request_version tail (Ok a) o =
+    subst (λ (r : Result ApOpened ApFault). OpensAs strictness realm old_request_version tail r o) same h.2 in
     let is_key = subkey_is_key realm keys ap_req peer a opens in
-    let second : is.0 ≡ Ok p = privs_open_once a.subkey a.seq_number tail is_key is.0 (Ok p) is.1 private in
+    let second : is.0 ≡ Ok p = privs_open_once strictness a.subkey a.seq_number tail is_key is.0 (Ok p) is.1 private in
     let content : IsOldPassword p.user_bytes is.2.0 =
     subst (λ (r : Result Private PrivFault). IsContent realm old_request_version r is.2.0) second is.2.1 in
     is.2.2
@@ -80,17 +81,17 @@ set_parts realm keys peer ap_req tail a p o are opens private named h =
     ∙ ap (λ (c : Content). opened (request_of a p.stamp c)) (named_is_bad p.user_bytes is.2.0 named content))
 
 -- what they open to in whichever version has this AP-REQ and this KRB-PRIV
-request_parts : (realm : List ℕ) (keys : List ServiceKey) (peer : List ℕ) (version : ℕ) (ap_req tail : List ℕ)
+request_parts : (strictness : Strictness) (realm : List ℕ) (keys : List ServiceKey) (peer : List ℕ) (version : ℕ) (ap_req tail : List ℕ)
     (a : ApOpened) (p : Private) (q : Request)
-    → AreProtocolKeys keys → OpensAp realm keys ap_req peer (Ok a) → OpensPriv a.subkey a.seq_number tail (Ok p)
-    → OpensParts realm keys peer version ap_req tail (opened q)
+    → AreProtocolKeys keys → OpensAp realm keys ap_req peer (Ok a) → OpensPriv strictness a.subkey a.seq_number tail (Ok p)
+    → OpensParts strictness realm keys peer version ap_req tail (opened q)
     → record q { content = bad_data } ≡ request_of a p.stamp bad_data
-request_parts realm keys peer version ap_req tail a p q are opens private h =
+request_parts strictness realm keys peer version ap_req tail a p q are opens private h =
     let same : h.0 ≡ Ok a = ap_reqs_open_once realm keys ap_req peer are h.0 (Ok a) h.1 opens in
-    let is : OpensAs realm version tail (Ok a) (opened q) =
-    subst (λ (r : Result ApOpened ApFault). OpensAs realm version tail r (opened q)) same h.2 in
+    let is : OpensAs strictness realm version tail (Ok a) (opened q) =
+    subst (λ (r : Result ApOpened ApFault). OpensAs strictness realm version tail r (opened q)) same h.2 in
     let is_key = subkey_is_key realm keys ap_req peer a opens in
-    let second : is.0 ≡ Ok p = privs_open_once a.subkey a.seq_number tail is_key is.0 (Ok p) is.1 private in
+    let second : is.0 ≡ Ok p = privs_open_once strictness a.subkey a.seq_number tail is_key is.0 (Ok p) is.1 private in
     let first = request_is q (request_of a (stamp_in is.0) is.2.0) is.2.2 in
     ap (λ (r : Request). record r { content = bad_data }) first
     ∙ ap (λ (r : Result Private PrivFault). request_of a (stamp_in r) bad_data) second
@@ -100,26 +101,26 @@ request_parts realm keys peer version ap_req tail a p q are opens private h =
 abbrev flipped : List ℕ → List ℕ
 flipped bytes = with_version old_request_version bytes
 
-of_framed : (realm : List ℕ) (keys : List ServiceKey) (peer bytes : List ℕ) (o : Opens) (f : Option FrameFault)
-    → first_fault request_versions false (flipped bytes) ≡ f → AreProtocolKeys keys → IsTargeted realm keys peer bytes
-    → OpensFramed realm keys peer (flipped bytes) f o → ChangesNoKey o
-of_framed realm keys peer bytes o (Some fault) e are set h = subst ChangesNoKey (sym h) tt
-of_framed realm keys peer (hi ∷ lo ∷ c ∷ d ∷ e ∷ f ∷ rest) o None is are set h =
+of_framed : (strictness : Strictness) (realm : List ℕ) (keys : List ServiceKey) (peer bytes : List ℕ) (o : Opens) (f : Option FrameFault)
+    → first_fault request_versions false (flipped bytes) ≡ f → AreProtocolKeys keys → IsTargeted strictness realm keys peer bytes
+    → OpensFramed strictness realm keys peer (flipped bytes) f o → ChangesNoKey o
+of_framed strictness realm keys peer bytes o (Some fault) e are set h = subst ChangesNoKey (sym h) tt
+of_framed strictness realm keys peer (hi ∷ lo ∷ c ∷ d ∷ e ∷ f ∷ rest) o None is are set h =
     let bytes : List ℕ = hi ∷ lo ∷ c ∷ d ∷ e ∷ f ∷ rest in
     let q = request_of set.0 set.2.0.stamp bad_data in
     subst ChangesNoKey
-    (sym (set_parts realm keys peer (ap_of bytes) (tail_of bytes) set.0 set.2.0 o are set.1 set.2.1 set.2.2 h))
+    (sym (set_parts strictness realm keys peer (ap_of bytes) (tail_of bytes) set.0 set.2.0 o are set.1 set.2.1 set.2.2 h))
     (bad_data_changes_none q)
-of_framed realm keys peer bytes o None is are set h = cc
+of_framed strictness realm keys peer bytes o None is are set h = cc
 
-under : (realm : List ℕ) (keys : List ServiceKey) (peer bytes : List ℕ) (o : Opens) (b : Bool)
-    → AreProtocolKeys keys → IsTargeted realm keys peer bytes → OpensUnless b realm keys peer (flipped bytes) o → ChangesNoKey o
-under realm keys peer bytes o true are set h = subst ChangesNoKey (sym h) tt
-under realm keys peer bytes o false are set h = of_framed realm keys peer bytes o _ refl are set h
+under : (strictness : Strictness) (realm : List ℕ) (keys : List ServiceKey) (peer bytes : List ℕ) (o : Opens) (b : Bool)
+    → AreProtocolKeys keys → IsTargeted strictness realm keys peer bytes → OpensUnless strictness b realm keys peer (flipped bytes) o → ChangesNoKey o
+under strictness realm keys peer bytes o true are set h = subst ChangesNoKey (sym h) tt
+under strictness realm keys peer bytes o false are set h = of_framed strictness realm keys peer bytes o _ refl are set h
 
 pub flipped_sets_change_no_key : FlippedSetsChangeNoKey
-flipped_sets_change_no_key versions realm keys peer bytes o are set h =
-    under realm keys peer bytes o (refuses versions (flipped bytes)) are set h
+flipped_sets_change_no_key accepts realm keys peer bytes o are set h =
+    under accepts.messages realm keys peer bytes o (refuses accepts.versions (flipped bytes)) are set h
 
 -- a message without a fault has none in the other version
 no_fault : (bytes : List ℕ) → first_fault request_versions false bytes ≡ None → first_fault request_versions false (flipped bytes) ≡ None
@@ -130,26 +131,26 @@ no_fault (hi ∷ lo ∷ c ∷ d ∷ e ∷ f ∷ rest) none =
     rw (clear.0, clear.2) refl
 no_fault bytes none = cc
 
-same_parts : (realm : List ℕ) (keys : List ServiceKey) (peer bytes : List ℕ) (o : Opens)
+same_parts : (strictness : Strictness) (realm : List ℕ) (keys : List ServiceKey) (peer bytes : List ℕ) (o : Opens)
     → first_fault request_versions false bytes ≡ None
-    → OpensParts realm keys peer old_request_version (ap_of bytes) (tail_of bytes) o
-    → OpensFramed realm keys peer (flipped bytes) None o
-same_parts realm keys peer (hi ∷ lo ∷ c ∷ d ∷ e ∷ f ∷ rest) o none h = h
-same_parts realm keys peer bytes o none h = cc
+    → OpensParts strictness realm keys peer old_request_version (ap_of bytes) (tail_of bytes) o
+    → OpensFramed strictness realm keys peer (flipped bytes) None o
+same_parts strictness realm keys peer (hi ∷ lo ∷ c ∷ d ∷ e ∷ f ∷ rest) o none h = h
+same_parts strictness realm keys peer bytes o none h = cc
 
 pub flipped_sets_are_bad_data : FlippedSetsAreBadData
-flipped_sets_are_bad_data realm keys peer bytes q are set h =
-    let is = opened_has_none realm keys peer bytes q _ refl h in
+flipped_sets_are_bad_data strictness realm keys peer bytes q are set h =
+    let is = opened_has_none strictness realm keys peer bytes q _ refl h in
     let a : ApOpened = set.0 in
     let p : Private = set.2.0 in
-    let same = request_parts realm keys peer (version_of bytes) (ap_of bytes) (tail_of bytes) a p q are set.1 set.2.1 is.1 in
-    let parts : OpensParts realm keys peer old_request_version (ap_of bytes) (tail_of bytes) (opened (request_of a p.stamp bad_data)) = (
+    let same = request_parts strictness realm keys peer (version_of bytes) (ap_of bytes) (tail_of bytes) a p q are set.1 set.2.1 is.1 in
+    let parts : OpensParts strictness realm keys peer old_request_version (ap_of bytes) (tail_of bytes) (opened (request_of a p.stamp bad_data)) = (
       Ok a,
       set.1,
       (Ok p, set.2.1, (bad_data, set.2.2, refl)),
     ) in
-    subst (λ (r : Request). OpensTo realm keys peer (flipped bytes) (opened r)) (sym same)
-    (opens_so realm keys peer (flipped bytes) _ None (no_fault bytes is.0) (same_parts realm keys peer bytes _ is.0 parts))
+    subst (λ (r : Request). OpensTo strictness realm keys peer (flipped bytes) (opened r)) (sym same)
+    (opens_so strictness realm keys peer (flipped bytes) _ None (no_fault bytes is.0) (same_parts strictness realm keys peer bytes _ is.0 parts))
 
 -- ---- requests that ask for a target's new password
 
@@ -175,27 +176,28 @@ despite_none priv.Malformed = refl
 despite_none priv.WrongMessage = refl
 despite_none priv.NotSealed = refl
 despite_none priv.WrongSeqNumber = refl
+despite_none priv.Loose = refl
 
-private_set : (realm : List ℕ) (subkey : Key) (seq_number : Option SeqNumber) (tail : List ℕ) (private : Result Private PrivFault)
+private_set : (strictness : Strictness) (realm : List ℕ) (subkey : Key) (seq_number : Option SeqNumber) (tail : List ℕ) (private : Result Private PrivFault)
     (content : Content) (target : Target)
-    → asked_target content ≡ Some target → OpensPriv subkey seq_number tail private → IsContent realm request_version private content
-    → (p : Private) × OpensPriv subkey seq_number tail (Ok p) × NamesTarget p.user_bytes
-private_set realm subkey seq_number tail (Ok p) content target is opens h = (p, opens, asked_names realm p.user_bytes content target is h)
-private_set realm subkey seq_number tail (Err fault) content target is opens h =
+    → asked_target content ≡ Some target → OpensPriv strictness subkey seq_number tail private → IsContent realm request_version private content
+    → (p : Private) × OpensPriv strictness subkey seq_number tail (Ok p) × NamesTarget p.user_bytes
+private_set strictness realm subkey seq_number tail (Ok p) content target is opens h = (p, opens, asked_names realm p.user_bytes content target is h)
+private_set strictness realm subkey seq_number tail (Err fault) content target is opens h =
     let none = sym is ∙ ap asked_target h ∙ despite_none fault in cc
 
-set_is : (realm : List ℕ) (keys : List ServiceKey) (peer ap_req tail : List ℕ) (a : Result ApOpened ApFault) (q : Request) (target : Target)
-    → asked_target q.content ≡ Some target → OpensAp realm keys ap_req peer a → OpensAs realm request_version tail a (opened q)
+set_is : (strictness : Strictness) (realm : List ℕ) (keys : List ServiceKey) (peer ap_req tail : List ℕ) (a : Result ApOpened ApFault) (q : Request) (target : Target)
+    → asked_target q.content ≡ Some target → OpensAp realm keys ap_req peer a → OpensAs strictness realm request_version tail a (opened q)
     → (a : ApOpened) × OpensAp realm keys ap_req peer (Ok a)
-    × ((p : Private) × OpensPriv a.subkey a.seq_number tail (Ok p) × NamesTarget p.user_bytes)
-set_is realm keys peer ap_req tail (Err fault) q target is opens h = absurd cc
-set_is realm keys peer ap_req tail (Ok a) q target is opens h =
+    × ((p : Private) × OpensPriv strictness a.subkey a.seq_number tail (Ok p) × NamesTarget p.user_bytes)
+set_is strictness realm keys peer ap_req tail (Err fault) q target is opens h = absurd cc
+set_is strictness realm keys peer ap_req tail (Ok a) q target is opens h =
     let same = request_is q (request_of a (stamp_in h.0) h.2.0) h.2.2 in
     let asked : asked_target h.2.0 ≡ Some target = sym (ap (λ (r : Request). asked_target r.content) same) ∙ is in
-    (a, opens, private_set realm a.subkey a.seq_number tail h.0 h.2.0 target asked h.1 h.2.1)
+    (a, opens, private_set strictness realm a.subkey a.seq_number tail h.0 h.2.0 target asked h.1 h.2.1)
 
 pub sets_are_targeted : SetsAreTargeted
-sets_are_targeted realm keys peer bytes q target password h version is =
-    let parts = (opened_has_none realm keys peer bytes q _ refl h).1 in
-    set_is realm keys peer (ap_of bytes) (tail_of bytes) parts.0 q target (ap asked_target is) parts.1
-    (subst (λ (v : ℕ). OpensAs realm v (tail_of bytes) parts.0 (opened q)) version parts.2)
+sets_are_targeted strictness realm keys peer bytes q target password h version is =
+    let parts = (opened_has_none strictness realm keys peer bytes q _ refl h).1 in
+    set_is strictness realm keys peer (ap_of bytes) (tail_of bytes) parts.0 q target (ap asked_target is) parts.1
+    (subst (λ (v : ℕ). OpensAs strictness realm v (tail_of bytes) parts.0 (opened q)) version parts.2)

@@ -7,6 +7,7 @@ use Rattle.krb_der.specs.Types.{change_passwd_data}
 use Rattle.krb_der.specs.declared.principal_name.PrincipalName.{PrincipalName}
 use Rattle.krb_msgs.specs.ApExchange.{OpensAp}
 use Rattle.krb_msgs.specs.OneAnswer.{AreProtocolKeys, IsOne}
+use Rattle.krb_msgs.specs.declared.private_message.Strictness.{Strictness}
 use Rattle.krb_msgs.specs.declared.service_keys.ServiceKey.{ServiceKey}
 use Rattle.krb_msgs.specs.declared.ap_exchange.ApOpened.{ApOpened}
 use Rattle.krb_msgs.specs.declared.private_message.Private.{Private}
@@ -71,11 +72,11 @@ has_key : (realm : List ℕ) (keys : List ServiceKey) (bytes peer : List ℕ) (a
 has_key realm keys bytes peer (Ok a) h = subkey_is_key realm keys bytes peer a h
 has_key realm keys bytes peer (Err fault) h = tt
 
-one_request : (realm : List ℕ) (version : ℕ) (tail : List ℕ) (a : Result ApOpened ApFault) → HasKey a
-    → IsOne (OpensAs realm version tail a)
-one_request realm version tail (Err fault) is_key one other h k = h ∙ sym k
-one_request realm version tail (Ok a) is_key one other h k =
-    let private : h.0 ≡ k.0 = privs_open_once a.subkey a.seq_number tail is_key h.0 k.0 h.1 k.1 in
+one_request : (strictness : Strictness) (realm : List ℕ) (version : ℕ) (tail : List ℕ) (a : Result ApOpened ApFault) → HasKey a
+    → IsOne (OpensAs strictness realm version tail a)
+one_request strictness realm version tail (Err fault) is_key one other h k = h ∙ sym k
+one_request strictness realm version tail (Ok a) is_key one other h k =
+    let private : h.0 ≡ k.0 = privs_open_once strictness a.subkey a.seq_number tail is_key h.0 k.0 h.1 k.1 in
     let same_content : h.2.0 ≡ k.2.0 = one_content realm version k.0 h.2.0 k.2.0
     (subst (λ (p : Result Private PrivFault). IsContent realm version p h.2.0) private h.2.1) k.2.1 in
     h.2.2
@@ -83,19 +84,19 @@ one_request realm version tail (Ok a) is_key one other h k =
     ∙ (ap (λ (content : Content). opened (request_of a (stamp_in k.0) content)) same_content
     ∙ sym k.2.2))
 
-one_parts : (realm : List ℕ) (keys : List ServiceKey) (peer : List ℕ) (version : ℕ) (ap_req tail : List ℕ)
-    → AreProtocolKeys keys → IsOne (OpensParts realm keys peer version ap_req tail)
-one_parts realm keys peer version ap_req tail are one other h k =
+one_parts : (strictness : Strictness) (realm : List ℕ) (keys : List ServiceKey) (peer : List ℕ) (version : ℕ) (ap_req tail : List ℕ)
+    → AreProtocolKeys keys → IsOne (OpensParts strictness realm keys peer version ap_req tail)
+one_parts strictness realm keys peer version ap_req tail are one other h k =
     let same : h.0 ≡ k.0 = ap_reqs_open_once realm keys ap_req peer are h.0 k.0 h.1 k.1 in
-    one_request realm version tail k.0 (has_key realm keys ap_req peer k.0 k.1) one other
-    (subst (λ (a : Result ApOpened ApFault). OpensAs realm version tail a one) same h.2) k.2
+    one_request strictness realm version tail k.0 (has_key realm keys ap_req peer k.0 k.1) one other
+    (subst (λ (a : Result ApOpened ApFault). OpensAs strictness realm version tail a one) same h.2) k.2
 
-one_framed : (realm : List ℕ) (keys : List ServiceKey) (peer bytes : List ℕ) (fault : Option FrameFault)
-    → AreProtocolKeys keys → IsOne (OpensFramed realm keys peer bytes fault)
-one_framed realm keys peer bytes (Some fault) are one other h k = h ∙ sym k
-one_framed realm keys peer bytes None are one other h k =
-    one_parts realm keys peer (version_of bytes) (ap_of bytes) (tail_of bytes) are one other h k
+one_framed : (strictness : Strictness) (realm : List ℕ) (keys : List ServiceKey) (peer bytes : List ℕ) (fault : Option FrameFault)
+    → AreProtocolKeys keys → IsOne (OpensFramed strictness realm keys peer bytes fault)
+one_framed strictness realm keys peer bytes (Some fault) are one other h k = h ∙ sym k
+one_framed strictness realm keys peer bytes None are one other h k =
+    one_parts strictness realm keys peer (version_of bytes) (ap_of bytes) (tail_of bytes) are one other h k
 
 pub messages_open_once : MessagesOpenOnce
-messages_open_once realm keys peer bytes are =
-    one_framed realm keys peer bytes (first_fault request_versions false bytes) are
+messages_open_once strictness realm keys peer bytes are =
+    one_framed strictness realm keys peer bytes (first_fault request_versions false bytes) are

@@ -5,6 +5,7 @@ use Rattle.std.proofs.lemmas.Bool.{eq-eqb, eqb-true, ne_eqb}
 use Rattle.krb_protocol.specs.Refusals.{Refusal, said}
 use Rattle.krb_protocol.specs.declared.refusal.Refusal.{Refusal as ProgramRefusal}
 use Rattle.krb_msgs.specs.OneAnswer.{AreProtocolKeys, IsOne}
+use Rattle.krb_msgs.specs.declared.private_message.Strictness.{Strictness}
 use Rattle.krb_msgs.specs.declared.service_keys.ServiceKey.{ServiceKey}
 use Rattle.chpw_frame.specs.declared.fault.FrameFault.{FrameFault}
 use Rattle.chpw_frame.specs.declared.fault.FrameFault.TheVariants.{BadLength, BadVersion}
@@ -14,6 +15,7 @@ use Rattle.chpw_table.specs.Replies.{by_error}
 use Rattle.chpw_serve.specs.declared.messages.OpenResult as program
 use Rattle.chpw_serve.specs.declared.messages.OpenResult.TheVariants as found
 use Rattle.chpw_serve.specs.Requests.{Request, opened, refused}
+use Rattle.chpw_messages.specs.declared.versions.Acceptance.{Acceptance}
 use Rattle.chpw_messages.specs.declared.versions.Versions.{Versions}
 use Rattle.chpw_messages.specs.declared.versions.Versions.TheVariants.{Both, Rfc3244Only}
 use Rattle.chpw_messages.specs.Holds.{HoldsMessage, HoldsUnder}
@@ -24,19 +26,19 @@ use Rattle.chpw_messages.proofs.OneOpeningLemmas.{messages_open_once}
 
 -- ---- what the program has
 
-pub holds_refused : (versions : Versions) (realm : List ℕ) (keys : List ServiceKey) (peer bytes : List ℕ) (r : ProgramRefusal)
-    → refuses versions bytes ≡ true → said r ≡ frame.refusal_of BadVersion
-    → HoldsUnder versions realm keys peer bytes (found.Refused r)
-holds_refused versions realm keys peer bytes r e is = (
+pub holds_refused : (accepts : Acceptance) (realm : List ℕ) (keys : List ServiceKey) (peer bytes : List ℕ) (r : ProgramRefusal)
+    → refuses accepts.versions bytes ≡ true → said r ≡ frame.refusal_of BadVersion
+    → HoldsUnder accepts realm keys peer bytes (found.Refused r)
+holds_refused accepts realm keys peer bytes r e is = (
   bad_version,
-  subst (λ (b : Bool). OpensUnless b realm keys peer bytes bad_version) (sym e) refl,
+  subst (λ (b : Bool). OpensUnless accepts.messages b realm keys peer bytes bad_version) (sym e) refl,
   ap (λ (s : Refusal). by_error s.code s.error s.text) (sym is),
 )
 
-pub holds_opened : (versions : Versions) (realm : List ℕ) (keys : List ServiceKey) (peer bytes : List ℕ) (r : program.OpenResult)
-    → refuses versions bytes ≡ false → HoldsMessage realm keys peer bytes r → HoldsUnder versions realm keys peer bytes r
-holds_opened versions realm keys peer bytes r e h =
-    (h.0, subst (λ (b : Bool). OpensUnless b realm keys peer bytes h.0) (sym e) h.1, h.2)
+pub holds_opened : (accepts : Acceptance) (realm : List ℕ) (keys : List ServiceKey) (peer bytes : List ℕ) (r : program.OpenResult)
+    → refuses accepts.versions bytes ≡ false → HoldsMessage accepts.messages realm keys peer bytes r → HoldsUnder accepts realm keys peer bytes r
+holds_opened accepts realm keys peer bytes r e h =
+    (h.0, subst (λ (b : Bool). OpensUnless accepts.messages b realm keys peer bytes h.0) (sym e) h.1, h.2)
 
 -- ---- the laws
 
@@ -45,31 +47,31 @@ is_another : (bytes : List ℕ) → is_whole bytes ≡ true → version_of bytes
 is_another bytes whole other = rw (whole, ne_eqb (version_of bytes) request_version other) refl
 
 pub others_are_refused : OthersAreRefused
-others_are_refused realm keys peer bytes o whole other h =
-    subst (λ (b : Bool). OpensUnless b realm keys peer bytes o) (is_another bytes whole other) h
+others_are_refused messages realm keys peer bytes o whole other h =
+    subst (λ (b : Bool). OpensUnless messages b realm keys peer bytes o) (is_another bytes whole other) h
 
 -- a message of another length is no request
-no_request : (realm : List ℕ) (keys : List ServiceKey) (peer bytes : List ℕ) (q : Request) (f : Option FrameFault)
-    → f ≡ Some BadLength → OpensFramed realm keys peer bytes f (opened q) → ⊥
-no_request realm keys peer bytes q None e h = cc
-no_request realm keys peer bytes q (Some fault) e h = cc
+no_request : (messages : Strictness) (realm : List ℕ) (keys : List ServiceKey) (peer bytes : List ℕ) (q : Request) (f : Option FrameFault)
+    → f ≡ Some BadLength → OpensFramed messages realm keys peer bytes f (opened q) → ⊥
+no_request messages realm keys peer bytes q None e h = cc
+no_request messages realm keys peer bytes q (Some fault) e h = cc
 
-of_it : (realm : List ℕ) (keys : List ServiceKey) (peer bytes : List ℕ) (q : Request) (whole its : Bool)
+of_it : (messages : Strictness) (realm : List ℕ) (keys : List ServiceKey) (peer bytes : List ℕ) (q : Request) (whole its : Bool)
     → is_whole bytes ≡ whole → (version_of bytes == request_version) ≡ its
-    → OpensUnless (whole && not its) realm keys peer bytes (opened q) → version_of bytes ≡ request_version
-of_it realm keys peer bytes q whole true is same h = eqb-true (version_of bytes) request_version same
-of_it realm keys peer bytes q true false is same h = absurd (let bad : opened q ≡ bad_version = h in cc)
-of_it realm keys peer bytes q false false is same h =
-    absurd (no_request realm keys peer bytes q (first_fault request_versions false bytes) (rw is refl) h)
+    → OpensUnless messages (whole && not its) realm keys peer bytes (opened q) → version_of bytes ≡ request_version
+of_it messages realm keys peer bytes q whole true is same h = eqb-true (version_of bytes) request_version same
+of_it messages realm keys peer bytes q true false is same h = absurd (let bad : opened q ≡ bad_version = h in cc)
+of_it messages realm keys peer bytes q false false is same h =
+    absurd (no_request messages realm keys peer bytes q (first_fault request_versions false bytes) (rw is refl) h)
 
 pub requests_are_of_it : RequestsAreOfIt
-requests_are_of_it realm keys peer bytes q h =
-    of_it realm keys peer bytes q (is_whole bytes) (version_of bytes == request_version) refl refl h
+requests_are_of_it messages realm keys peer bytes q h =
+    of_it messages realm keys peer bytes q (is_whole bytes) (version_of bytes == request_version) refl refl h
 
 pub others_add_nothing : (full : Type 0) → OthersAddNothing full
-others_add_nothing full error_frame private_frame realm keys peer bytes words reply now old new (refused a) other h answered = answered.0
-others_add_nothing full error_frame private_frame realm keys peer bytes words reply now old new (opened q) other h answered =
-    absurd (other (requests_are_of_it realm keys peer bytes q h))
+others_add_nothing full messages error_frame private_frame realm keys peer bytes words reply now old new (refused a) other h answered = answered.0
+others_add_nothing full messages error_frame private_frame realm keys peer bytes words reply now old new (opened q) other h answered =
+    absurd (other (requests_are_of_it messages realm keys peer bytes q h))
 
 nothing_else : (b : Bool) → (b && false) ≡ false
 nothing_else true = refl
@@ -80,19 +82,19 @@ not_refused Both bytes its = refl
 not_refused Rfc3244Only bytes its = rw (eq-eqb (version_of bytes) request_version its) (nothing_else (is_whole bytes))
 
 pub its_own_stay : ItsOwnStay
-its_own_stay versions realm keys peer bytes o its =
-    let e = not_refused versions bytes its in (
-      λ h. subst (λ (b : Bool). OpensUnless b realm keys peer bytes o) e h,
-      λ h. subst (λ (b : Bool). OpensUnless b realm keys peer bytes o) (sym e) h,
+its_own_stay accepts realm keys peer bytes o its =
+    let e = not_refused accepts.versions bytes its in (
+      λ h. subst (λ (b : Bool). OpensUnless accepts.messages b realm keys peer bytes o) e h,
+      λ h. subst (λ (b : Bool). OpensUnless accepts.messages b realm keys peer bytes o) (sym e) h,
     )
 
 pub all_stay : AllStay
-all_stay realm keys peer bytes o = (λ h. h, λ h. h)
+all_stay messages realm keys peer bytes o = (λ h. h, λ h. h)
 
-once : (realm : List ℕ) (keys : List ServiceKey) (peer bytes : List ℕ) (b : Bool) → AreProtocolKeys keys
-    → IsOne (OpensUnless b realm keys peer bytes)
-once realm keys peer bytes true are one other h k = h ∙ sym k
-once realm keys peer bytes false are one other h k = messages_open_once realm keys peer bytes are one other h k
+once : (messages : Strictness) (realm : List ℕ) (keys : List ServiceKey) (peer bytes : List ℕ) (b : Bool) → AreProtocolKeys keys
+    → IsOne (OpensUnless messages b realm keys peer bytes)
+once messages realm keys peer bytes true are one other h k = h ∙ sym k
+once messages realm keys peer bytes false are one other h k = messages_open_once messages realm keys peer bytes are one other h k
 
 pub messages_open_once_under : MessagesOpenOnceUnder
-messages_open_once_under versions realm keys peer bytes are = once realm keys peer bytes (refuses versions bytes) are
+messages_open_once_under accepts realm keys peer bytes are = once accepts.messages realm keys peer bytes (refuses accepts.versions bytes) are

@@ -3,6 +3,7 @@ use Rattle.std.specs.Prelude.{◌≡◌, ℕ, ℤ, List, [], Option, Result}
 use Rattle.krb_msgs.specs.declared.service_keys.ServiceKey.{ServiceKey}
 use Rattle.krb_msgs.specs.declared.ap_exchange.ApOpened.{ApOpened}
 use Rattle.krb_msgs.specs.declared.private_message.Private.{Private}
+use Rattle.krb_msgs.specs.declared.private_message.Strictness.{Strictness}
 use Rattle.krb_msgs.specs.declared.fault.PrivFault.{PrivFault}
 use Rattle.krb_msgs.specs.PrivateMessages.{OpensPriv}
 use Rattle.chpw_table.specs.declared.request.Target.{Target}
@@ -11,7 +12,7 @@ use Rattle.chpw_serve.specs.Requests.{Content, Opens, body_under, password_in}
 use Rattle.chpw_serve.specs.Holding.{IsOpenResult}
 use Rattle.chpw_messages.specs.declared.content.Content as held
 use Rattle.chpw_messages.specs.Opening.{IsContent, OpensParts, OpensTo, stamp_in}
-use Rattle.chpw_messages.specs.declared.versions.Versions.{Versions}
+use Rattle.chpw_messages.specs.declared.versions.Acceptance.{Acceptance}
 use Rattle.chpw_messages.specs.Versions.{OpensUnder}
 
 -- this content and stamp, with no keys yet
@@ -20,20 +21,20 @@ IsHeld content stamp h =
     ((client : Target) → h.body ≡ body_under [] client content) × (h.password ≡ password_in content) × (h.stamp ≡ stamp)
 
 -- a KRB-PRIV after this AP-REQ has it
-abbrev pub HoldsContent : List ℕ → ℕ → ApOpened → List ℕ → held.Content → Type 0
-HoldsContent realm version a tail h =
-    (private : Result Private PrivFault) × OpensPriv a.subkey a.seq_number tail private
+abbrev pub HoldsContent : Strictness → List ℕ → ℕ → ApOpened → List ℕ → held.Content → Type 0
+HoldsContent strictness realm version a tail h =
+    (private : Result Private PrivFault) × OpensPriv strictness a.subkey a.seq_number tail private
     × ((content : Content) × IsContent realm version private content × IsHeld content (stamp_in private) h)
 
 -- the program has what these parts open to
-abbrev pub HoldsParts : List ℕ → List ServiceKey → List ℕ → ℕ → List ℕ → List ℕ → program.OpenResult → Type 0
-HoldsParts realm keys peer version ap_req tail found =
-    (o : Opens) × OpensParts realm keys peer version ap_req tail o × IsOpenResult o found
+abbrev pub HoldsParts : Strictness → List ℕ → List ServiceKey → List ℕ → ℕ → List ℕ → List ℕ → program.OpenResult → Type 0
+HoldsParts strictness realm keys peer version ap_req tail found =
+    (o : Opens) × OpensParts strictness realm keys peer version ap_req tail o × IsOpenResult o found
 
 -- the program has what a message opens to
-abbrev pub HoldsMessage : List ℕ → List ServiceKey → List ℕ → List ℕ → program.OpenResult → Type 0
-HoldsMessage realm keys peer bytes found = (o : Opens) × OpensTo realm keys peer bytes o × IsOpenResult o found
+abbrev pub HoldsMessage : Strictness → List ℕ → List ServiceKey → List ℕ → List ℕ → program.OpenResult → Type 0
+HoldsMessage strictness realm keys peer bytes found = (o : Opens) × OpensTo strictness realm keys peer bytes o × IsOpenResult o found
 
--- likewise, with the rule for versions before
-abbrev pub HoldsUnder : Versions → List ℕ → List ServiceKey → List ℕ → List ℕ → program.OpenResult → Type 0
-HoldsUnder versions realm keys peer bytes found = (o : Opens) × OpensUnder versions realm keys peer bytes o × IsOpenResult o found
+-- likewise, with what the service accepts before
+abbrev pub HoldsUnder : Acceptance → List ℕ → List ServiceKey → List ℕ → List ℕ → program.OpenResult → Type 0
+HoldsUnder accepts realm keys peer bytes found = (o : Opens) × OpensUnder accepts realm keys peer bytes o × IsOpenResult o found

@@ -12,8 +12,9 @@ use Rattle.krb_der.specs.declared.krb_priv.KrbPriv.{KrbPriv}
 use Rattle.krb_der.specs.declared.krb_priv.EncKrbPrivPart.{EncKrbPrivPart}
 use Rattle.krb_msgs.specs.Laws.{IsApReq, IsKrbPriv}
 use Rattle.krb_msgs.specs.Accepted.{opened_of}
-use Rattle.krb_msgs.specs.PrivateMessages.{MayFollow, private_of}
+use Rattle.krb_msgs.specs.PrivateMessages.{MayFollow, meets, private_of}
 use Rattle.krb_msgs.specs.declared.service_keys.ServiceKey.{ServiceKey}
+use Rattle.krb_msgs.specs.declared.private_message.Strictness.{Strictness}
 use Rattle.chpw_frame.specs.declared.change_data.ChangeData.{ChangeData}
 use Rattle.chpw_frame.specs.Framing.{framed, header_length, old_request_version, request_versions}
 use Rattle.chpw_frame.specs.Stream.{longest}
@@ -30,10 +31,11 @@ SaysChange false bytes change =
     (fits change_passwd_data (change_value change) ≡ true) × (bytes ≡ text change_passwd_data (change_value change))
 
 -- a KRB-PRIV after this authenticator that asks for a change, in a request of this version
-pub record AsksChange (version : ℕ) (subkey : Key) (a : Authenticator) (m : KrbPriv) (part : EncKrbPrivPart)
+pub record AsksChange (strictness : Strictness) (version : ℕ) (subkey : Key) (a : Authenticator) (m : KrbPriv) (part : EncKrbPrivPart)
     (change : ChangeData) : Type 0 where
   pub private : IsKrbPriv subkey m part
   pub follows : MayFollow a.seq_number part.seq_number
+  pub strict : meets strictness a.seq_number part ≡ true
   pub user_data : SaysChange (version == old_request_version) part.user_data change
 
 -- what they ask for
@@ -44,19 +46,19 @@ asked_of realm ticket session a subkey part change =
 
 -- the two open to that
 abbrev pub PartsOpen : Type 0
-PartsOpen = (version : ℕ) (realm : List ℕ) (keys : List ServiceKey) (peer : List ℕ) (request : ApReq)
+PartsOpen = (strictness : Strictness) (version : ℕ) (realm : List ℕ) (keys : List ServiceKey) (peer : List ℕ) (request : ApReq)
     (ticket : EncTicketPart) (a : Authenticator) (session subkey : Key)
     (m : KrbPriv) (part : EncKrbPrivPart) (change : ChangeData)
     → IsApReq realm keys peer request ticket a session subkey
-    → AsksChange version subkey a m part change
-    → OpensParts realm keys peer version
+    → AsksChange strictness version subkey a m part change
+    → OpensParts strictness realm keys peer version
     (text ap_req (ap_req_value request)) (text krb_priv (krb_priv_value m))
     (opened (asked_of realm ticket session a subkey part change))
 
 -- parts in a frame of an accepted version, as long as a frame may be, open as they do
 abbrev pub FramesOpen : Type 0
-FramesOpen = (version : ℕ) (realm : List ℕ) (keys : List ServiceKey) (peer ap tail : List ℕ) (o : Opens)
+FramesOpen = (strictness : Strictness) (version : ℕ) (realm : List ℕ) (keys : List ServiceKey) (peer ap tail : List ℕ) (o : Opens)
     → list_any (λ v. v == version) request_versions ≡ true → version < 2 ^ 16
     → 0 < length ap → header_length + length ap + length tail ≤ longest
-    → OpensParts realm keys peer version ap tail o
-    → OpensTo realm keys peer (framed version ap tail) o
+    → OpensParts strictness realm keys peer version ap tail o
+    → OpensTo strictness realm keys peer (framed version ap tail) o

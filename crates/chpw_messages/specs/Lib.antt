@@ -3,6 +3,7 @@ pub mod OldPasswords
 pub mod Opening
 pub mod Versions
 pub mod VersionLaws
+pub mod StrictLaws
 pub mod ChangedVersions
 pub mod Service
 pub mod Holds

@@ -9,6 +9,7 @@ use Rattle.krb_der.specs.declared.principal_name.PrincipalName.{PrincipalName}
 use Rattle.krb_msgs.specs.declared.service_keys.ServiceKey.{ServiceKey}
 use Rattle.krb_msgs.specs.declared.ap_exchange.ApOpened.{ApOpened}
 use Rattle.krb_msgs.specs.declared.private_message.Private.{Private}
+use Rattle.krb_msgs.specs.declared.private_message.Strictness.{Strictness}
 use Rattle.krb_msgs.specs.declared.fault.ApFault.{ApFault}
 use Rattle.krb_msgs.specs.declared.fault.PrivFault.{PrivFault}
 use Rattle.krb_msgs.specs.declared.fault.PrivFault.TheVariants as priv
@@ -62,6 +63,7 @@ content_despite priv.Malformed = bad_data
 content_despite priv.WrongMessage = bad_private
 content_despite priv.NotSealed = bad_private
 content_despite priv.WrongSeqNumber = bad_private
+content_despite priv.Loose = bad_private
 
 abbrev pub IsContent : List ℕ → ℕ → Result Private PrivFault → Content → Type 0
 IsContent realm version (Ok p) content = IsAsked realm version p.user_bytes content
@@ -97,25 +99,25 @@ request_of a stamp content = record {
 abbrev pub refused_by : Refusal → Opens
 refused_by r = refused (by_error r.code r.error r.text)
 
-abbrev pub OpensAs : List ℕ → ℕ → List ℕ → Result ApOpened ApFault → Opens → Type 0
-OpensAs realm version tail (Err fault) o = o ≡ refused_by (ap.refusal_of fault)
-OpensAs realm version tail (Ok a) o =
-    (private : Result Private PrivFault) × OpensPriv a.subkey a.seq_number tail private
+abbrev pub OpensAs : Strictness → List ℕ → ℕ → List ℕ → Result ApOpened ApFault → Opens → Type 0
+OpensAs strictness realm version tail (Err fault) o = o ≡ refused_by (ap.refusal_of fault)
+OpensAs strictness realm version tail (Ok a) o =
+    (private : Result Private PrivFault) × OpensPriv strictness a.subkey a.seq_number tail private
     × ((content : Content) × IsContent realm version private content × (o ≡ opened (request_of a (stamp_in private) content)))
 
 -- ---- the message
 
-abbrev pub OpensParts : List ℕ → List ServiceKey → List ℕ → ℕ → List ℕ → List ℕ → Opens → Type 0
-OpensParts realm keys peer version ap_req tail o =
-    (a : Result ApOpened ApFault) × OpensAp realm keys ap_req peer a × OpensAs realm version tail a o
+abbrev pub OpensParts : Strictness → List ℕ → List ServiceKey → List ℕ → ℕ → List ℕ → List ℕ → Opens → Type 0
+OpensParts strictness realm keys peer version ap_req tail o =
+    (a : Result ApOpened ApFault) × OpensAp realm keys ap_req peer a × OpensAs strictness realm version tail a o
 
 -- what a message opens to whose frame has this first fault, or none
-abbrev pub OpensFramed : List ℕ → List ServiceKey → List ℕ → List ℕ → Option FrameFault → Opens → Type 0
-OpensFramed realm keys peer bytes (Some fault) o = o ≡ refused_by (frame.refusal_of fault)
-OpensFramed realm keys peer bytes None o =
-    OpensParts realm keys peer (version_of bytes) (ap_of bytes) (tail_of bytes) o
+abbrev pub OpensFramed : Strictness → List ℕ → List ServiceKey → List ℕ → List ℕ → Option FrameFault → Opens → Type 0
+OpensFramed strictness realm keys peer bytes (Some fault) o = o ≡ refused_by (frame.refusal_of fault)
+OpensFramed strictness realm keys peer bytes None o =
+    OpensParts strictness realm keys peer (version_of bytes) (ap_of bytes) (tail_of bytes) o
 
--- arguments: the service's realm and keys, the peer's address, the message
-abbrev pub OpensTo : List ℕ → List ServiceKey → List ℕ → List ℕ → Opens → Type 0
-OpensTo realm keys peer bytes o =
-    OpensFramed realm keys peer bytes (first_fault request_versions false bytes) o
+-- arguments: whether messages are strict, the service's realm and keys, the peer's address, the message
+abbrev pub OpensTo : Strictness → List ℕ → List ServiceKey → List ℕ → List ℕ → Opens → Type 0
+OpensTo strictness realm keys peer bytes o =
+    OpensFramed strictness realm keys peer bytes (first_fault request_versions false bytes) o

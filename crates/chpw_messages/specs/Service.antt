@@ -1,15 +1,15 @@
--- The service: its realm, the keys that tickets for it are sealed under, and the versions of requests that it answers.
+-- The service: its realm, the keys that tickets for it are sealed under, and which messages it accepts.
 use Rattle.std.specs.Prelude.{ℕ, ◌≤◌, List, length, Option, Some}
 use Rattle.krb_keys.specs.Keys.{key_of}
 use Rattle.krb_keys.specs.declared.key.Key.{Key}
 use Rattle.krb_msgs.specs.declared.service_keys.ServiceKey.{ServiceKey}
 use Rattle.chpw_rules.specs.declared.config.ServiceRow.{ServiceRow}
-use Rattle.chpw_messages.specs.declared.versions.Versions.{Versions}
+use Rattle.chpw_messages.specs.declared.versions.Acceptance.{Acceptance}
 
 pub record Identity : Type 0 where
   pub realm : List ℕ
   pub keys : List ServiceKey
-  pub versions : Versions
+  pub accepts : Acceptance
 
 -- 1 to 255 bytes
 abbrev pub IsRealm : List ℕ → Type 0

@@ -1,6 +1,7 @@
 -- A service that answers requests of RFC 3244 alone refuses all others, decides none of them, and answers its own as
 -- a service that answers both.
 use Rattle.std.specs.Prelude.{◌≡◌, ◌≢◌, ℕ, List, true}
+use Rattle.krb_msgs.specs.declared.private_message.Strictness.{Strictness}
 use Rattle.krb_msgs.specs.declared.service_keys.ServiceKey.{ServiceKey}
 use Rattle.krb_msgs.specs.OneAnswer.{AreProtocolKeys, IsOne}
 use Rattle.chpw_frame.specs.Framing.{is_whole, request_version, version_of}
@@ -10,44 +11,50 @@ use Rattle.chpw_table.specs.Replies.{Answer}
 use Rattle.chpw_serve.specs.declared.messages.Seal.{Seal}
 use Rattle.chpw_serve.specs.Requests.{Opens, Request, opened}
 use Rattle.chpw_serve.specs.Answers.{AnswersOpened}
-use Rattle.chpw_messages.specs.declared.versions.Versions.{Versions}
+use Rattle.chpw_messages.specs.declared.versions.Acceptance.{Acceptance}
 use Rattle.chpw_messages.specs.declared.versions.Versions.TheVariants.{Both, Rfc3244Only}
 use Rattle.chpw_messages.specs.Opening.{OpensTo}
 use Rattle.chpw_messages.specs.Versions.{OpensUnder, bad_version}
 
+abbrev pub of_rfc3244 : Strictness → Acceptance
+of_rfc3244 messages = record { versions = Rfc3244Only; messages = messages }
+
+abbrev pub of_both : Strictness → Acceptance
+of_both messages = record { versions = Both; messages = messages }
+
 -- a message of another version is answered `bad version`
 abbrev pub OthersAreRefused : Type 0
-OthersAreRefused = (realm : List ℕ) (keys : List ServiceKey) (peer bytes : List ℕ) (o : Opens)
+OthersAreRefused = (messages : Strictness) (realm : List ℕ) (keys : List ServiceKey) (peer bytes : List ℕ) (o : Opens)
     → is_whole bytes ≡ true → version_of bytes ≢ request_version
-    → OpensUnder Rfc3244Only realm keys peer bytes o → o ≡ bad_version
+    → OpensUnder (of_rfc3244 messages) realm keys peer bytes o → o ≡ bad_version
 
 -- a request, which is decided, is of that version
 abbrev pub RequestsAreOfIt : Type 0
-RequestsAreOfIt = (realm : List ℕ) (keys : List ServiceKey) (peer bytes : List ℕ) (q : Request)
-    → OpensUnder Rfc3244Only realm keys peer bytes (opened q) → version_of bytes ≡ request_version
+RequestsAreOfIt = (messages : Strictness) (realm : List ℕ) (keys : List ServiceKey) (peer bytes : List ℕ) (q : Request)
+    → OpensUnder (of_rfc3244 messages) realm keys peer bytes (opened q) → version_of bytes ≡ request_version
 
 -- so an answered message of another version adds no receipt to those of whoever decides, who may be full
 abbrev pub OthersAddNothing : Type 0 → Type 0
-OthersAddNothing full = (error_frame : Answer → Moment → List ℕ) (private_frame : Seal → Answer → List ℕ → List ℕ)
+OthersAddNothing full = (messages : Strictness) (error_frame : Answer → Moment → List ℕ) (private_frame : Seal → Answer → List ℕ → List ℕ)
     (realm : List ℕ) (keys : List ServiceKey) (peer bytes words reply : List ℕ) (now : Moment) (old new : List Receipt) (o : Opens)
     → version_of bytes ≢ request_version
-    → OpensUnder Rfc3244Only realm keys peer bytes o
+    → OpensUnder (of_rfc3244 messages) realm keys peer bytes o
     → AnswersOpened error_frame private_frame full o words now old new reply
     → new ≡ old
 
 -- a message of that version opens as to a service that answers both, and to that one each as Opening has it
 abbrev pub ItsOwnStay : Type 0
-ItsOwnStay = (versions : Versions) (realm : List ℕ) (keys : List ServiceKey) (peer bytes : List ℕ) (o : Opens)
+ItsOwnStay = (accepts : Acceptance) (realm : List ℕ) (keys : List ServiceKey) (peer bytes : List ℕ) (o : Opens)
     → version_of bytes ≡ request_version
-    → (OpensUnder versions realm keys peer bytes o → OpensTo realm keys peer bytes o)
-    × (OpensTo realm keys peer bytes o → OpensUnder versions realm keys peer bytes o)
+    → (OpensUnder accepts realm keys peer bytes o → OpensTo accepts.messages realm keys peer bytes o)
+    × (OpensTo accepts.messages realm keys peer bytes o → OpensUnder accepts realm keys peer bytes o)
 
 abbrev pub AllStay : Type 0
-AllStay = (realm : List ℕ) (keys : List ServiceKey) (peer bytes : List ℕ) (o : Opens)
-    → (OpensUnder Both realm keys peer bytes o → OpensTo realm keys peer bytes o)
-    × (OpensTo realm keys peer bytes o → OpensUnder Both realm keys peer bytes o)
+AllStay = (messages : Strictness) (realm : List ℕ) (keys : List ServiceKey) (peer bytes : List ℕ) (o : Opens)
+    → (OpensUnder (of_both messages) realm keys peer bytes o → OpensTo messages realm keys peer bytes o)
+    × (OpensTo messages realm keys peer bytes o → OpensUnder (of_both messages) realm keys peer bytes o)
 
 -- each message still opens to one answer
 abbrev pub MessagesOpenOnceUnder : Type 0
-MessagesOpenOnceUnder = (versions : Versions) (realm : List ℕ) (keys : List ServiceKey) (peer bytes : List ℕ)
-    → AreProtocolKeys keys → IsOne (OpensUnder versions realm keys peer bytes)
+MessagesOpenOnceUnder = (accepts : Acceptance) (realm : List ℕ) (keys : List ServiceKey) (peer bytes : List ℕ)
+    → AreProtocolKeys keys → IsOne (OpensUnder accepts realm keys peer bytes)

@@ -2,10 +2,12 @@
 -- of another version is refused before anything else of it is looked at; no other message opens otherwise.
 use Rattle.std.specs.Prelude.{◌≡◌, ℕ, List, Bool, true, false, not, ◌&&◌, ◌==◌}
 use Rattle.krb_msgs.specs.declared.service_keys.ServiceKey.{ServiceKey}
+use Rattle.krb_msgs.specs.declared.private_message.Strictness.{Strictness}
 use Rattle.chpw_frame.specs.declared.fault.FrameFault.TheVariants.{BadVersion}
 use Rattle.chpw_frame.specs.Faults as frame
 use Rattle.chpw_frame.specs.Framing.{is_whole, request_version, version_of}
 use Rattle.chpw_serve.specs.Requests.{Opens}
+use Rattle.chpw_messages.specs.declared.versions.Acceptance.{Acceptance}
 use Rattle.chpw_messages.specs.declared.versions.Versions.{Versions}
 use Rattle.chpw_messages.specs.declared.versions.Versions.TheVariants.{Both, Rfc3244Only}
 use Rattle.chpw_messages.specs.Opening.{OpensTo, refused_by}
@@ -23,10 +25,11 @@ refuses Rfc3244Only bytes = is_of_another bytes
 abbrev pub bad_version : Opens
 bad_version = refused_by (frame.refusal_of BadVersion)
 
-abbrev pub OpensUnless : Bool → List ℕ → List ServiceKey → List ℕ → List ℕ → Opens → Type 0
-OpensUnless true realm keys peer bytes o = o ≡ bad_version
-OpensUnless false realm keys peer bytes o = OpensTo realm keys peer bytes o
+abbrev pub OpensUnless : Strictness → Bool → List ℕ → List ServiceKey → List ℕ → List ℕ → Opens → Type 0
+OpensUnless strictness true realm keys peer bytes o = o ≡ bad_version
+OpensUnless strictness false realm keys peer bytes o = OpensTo strictness realm keys peer bytes o
 
--- arguments: the versions, the service's realm and keys, the peer's address, the message
-abbrev pub OpensUnder : Versions → List ℕ → List ServiceKey → List ℕ → List ℕ → Opens → Type 0
-OpensUnder versions realm keys peer bytes o = OpensUnless (refuses versions bytes) realm keys peer bytes o
+-- arguments: what the service accepts, its realm and keys, the peer's address, the message
+abbrev pub OpensUnder : Acceptance → List ℕ → List ServiceKey → List ℕ → List ℕ → Opens → Type 0
+OpensUnder accepts realm keys peer bytes o =
+    OpensUnless accepts.messages (refuses accepts.versions bytes) realm keys peer bytes o

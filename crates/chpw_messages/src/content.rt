@@ -12,7 +12,7 @@ use chpw_frame::{ChangeData, ChangeFault, OLD_REQUEST_VERSION, read_change_data}
 use chpw_rules::Items;
 use chpw_table::{Body, Counts, Digest};
 use krb_der::OctetString;
-use krb_msgs::{ApOpened, OpenError, PrivFault, Private, open_priv};
+use krb_msgs::{ApOpened, OpenError, PrivFault, Private, Strictness, open_priv};
 use std::alloc::{AllocError, Global};
 
 /// The content of a KRB-PRIV, as it is judged; no keys are derived yet.
@@ -29,14 +29,15 @@ pub(crate) struct Content {
 /// realm.
 pub(crate) fn open_content(
     alloc: Global,
+    strictness: Strictness,
     realm: &[u8],
     version: u16,
     opened: &ApOpened,
     tail: &[u8],
 ) -> Result<Content, AllocError>
-    ensures content { IfOk result (HoldsContent realm.now version opened.now tail.now) }
+    ensures content { IfOk result (HoldsContent strictness realm.now version opened.now tail.now) }
 {
-    match open_priv(alloc, opened, tail) {
+    match open_priv(alloc, strictness, opened, tail) {
         Ok(private) => read_content(alloc, realm, version, private),
         Err(OpenError::Memory) => Err(AllocError),
         Err(OpenError::Fault(fault)) => Ok(bare(alloc, body_despite(fault), None)),
@@ -60,9 +61,10 @@ fn body_despite(fault: PrivFault) -> Body
 {
     match fault {
         PrivFault::Malformed => Body::BadData,
-        PrivFault::WrongMessage | PrivFault::NotSealed | PrivFault::WrongSeqNumber => {
-            Body::BadPrivate
-        }
+        PrivFault::WrongMessage
+        | PrivFault::NotSealed
+        | PrivFault::WrongSeqNumber
+        | PrivFault::Loose => Body::BadPrivate,
     }
 }
 

@@ -6,6 +6,7 @@ ghost use Rattle.chpw_messages.specs.Laws.{FramesOpen, PartsOpen};
 ghost use Rattle.chpw_messages.specs.OneOpening.{MessagesOpenOnce};
 ghost use Rattle.chpw_messages.specs.Prefixes.{KrbPrivsFollow, PrefixesOpen};
 ghost use Rattle.chpw_messages.specs.RepliesOpen.{ErrorFramesOpen, PrivateFramesOpen};
+ghost use Rattle.chpw_messages.specs.StrictLaws.{LooseMessagesAreBadPrivate, OtherMessagesOpenAlike, StrictMessagesOpen};
 ghost use Rattle.chpw_messages.specs.VersionLaws.{AllStay, ItsOwnStay, MessagesOpenOnceUnder, OthersAddNothing, OthersAreRefused, RequestsAreOfIt};
 ghost use Rattle.chpw_messages.specs.WorkedReplies.{MalformedReply, VersionReply, TooLongReply};
 
@@ -34,7 +35,16 @@ pub fn versions()
     ensures once { MessagesOpenOnceUnder }
 {}
 
-/// Whoever decides for such a service has the same receipts after a message of another version: it adds no entry.
+/// A service whose messages have to be strict opens a message whose KRB-PRIV isn't as a request with a bad KRB-PRIV. A
+/// request that has anything else asks the same of a service whose messages needn't be, and a message without such a
+/// KRB-PRIV opens alike to both.
+pub fn strict_messages()
+    ensures loose { LooseMessagesAreBadPrivate }
+    ensures strict { StrictMessagesOpen }
+    ensures others { OtherMessagesOpenAlike }
+{}
+
+/// Whoever decides for a service that answers requests of RFC 3244 alone has the same receipts after a message of another version: it adds no entry.
 pub fn other_versions<D: Decider>()
     ensures adds { (decider : D) (receipts : List Receipt) → OthersAddNothing (D.may_be_full decider receipts) }
 {}

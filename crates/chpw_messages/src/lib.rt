@@ -12,4 +12,4 @@ mod service;
 mod versions;
 
 pub use service::Service;
-pub use versions::Versions;
+pub use versions::{Acceptance, Versions};

@@ -5,57 +5,59 @@ ghost use Rattle.chpw_messages.specs.Holds.{HoldsMessage, HoldsParts, HoldsUnder
 
 use crate::content::open_content;
 use crate::incoming::incoming_of;
-use crate::versions::Versions;
+use crate::versions::Acceptance;
 use chpw_frame::{FrameFault, Parts, split_request};
 use chpw_serve::OpenResult;
-use krb_msgs::{OpenError, ServiceKey, open_ap};
+use krb_msgs::{OpenError, ServiceKey, Strictness, open_ap};
 use std::alloc::{AllocError, Global};
 
-/// What a message from this peer, an IPv4 address, high byte first, opens to, for a service that answers these versions.
+/// What a message from this peer, an IPv4 address, high byte first, opens to, for a service that accepts these.
 #[tactic(auto, using(crate::proofs::VersionLemmas::holds_refused, crate::proofs::VersionLemmas::holds_opened))]
 pub(crate) fn open_under(
     alloc: Global,
-    versions: Versions,
+    accepts: Acceptance,
     realm: &[u8],
     keys: &[ServiceKey],
     peer: [u8; 4],
     message: &[u8],
 ) -> Result<OpenResult, AllocError>
-    ensures opening { IfOk result (HoldsUnder versions realm.now keys.now peer message.now) }
+    ensures opening { IfOk result (HoldsUnder accepts realm.now keys.now peer message.now) }
     ensures times { IfOk result IsInTime }
 {
-    if versions.refuses(message) {
+    if accepts.versions.refuses(message) {
         return Ok(OpenResult::Refused(FrameFault::BadVersion.refusal()));
     }
-    open_message(alloc, realm, keys, peer, message)
+    open_message(alloc, accepts.messages, realm, keys, peer, message)
 }
 
-/// What a message opens to, for one that answers both.
+/// What a message opens to, for one that answers both versions.
 fn open_message(
     alloc: Global,
+    strictness: Strictness,
     realm: &[u8],
     keys: &[ServiceKey],
     peer: [u8; 4],
     message: &[u8],
 ) -> Result<OpenResult, AllocError>
-    ensures opening { IfOk result (HoldsMessage realm.now keys.now peer message.now) }
+    ensures opening { IfOk result (HoldsMessage strictness realm.now keys.now peer message.now) }
     ensures times { IfOk result IsInTime }
 {
     match split_request(message) {
         Err(fault) => Ok(OpenResult::Refused(fault.refusal())),
-        Ok(parts) => open_parts(alloc, realm, keys, peer, parts),
+        Ok(parts) => open_parts(alloc, strictness, realm, keys, peer, parts),
     }
 }
 
 /// What the parts of a message open to.
 fn open_parts(
     alloc: Global,
+    strictness: Strictness,
     realm: &[u8],
     keys: &[ServiceKey],
     peer: [u8; 4],
     parts: Parts<'_>,
 ) -> Result<OpenResult, AllocError>
-    ensures opening { IfOk result (HoldsParts realm.now keys.now peer
+    ensures opening { IfOk result (HoldsParts strictness realm.now keys.now peer
         parts.entry.version parts.entry.ap.now parts.entry.tail.now) }
     ensures times { IfOk result IsInTime }
 {
@@ -63,7 +65,14 @@ fn open_parts(
         Err(OpenError::Memory) => Err(AllocError),
         Err(OpenError::Fault(fault)) => Ok(OpenResult::Refused(fault.refusal())),
         Ok(opened) => {
-            let content = open_content(alloc, realm, parts.version, &opened, parts.tail)?;
+            let content = open_content(
+                alloc,
+                strictness,
+                realm,
+                parts.version,
+                &opened,
+                parts.tail,
+            )?;
             Ok(OpenResult::Opened(incoming_of(alloc, opened, content)?))
         }
     }

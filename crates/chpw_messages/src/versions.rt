@@ -1,8 +1,9 @@
-//! Which versions of requests a service answers.
+//! Which messages a service accepts.
 ghost use Rattle.std.specs.Prelude.{◌≡◌};
 ghost use Rattle.chpw_messages.specs.Versions as specs_of;
 
 use chpw_frame::REQUEST_VERSION;
+use krb_msgs::Strictness;
 
 /// The versions of requests that a service answers.
 #[derive(Clone, Copy, PartialEq, Eq, Debug, Drop)]
@@ -11,6 +12,14 @@ pub enum Versions {
     Both,
     /// 0xff80. A message of another version is answered `bad version`: 6, KRB_ERR_GENERIC (60).
     Rfc3244Only,
+}
+
+/// Which messages a service accepts.
+#[derive(Clone, Copy, PartialEq, Eq, Debug, Drop)]
+pub struct Acceptance {
+    pub versions: Versions,
+    /// Of their KRB-PRIVs.
+    pub messages: Strictness,
 }
 
 impl Versions {

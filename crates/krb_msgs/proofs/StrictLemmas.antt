@@ -23,13 +23,13 @@ use Rattle.krb_msgs.proofs.OneAnswerLemmas.{one_part, one_read}
 pub strict_privs_open : StrictPrivsOpen
 unfolding OpensPriv
 strict_privs_open subkey seq_number bytes answer (stops f h is) = inl (stops f h is)
-strict_privs_open subkey seq_number bytes answer (goes_on m h (unmet no is)) = inl (goes_on m h (unmet no is))
-strict_privs_open subkey seq_number bytes answer (goes_on m h (met yes (stops f k is))) = inl (goes_on m h (met yes (stops f k is)))
-strict_privs_open subkey seq_number bytes answer (goes_on m h (met yes (goes_on part k (unmet no is)))) =
-    inl (goes_on m h (met yes (goes_on part k (unmet no is))))
-strict_privs_open subkey seq_number bytes answer (goes_on m h (met yes (goes_on part k (met follows (met strict is))))) =
-    inl (goes_on m h (met yes (goes_on part k (met follows (met refl is)))))
-strict_privs_open subkey seq_number bytes answer (goes_on m h (met yes (goes_on part k (met follows (unmet loose is))))) = inr is
+strict_privs_open subkey seq_number bytes answer (goes_on m h (unmet wrong is)) = inl (goes_on m h (unmet wrong is))
+strict_privs_open subkey seq_number bytes answer (goes_on m h (met right (stops f k is))) = inl (goes_on m h (met right (stops f k is)))
+strict_privs_open subkey seq_number bytes answer (goes_on m h (met right (goes_on part k (unmet wrong is)))) =
+    inl (goes_on m h (met right (goes_on part k (unmet wrong is))))
+strict_privs_open subkey seq_number bytes answer (goes_on m h (met right (goes_on part k (met follows (met strict is))))) =
+    inl (goes_on m h (met right (goes_on part k (met follows (met refl is)))))
+strict_privs_open subkey seq_number bytes answer (goes_on m h (met right (goes_on part k (met follows (unmet loose is))))) = inr is
 
 pub other_privs_open_alike : OtherPrivsOpenAlike
 unfolding OpensPriv
@@ -37,21 +37,21 @@ other_privs_open_alike subkey seq_number bytes answer all = (to_lenient, to_stri
   where
     to_lenient : OpensPriv Strict subkey seq_number bytes answer → OpensPriv Lenient subkey seq_number bytes answer
     to_lenient (stops f h is) = stops f h is
-    to_lenient (goes_on m h (unmet no is)) = goes_on m h (unmet no is)
-    to_lenient (goes_on m h (met yes (stops f k is))) = goes_on m h (met yes (stops f k is))
-    to_lenient (goes_on m h (met yes (goes_on part k (unmet no is)))) = goes_on m h (met yes (goes_on part k (unmet no is)))
-    to_lenient (goes_on m h (met yes (goes_on part k (met follows (met strict is))))) =
-        goes_on m h (met yes (goes_on part k (met follows (met refl is))))
-    to_lenient (goes_on m h (met yes (goes_on part k (met follows (unmet loose is))))) = absurd (loose (all part (m, h, yes, k)))
+    to_lenient (goes_on m h (unmet wrong is)) = goes_on m h (unmet wrong is)
+    to_lenient (goes_on m h (met right (stops f k is))) = goes_on m h (met right (stops f k is))
+    to_lenient (goes_on m h (met right (goes_on part k (unmet wrong is)))) = goes_on m h (met right (goes_on part k (unmet wrong is)))
+    to_lenient (goes_on m h (met right (goes_on part k (met follows (met strict is))))) =
+        goes_on m h (met right (goes_on part k (met follows (met refl is))))
+    to_lenient (goes_on m h (met right (goes_on part k (met follows (unmet loose is))))) = absurd (loose (all part (m, h, right, k)))
 
     to_strict : OpensPriv Lenient subkey seq_number bytes answer → OpensPriv Strict subkey seq_number bytes answer
     to_strict (stops f h is) = stops f h is
-    to_strict (goes_on m h (unmet no is)) = goes_on m h (unmet no is)
-    to_strict (goes_on m h (met yes (stops f k is))) = goes_on m h (met yes (stops f k is))
-    to_strict (goes_on m h (met yes (goes_on part k (unmet no is)))) = goes_on m h (met yes (goes_on part k (unmet no is)))
-    to_strict (goes_on m h (met yes (goes_on part k (met follows (met lenient is))))) =
-        goes_on m h (met yes (goes_on part k (met follows (met (all part (m, h, yes, k)) is))))
-    to_strict (goes_on m h (met yes (goes_on part k (met follows (unmet never is))))) = absurd (never refl)
+    to_strict (goes_on m h (unmet wrong is)) = goes_on m h (unmet wrong is)
+    to_strict (goes_on m h (met right (stops f k is))) = goes_on m h (met right (stops f k is))
+    to_strict (goes_on m h (met right (goes_on part k (unmet wrong is)))) = goes_on m h (met right (goes_on part k (unmet wrong is)))
+    to_strict (goes_on m h (met right (goes_on part k (met follows (met lenient is))))) =
+        goes_on m h (met right (goes_on part k (met follows (met (all part (m, h, right, k)) is))))
+    to_strict (goes_on m h (met right (goes_on part k (met follows (unmet never is))))) = absurd (never refl)
 
 -- ---- the message and its part are those that the checks find
 
@@ -85,15 +85,15 @@ pub loose_privs_are_refused : LoosePrivsAreRefused
 unfolding OpensPriv
 loose_privs_are_refused subkey seq_number bytes part answer is_key has loose (stops f h is) =
     absurd (ok_err (read_once bytes (Ok has.0) (Err f) has.1 h))
-loose_privs_are_refused subkey seq_number bytes part answer is_key has loose (goes_on m h (unmet no is)) =
-    absurd (no (its_part subkey bytes part has m h).0)
-loose_privs_are_refused subkey seq_number bytes part answer is_key has loose (goes_on m h (met yes (stops f k is))) =
+loose_privs_are_refused subkey seq_number bytes part answer is_key has loose (goes_on m h (unmet wrong is)) =
+    absurd (wrong (its_part subkey bytes part has m h).0)
+loose_privs_are_refused subkey seq_number bytes part answer is_key has loose (goes_on m h (met right (stops f k is))) =
     absurd (ok_err (sealed_once subkey m (Ok part) (Err f) is_key (its_part subkey bytes part has m h).1 k))
-loose_privs_are_refused subkey seq_number bytes part answer is_key has loose (goes_on m h (met yes (goes_on p k (unmet no is)))) =
+loose_privs_are_refused subkey seq_number bytes part answer is_key has loose (goes_on m h (met right (goes_on p k (unmet wrong is)))) =
     inl is
-loose_privs_are_refused subkey seq_number bytes part answer is_key has loose (goes_on m h (met yes (goes_on p k (met follows (met strict is))))) =
+loose_privs_are_refused subkey seq_number bytes part answer is_key has loose (goes_on m h (met right (goes_on p k (met follows (met strict is))))) =
     let same = ok_is part p (sealed_once subkey m (Ok part) (Ok p) is_key (its_part subkey bytes part has m h).1 k) in
     let not_strict : meets Strict seq_number p ≡ false = subst (λ (x : EncKrbPrivPart). meets Strict seq_number x ≡ false) same loose in
     absurd (let no : true ≡ false = sym strict ∙ not_strict in cc)
-loose_privs_are_refused subkey seq_number bytes part answer is_key has loose (goes_on m h (met yes (goes_on p k (met follows (unmet no is))))) =
+loose_privs_are_refused subkey seq_number bytes part answer is_key has loose (goes_on m h (met right (goes_on p k (met follows (unmet wrong is))))) =
     inr is

@@ -1,7 +1,7 @@
 use Rattle.std.proofs.Common.{◌≡◌, [], Ok, Err, refl, ◌∙◌, ap, subst}
 use Rattle.std.proofs.lemmas.Result.{IfOk-weaker}
 use Rattle.krb_msgs.specs.declared.fault.PrivFault.{PrivFault}
-use Rattle.krb_msgs.specs.declared.fault.PrivFault.TheVariants.{Malformed, NotSealed, WrongMessage, WrongSeqNumber}
+use Rattle.krb_msgs.specs.declared.fault.PrivFault.TheVariants.{Loose, Malformed, NotSealed, WrongMessage, WrongSeqNumber}
 use Rattle.chpw_table.specs.declared.request.Target.{Target}
 use Rattle.chpw_serve.specs.Requests.{body_under, password_in}
 use Rattle.chpw_messages.specs.declared.content.Content.{Content}
@@ -13,6 +13,7 @@ no_password Malformed = refl
 no_password WrongMessage = refl
 no_password NotSealed = refl
 no_password WrongSeqNumber = refl
+no_password Loose = refl
 
 pub returns-in-Ok : goal.returns-in-Ok
 returns-in-Ok c = record {
