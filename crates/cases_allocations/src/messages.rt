@@ -13,7 +13,7 @@ use krb_der::{
     read_enc_ticket_part, read_krb_error,
 };
 use krb_keys::Key;
-use krb_msgs::{ApOpened, ServiceKey, open_ap, open_priv};
+use krb_msgs::{ApOpened, ServiceKey, Strictness, open_ap, open_priv};
 use std::alloc::Global;
 
 /// `make_.. HEX`, a message of that part; `open_..`, of alice's request; and `service`.
@@ -131,7 +131,7 @@ fn put_priv_of(page: &mut Page, sent: &Sent) -> Result<(), Stop> {
 }
 
 fn put_priv(page: &mut Page, found: &ApOpened, text: &[u8]) -> Result<(), Stop> {
-    let private = open_result(open_priv(page.alloc(), found, text))?;
+    let private = open_result(open_priv(page.alloc(), Strictness::Lenient, found, text))?;
     page.hexadecimal(private.user_bytes.as_slice());
     Ok(())
 }

@@ -5,13 +5,13 @@ use crate::making::krb_priv;
 use crate::parts::{change_first, forged, sealed_bytes, sealed_record};
 use crate::refusal::Refusal;
 use krb_der::{
-    EncKrbPrivPart, EncryptedData, KerberosFlags, KerberosTime, KrbPriv, Microseconds, SeqNumber,
-    fits, read_krb_priv, write_krb_priv,
+    EncKrbPrivPart, EncryptedData, HostAddress, KerberosFlags, KerberosTime, KrbPriv, Microseconds,
+    SeqNumber, fits, read_krb_priv, write_krb_priv,
 };
 use krb_keys::USAGE_KRB_PRIV;
-use krb_msgs::{ApOpened, OpenError, PrivFault, Private, open_priv};
+use krb_msgs::{ApOpened, OpenError, PrivFault, Private, Strictness, open_priv};
 use std::alloc::{AllocError, Global};
-use support_messages::{CTIME, CUSEC, REALM, bytes, client, private_part};
+use support_messages::{CTIME, CUSEC, REALM, bytes, client, host_address, private_part};
 
 /// What the AP-REQ before it opened to.
 fn opened_ap_req(alloc: Global) -> Result<ApOpened, AllocError> {
@@ -33,9 +33,18 @@ fn opened_ap_req(alloc: Global) -> Result<ApOpened, AllocError> {
 pub fn answer(alloc: Global, changes: &str) -> Result<String, Refusal> {
     let text = changed_text(alloc, changes)?;
     let opened = changed_opened(alloc, changes)?;
-    let private = open_priv(alloc, &opened, &text);
+    let private = open_priv(alloc, strictness_of(changes), &opened, &text);
     drop(opened);
     opening_text(alloc, private)
+}
+
+/// Whether messages have to be strict.
+fn strictness_of(changes: &str) -> Strictness {
+    if changes.contains("service strict") {
+        Strictness::Strict
+    } else {
+        Strictness::Lenient
+    }
 }
 
 /// What the AP-REQ before it opened to, with what is changed in it.
@@ -61,7 +70,7 @@ fn made_changed(
     changes: &str,
 ) -> Result<Vec<u8>, Refusal> {
     for change in changes.split(',') {
-        change_part(part, change.trim())?;
+        change_part(alloc, part, change.trim())?;
     }
     changed_priv(alloc, part, changes)
 }
@@ -106,7 +115,7 @@ fn message_bytes(alloc: Global, message: &KrbPriv) -> Result<Vec<u8>, Refusal> {
     Ok(write_krb_priv(alloc, message)?)
 }
 
-fn change_part(part: &mut EncKrbPrivPart, change: &str) -> Result<(), Refusal> {
+fn change_part(alloc: Global, part: &mut EncKrbPrivPart, change: &str) -> Result<(), Refusal> {
     match change {
         "part seq-number 6" => part.seq_number = Some(SeqNumber(6)),
         "part seq-number absent" => part.seq_number = None,
@@ -114,11 +123,21 @@ fn change_part(part: &mut EncKrbPrivPart, change: &str) -> Result<(), Refusal> {
             part.timestamp = Some(KerberosTime(1_000_099));
             part.usec = Some(Microseconds(7));
         }
-        "authenticator seq-number absent" | "text 76" | "" => {}
+        "part timestamp alone" => part.timestamp = Some(KerberosTime(1_000_099)),
+        "part r-address of the service" => part.r_address = Some(host_address(alloc, 1)?),
+        "part r-address of another" => part.r_address = Some(host_address(alloc, 2)?),
+        "part r-address of type 20" => part.r_address = Some(address_of_type(alloc, 20)?),
+        "authenticator seq-number absent" | "service strict" | "text 76" | "" => {}
         _ if change.starts_with("message ") => {}
         _ => return Err(Refusal::NoSuchCase),
     }
     Ok(())
+}
+
+/// The service's address, with another type.
+fn address_of_type(alloc: Global, addr_type: i32) -> Result<HostAddress, AllocError> {
+    let HostAddress { address, .. } = host_address(alloc, 1)?;
+    Ok(HostAddress { addr_type, address })
 }
 
 fn change_message(

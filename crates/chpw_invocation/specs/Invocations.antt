@@ -121,6 +121,7 @@ pub record AsksServe (options : List Row) (asked : ServeOptions) : Type 0 where
   pub control : option_map (λ socket. socket.now) asked.control ≡ first_of (codes "control") options
   pub udp : IsGiven options (codes "udp") asked.udp
   pub rfc3244_only : IsGiven options (codes "rfc3244-only") asked.rfc3244_only
+  pub strict_messages : IsGiven options (codes "strict-messages") asked.strict_messages
   pub strict_modes : IsGiven options (codes "strict-modes") asked.strict_modes
 
 pub record AsksControl (options : List Row) (asked : ControlOptions) : Type 0 where

@@ -58,7 +58,7 @@ key = command (codes "key")
 
 -- serve --config FILE --journal FILE --seed FILE --port N --workers N --connections N [--idle SECONDS]
 -- [--clients N] [--buffers MEBIBYTES] [--raise COUNT] [--log FILE] [--follower SOCKET] [--follower-wait MILLISECONDS]
--- [--control SOCKET] [--udp] [--rfc3244-only] [--strict-modes]
+-- [--control SOCKET] [--udp] [--rfc3244-only] [--strict-messages] [--strict-modes]
 abbrev pub serve : Shape
 serve = command (codes "serve")
     (required (codes "config")
@@ -77,6 +77,7 @@ serve = command (codes "serve")
     ∷ optional (codes "control")
     ∷ flag (codes "udp")
     ∷ flag (codes "rfc3244-only")
+    ∷ flag (codes "strict-messages")
     ∷ flag (codes "strict-modes")
     ∷ [])
 

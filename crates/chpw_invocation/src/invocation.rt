@@ -121,6 +121,8 @@ pub struct ServeOptions<'a> {
     pub udp: bool,
     /// Whether requests of RFC 3244 alone are answered, and those of the earlier protocol refused.
     pub rfc3244_only: bool,
+    /// Whether a KRB-PRIV is refused that RFC 4120 section 3.5.2 would have refused.
+    pub strict_messages: bool,
     /// Whether a start is refused when others may read or write one of its files.
     pub strict_modes: bool,
     ghost some_workers: { (1 ≤ workers) × (workers ≤ 16) },

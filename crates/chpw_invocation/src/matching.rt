@@ -178,6 +178,7 @@ fn serve_of<'a>(options: &ArgMatches<'a>) -> Option<Invocation<'a>>
         control: text_of(options, "control"),
         udp: is_given(options, "udp"),
         rfc3244_only: is_given(options, "rfc3244-only"),
+        strict_messages: is_given(options, "strict-messages"),
         strict_modes: is_given(options, "strict-modes"),
     }))
 }

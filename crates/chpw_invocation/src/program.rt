@@ -128,6 +128,9 @@ const UDP_HELP: &str = "Accept messages over UDP too, at the same port";
 const RFC3244_ONLY_HELP: &str =
     "Answer requests of the earlier protocol, version 0x0001, with 'bad version'";
 
+const STRICT_MESSAGES_HELP: &str =
+    "Refuse a KRB-PRIV without an expected sequence number or microseconds, or for another address";
+
 const STRICT_MODES_HELP: &str =
     "Don't start if other users may read or write the configuration, the seed, the log or the journal";
 
@@ -318,6 +321,7 @@ fn serve<'a>(alloc: Global) -> Result<Command<'a>, AllocError>
         optional("control", "SOCKET", CONTROL_HELP),
         flag("udp", UDP_HELP),
         flag("rfc3244-only", RFC3244_ONLY_HELP),
+        flag("strict-messages", STRICT_MESSAGES_HELP),
         flag("strict-modes", STRICT_MODES_HELP),
     ];
     command_with(alloc, "serve", SERVE, SERVE_MORE, &options)

@@ -3,7 +3,9 @@ ghost use Rattle.std.specs.Prelude.{◌≡◌, IfOk, map, true};
 ghost use Rattle.krb_msgs.specs.OneAnswer.{AreProtocolKeys};
 ghost use Rattle.chpw_rules.specs.Fitting.{config_fits};
 ghost use Rattle.chpw_messages.specs.Service.{configured, held};
-ghost use Rattle.chpw_service.specs.Serving.{versions_asked};
+ghost use Rattle.krb_msgs.specs.declared.private_message.Strictness.TheVariants.{Lenient};
+ghost use Rattle.chpw_messages.specs.declared.versions.Versions.TheVariants.{Both};
+ghost use Rattle.chpw_service.specs.Serving.{acceptance_asked};
 
 use chpw_invocation::ServeOptions;
 use chpw_messages::Service;
@@ -18,7 +20,7 @@ pub struct Rules {
     pub max_entries: u32,
 }
 
-/// The rules of a configuration, and the versions of requests that are asked for.
+/// The rules of a configuration, and the versions and the strictness of messages that are asked for.
 pub(crate) fn rules_of(
     alloc: Global,
     config: &Config,
@@ -28,16 +30,29 @@ pub(crate) fn rules_of(
     ensures realm { IfOk result (λ r. r.service.realm ≡ config.now.realm) }
     ensures keys { IfOk result (λ r. map held r.service.keys ≡ map configured config.now.service) }
     ensures protocol { IfOk result (λ r. AreProtocolKeys r.service.keys) }
-    ensures versions { IfOk result (λ r. r.service.versions ≡ versions_asked options.now.rfc3244_only) }
+    ensures accepts { IfOk result (λ r. r.service.accepts ≡ acceptance_asked options.now) }
     ensures max_entries { IfOk result (λ r. r.max_entries ≡ config.now.max_entries) }
 {
     let service = Service::of(alloc, config)?;
     Ok(Rules {
-        service: if options.rfc3244_only {
-            service.rfc3244_only()
-        } else {
-            service
-        },
+        service: service_for(service, options),
         max_entries: config.max_entries,
     })
+}
+
+// The service that answers the versions and takes the messages that are asked for.
+fn service_for(service: Service, options: &ServeOptions<'_>) -> Service
+    requires usual { service.accepts ≡ record { versions = Both; messages = Lenient } }
+    ensures value { result ≡ record service { accepts = acceptance_asked options.now } }
+{
+    let service = if options.rfc3244_only {
+        service.rfc3244_only()
+    } else {
+        service
+    };
+    if options.strict_messages {
+        service.strict_messages()
+    } else {
+        service
+    }
 }

@@ -3,7 +3,7 @@
 
 use crate::no_such;
 use krb_keys::Key;
-use krb_msgs::{ServiceKey, open_ap, open_priv};
+use krb_msgs::{ServiceKey, Strictness, open_ap, open_priv};
 use std::alloc::Global;
 use std::io;
 
@@ -20,7 +20,7 @@ const PEER: [u8; 4] = [127, 0, 0, 1];
 fn user_len(alloc: Global, ap_req: &[u8], krb_priv: &[u8]) -> Option<usize> {
     let keys = [SERVICE];
     let opened = open_ap(alloc, REALM, &keys, ap_req, PEER).ok()?;
-    let private = open_priv(alloc, &opened, krb_priv).ok()?;
+    let private = open_priv(alloc, Strictness::Lenient, &opened, krb_priv).ok()?;
     Some(private.user_bytes.as_slice().len())
 }
 

@@ -232,6 +232,7 @@ fn serving<'a>(port: u16, connections: u32, log: &'a str) -> ServeOptions<'a> {
         control: None,
         udp: false,
         rfc3244_only: false,
+        strict_messages: false,
         strict_modes: false,
     }
 }
