@@ -186,7 +186,8 @@ private_set strictness realm subkey seq_number tail (Ok p) content target is ope
 private_set strictness realm subkey seq_number tail (Err fault) content target is opens h =
     let none = sym is ∙ ap asked_target h ∙ despite_none fault in cc
 
-set_is : (strictness : Strictness) (realm : List ℕ) (keys : List ServiceKey) (peer ap_req tail : List ℕ) (a : Result ApOpened ApFault) (q : Request) (target : Target)
+set_is : (strictness : Strictness) (realm : List ℕ) (keys : List ServiceKey) (peer ap_req tail : List ℕ)
+    (a : Result ApOpened ApFault) (q : Request) (target : Target)
     → asked_target q.content ≡ Some target → OpensAp realm keys ap_req peer a → OpensAs strictness realm request_version tail a (opened q)
     → (a : ApOpened) × OpensAp realm keys ap_req peer (Ok a)
     × ((p : Private) × OpensPriv strictness a.subkey a.seq_number tail (Ok p) × NamesTarget p.user_bytes)

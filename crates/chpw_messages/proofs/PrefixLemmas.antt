@@ -149,7 +149,8 @@ module _ (hi lo c d e f : ℕ) (rest : List ℕ) (m : ℕ) (le : m ≤ length re
       ∙ drop-take (ap_length_of whole) (m - ap_length_of whole) rest
 
   -- it opens to what is cut short
-  left_opens : (strictness : Strictness) (realm : List ℕ) (keys : List ServiceKey) (peer : List ℕ) (q : Request) (k : KrbPriv) → m < length rest → six m ≤ longest
+  left_opens : (strictness : Strictness) (realm : List ℕ) (keys : List ServiceKey) (peer : List ℕ) (q : Request) (k : KrbPriv)
+      → m < length rest → six m ≤ longest
       → OpensTo strictness realm keys peer whole (opened q) → Spells krb_priv (tail_of whole) (krb_priv_value k)
       → OpensTo strictness realm keys peer left (cut_short (six m) whole q)
   left_opens strictness realm keys peer q k lt fit h spelled =
