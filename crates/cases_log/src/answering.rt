@@ -6,9 +6,7 @@ ghost use Rattle.chpw_table.specs.Times.{IsMoment};
 use crate::events;
 use crate::making::opened_request;
 use crate::words::{error_of, kind_of, maybe_number, number, octets, text_of, verdict_of};
-use chpw_log::{
-    Asked, Held, HeldCounts, Line, LineLimits, MessageEvent, write_held, write_line,
-};
+use chpw_log::{Asked, Held, HeldCounts, Line, LineLimits, MessageEvent, write_held, write_line};
 use chpw_table::{LAST_SECOND, Moment};
 use krb_protocol::Refusal;
 use std::alloc::Global;

@@ -21,7 +21,10 @@ fn tell_seed<W: Write>(errors: &mut W, file: &str, is_regular: bool) -> io::Resu
     ensures told { OnOk result (Appends (W.contents errors.old) (W.contents errors.new) (seed_line file.now is_regular)) }
 {
     if is_regular {
-        writeln!(errors, "the seed {file} is a regular file: use it only once")
+        writeln!(
+            errors,
+            "the seed {file} is a regular file: use it only once"
+        )
     } else {
         Ok(())
     }

@@ -299,7 +299,12 @@ fn client_asks_a_service(rt: HostRuntime) {
         client: "",
         ..own("New-pass6")
     };
-    assert!(rt; matches!(ask(&rt, &mut io::sink(), options(port, unnamed)), Ending::BadArgument));
+    assert!(rt;
+        matches!(
+            ask(&rt, &mut io::sink(), options(port, unnamed)),
+            Ending::BadArgument
+        )
+    );
 }
 
 // No line can be written to /dev/full, and a directory can't be a log.
@@ -363,5 +368,10 @@ fn files_without_a_password(rt: HostRuntime) {
     assert!(rt; matches!(ending, Ending::ManyLines(_)));
     let mut missing = options(1, own(""));
     missing.password = PasswordSource::File("client-tests.missing");
-    assert!(rt; matches!(ask(&rt, &mut io::sink(), missing), Ending::Unread("client-tests.missing")));
+    assert!(rt;
+        matches!(
+            ask(&rt, &mut io::sink(), missing),
+            Ending::Unread("client-tests.missing")
+        )
+    );
 }
