@@ -69,27 +69,32 @@ def moment(seconds, micros):
     return time.isoformat(timespec="microseconds") + "Z"
 
 
-def held(seconds, micros, loopback, other):
+# what is said of those without a line of their own, in the order of their summaries
+KINDS = {"unopened": "did not open", "skewed": "had too great a clock skew", "replayed": "were replayed"}
+
+
+def held(kind, seconds, micros, loopback, other):
     return (f"{moment(seconds, micros)} worker - peer - client - target - code - error - kvno - "
-            f"text {int(loopback) + int(other)} more did not open: {loopback} from 127.0.0.0/8, {other} from elsewhere")
+            f"text {int(loopback) + int(other)} more {KINDS[kind]}: {loopback} from 127.0.0.0/8, {other} from elsewhere")
 
 
 def limited(words):
-    """Ten lines in any second; the others are told once the first of them is a second away, or at the end."""
-    shown, lines, others = "", [], []
+    """Ten lines of a kind in any second; its others are told once the first of them is a second away, or at the end."""
+    shown, lines, others = "", {kind: [] for kind in KINDS}, {kind: [] for kind in KINDS}
     for word in words:
-        time, _, peer = word.partition("@")
+        came, time, peer = word.split("@")
         time = int(time)
-        if others and (abs(time - others[0][0]) >= 10**6 or len(others) == 10**6):
-            shown += told(others)
-            others = []
-        if len(lines) < 10 or abs(time - lines[-10]) >= 10**6:
-            lines.append(time)
+        for kind, held_back in others.items():
+            if held_back and (abs(time - held_back[0][0]) >= 10**6 or len(held_back) == 10**6):
+                shown += told(kind, held_back)
+                held_back.clear()
+        if len(lines[came]) < 10 or abs(time - lines[came][-10]) >= 10**6:
+            lines[came].append(time)
             shown += "+"
         else:
-            others.append((time, ipaddress.IPv4Address(bytes.fromhex(peer))))
+            others[came].append((time, ipaddress.IPv4Address(bytes.fromhex(peer))))
             shown += "-"
-    return shown + (told(others) if others else "")
+    return shown + "".join(told(kind, held_back) for kind, held_back in others.items() if held_back)
 
 
 # what happens to the service (docs/PROTOCOL.md), and the names of its numbers
@@ -110,9 +115,9 @@ def event(seconds, micros, kind, *values):
     return " ".join([moment(seconds, micros), "service", kind] + [f"{name} {value}" for name, value in pairs])
 
 
-def told(others):
+def told(kind, others):
     here = sum(peer.is_loopback for _, peer in others)
-    return f"({here} {len(others) - here})"
+    return f"({kind} {here} {len(others) - here})"
 
 
 def answer(case):

@@ -13,9 +13,11 @@ import tempfile
 import threading
 import time
 
+import changepw_client as wire
 from command import Parser
 from journal import Record, plain_record, raise_record, read_journal
 from kill import ITERATIONS, keys_of
+from ports import free_ports
 from report import Report
 from sample_realm import write_configuration
 from server import Server, private
@@ -23,6 +25,8 @@ from server import Server, private
 SCRIPT = "realm EXAMPLE.COM\npolicy 0 0 2 4096 no\nprincipal alice 1 4096:a1\nopen 10 -1\n"
 LONGEST_PASSWORD = 60_000
 HEAD = pathlib.Path(__file__).resolve().parent.parent / "samples/head.toml"
+# printable ASCII
+PRINTED = bytes(range(0x20, 0x7F))
 NO_TEXT = "a word of the command line is not UTF-8"
 MISSING = "no such file"
 
@@ -55,18 +59,17 @@ class Program:
 
     def ended(self, *words, script=None, closed=(), **streams):
         """Standard output, standard error and status; of clap's text only that there is one."""
-        streams = {"stdout": subprocess.PIPE, **streams}
+        streams = {"stdout": subprocess.PIPE, "stderr": subprocess.PIPE, **streams}
         command = [self.program, *words]
         done = subprocess.run(
             closing(closed, command) if closed else command,
             input=script,
-            stderr=subprocess.PIPE,
             text=True,
             timeout=60,
             cwd=self.folder,
             **streams,
         )
-        errors = done.stderr.strip()
+        errors = (done.stderr or "").strip()
         if done.returncode == 2 and len(errors.splitlines()) > 1:
             errors = "a text"
         return (done.stdout or "").strip(), errors, done.returncode
@@ -235,6 +238,32 @@ def keys_brought_in(program):
     program.tell("key: no file", unreadable("missing", MISSING), "key", *words[:-1], "missing")
 
 
+def nothing_told(program):
+    """Where standard error takes nothing, each ending still has its status; nor are skipped entries passed over."""
+    short, long = bytes(range(16)), bytes(range(32))
+    alice = [("EXAMPLE.COM", "alice", 3, 18, long), ("EXAMPLE.COM", "alice", 3, 17, short)]
+    for name, entries in ("whole", alice), ("more", [*alice, ("OTHER.COM", "bob", 1, 17, short)]):
+        (program.folder / name).write_bytes(keytab(*entries))
+    missing = ["--config", "missing", "--seed", "s", "--port", "1"]
+    brought = ["import", "--realm", "EXAMPLE.COM", "--keytab"]
+    with open("/dev/full", "w") as full:
+        for words, status in [
+            (["check", "--config", "missing"], 1),
+            (["table", "--config", "missing", "--journal", "j"], 1),
+            (["serve", *missing, "--journal", "j", "--workers", "1", "--connections", "1"], 1),
+            (["client", *missing, "--client", "alice", "--password", "New-pass2"], 1),
+            (["client", *missing, "--client", "", "--password", "New-pass2"], 2),
+            (["control", "--socket", "missing", "status"], 1),
+            ([*brought, "missing"], 1),
+            ([*brought, "more"], 1),
+            ([*brought, "whole"], 0),
+            (["--help"], 2),
+            ([], 2),
+        ]:
+            ended = program.ended(*words, stderr=full)
+            program.report.tell(f"nothing told: {' '.join(words)}", ended[2], status)
+
+
 def keys_behind_a_head(program):
     """What `import` writes, joined behind a configuration's head, is read as both: the head's rule, and these keys."""
     short, long = bytes(range(16)), bytes(range(32))
@@ -317,7 +346,7 @@ class Client:
         self.program = program
         self.options = {
             "--config": server.configuration,
-            "--seed": server.seed,
+            "--seed": "/dev/urandom",
             "--port": server.port,
             "--client": "alice",
             "--password": "New-pass2",
@@ -358,6 +387,8 @@ def client_alone(program):
     bad = ("", f"config: C1 file 0\n{fault_of(program, 'no-toml')}", 1)
     client.tell("no TOML", bad, config="no-toml", seed="short")
     client.tell("nobody there", ("", "cannot connect", 1))
+    warned = f"the seed {server.seed} is a regular file: use it only once\ncannot connect"
+    client.tell("a seed in a file", ("", warned, 1), seed=server.seed)
     client.tell("the longest password", ("", "cannot connect", 1), password=long[1:])
 
 
@@ -395,6 +426,7 @@ def control(program):
         ("refused", ["reopen-log"], "ok\nerror: cannot write log\n", "", 1),
         ("ended without its newline", ["stop"], "ok", "", 1),
         ("no answer", ["stop"], "", "connection ended", 1),
+        ("more than printable ASCII", ["status"], "\x1b[31mred \\x1b \u00e9~\x7f\r\nok\n", "", 0),
     ]:
         with socket.socket(socket.AF_UNIX) as listener:
             listener.bind(str(path))
@@ -402,10 +434,15 @@ def control(program):
             heard = []
             answering = threading.Thread(target=answer_line, args=(listener, answer, heard))
             answering.start()
-            program.tell(f"control: {what}", (answer.strip(), errors, status), *words, *command)
+            program.tell(f"control: {what}", (shown(answer).strip(), errors, status), *words, *command)
             answering.join()
             program.report.tell(f"control: {what}: its line", heard, [" ".join(command) + "\n"])
         path.unlink()
+
+
+def shown(answer, plain=PRINTED + b"\n"):
+    """As it is printed: what isn't printable ASCII is escaped."""
+    return "".join(chr(byte) if byte in plain else f"\\x{byte:02x}" for byte in answer.encode())
 
 
 def answer_line(listener, answer, heard):
@@ -426,10 +463,100 @@ def client_unanswered(program):
             answering.join()
 
 
-def answer_one(listener, reply):
+def client_answered_oddly(program):
+    """A KRB-ERROR of anybody, whose text has more than printable ASCII."""
+    text = "\x1b[31mpassword changed\\x1b \u00e9\x7f\r\n"
+    reply = wire.error_reply(4, 60, text.encode(), 1_764_052_310)
+    server = program.server("alice")
+    with socket.create_server(("127.0.0.1", server.port)) as listener:
+        answering = threading.Thread(target=answer_one, args=(listener, behind_length(reply)))
+        answering.start()
+        wanted = "code 4 error 60 " + shown(text, PRINTED.replace(b"\\", b""))
+        Client(program, server).tell("an error with escapes", (wanted, "", 1))
+        answering.join()
+
+
+def client_seeds(program):
+    """All bytes of a seed count: two requests of one seed have one KRB-PRIV, and no two of seeds that differ in a byte."""
+    first, *others = bytes(32), bytes(31) + b"\1", b"\1" + bytes(31)
+    parts = [private_part(program, seed) for seed in (first, first, *others)]
+    program.report.tell("client: one seed twice", parts[0] == parts[1], True)
+    program.report.tell("client: other seeds", len(set(parts)), 3)
+
+
+def private_part(program, seed):
+    """The KRB-PRIV that `client` sends with this seed (RFC 3244 section 2)."""
+    server = program.server("alice")
+    (program.folder / "once").write_bytes(seed)
+    heard = []
+    with socket.create_server(("127.0.0.1", server.port)) as listener:
+        answering = threading.Thread(target=answer_one, args=(listener, b"", heard))
+        answering.start()
+        wanted = ("", "the seed once is a regular file: use it only once\nconnection ended", 1)
+        Client(program, server).tell("a seed in a file, and no reply", wanted, seed="once")
+        answering.join()
+    request = heard[0][4:]
+    return request[6 + int.from_bytes(request[4:6], "big") :]
+
+
+def behind_length(message):
+    return len(message).to_bytes(4, "big") + message
+
+
+def given_up(program):
+    """`client` and `control` at services that say nothing, or a byte now and then, all at once: after 30 seconds."""
+    ports, path = free_ports(2), program.folder / "silent.socket"
+    silent, dripping = (socket.create_server(("127.0.0.1", port)) for port in ports)
+    held = socket.socket(socket.AF_UNIX)
+    held.bind(str(path))
+    held.listen()
+    server = program.server("alice")
+    calls = [(f"client, port {what}", [f"{name}={value}" for name, value in (Client(program, server).options | {"--port": port}).items()])
+             for what, port in zip(("silent", "dripping"), ports)]
+    calls = [(what, ["client", *words]) for what, words in calls]
+    calls.append(("control", ["control", "--socket", path, "status"]))
+    told = {}
+
+    def call(what, words):
+        start = time.monotonic()
+        ended = program.ended(*words)
+        told[what] = ended, time.monotonic() - start
+
+    threads = [threading.Thread(target=call, args=it) for it in calls]
+    for thread in threads:
+        thread.start()
+    drip(dripping, threads)
+    for thread in threads:
+        thread.join()
+    for listener in silent, dripping, held:
+        listener.close()
+    for what, _ in calls:
+        ended, seconds = told[what]
+        program.report.tell(f"given up: {what}", ended, ("", "no answer within 30 seconds", 1))
+        program.report.tell(f"given up: {what}: after {seconds:.1f} s", 30 <= seconds < 45, True)
+
+
+def drip(listener, threads):
+    """Sends a byte of a long message each second, as long as one of these runs."""
     connection, _ = listener.accept()
     with connection:
-        connection.recv(65_536)
+        text = behind_length(bytes(60_000))
+        for place in range(60):
+            if not any(thread.is_alive() for thread in threads):
+                break
+            try:
+                connection.sendall(text[place : place + 1])
+            except OSError:
+                pass
+            time.sleep(1)
+
+
+def answer_one(listener, reply, heard=None):
+    connection, _ = listener.accept()
+    with connection:
+        message = connection.recv(65_536)
+        if heard is not None:
+            heard.append(message)
         connection.sendall(reply)
 
 
@@ -523,12 +650,16 @@ CASES = [
     check,
     keys_brought_in,
     keys_behind_a_head,
+    nothing_told,
     table,
     serve,
     second_service,
     client_alone,
     client_unanswered,
+    client_answered_oddly,
+    client_seeds,
     client_answered,
+    given_up,
     passwords_read,
     control,
     closed_descriptors,

@@ -83,18 +83,17 @@ def forbidden(report, server):
 
 def change(server, number):
     """What the client prints."""
-    words = ["--config", server.configuration, "--seed", server.seed, "--port", str(server.port)]
+    words = ["--config", server.configuration, "--seed", "/dev/urandom", "--port", str(server.port)]
     words += ["--client", NAME, "--password", f"New-pass{number}"]
     done = subprocess.run([server.program, "client", *words], capture_output=True, text=True)
     return (done.stdout + done.stderr).strip()
 
 
 def full_disk(report, server):
-    """The journal takes three records and a part of the fourth, by a limit on the file's length."""
+    """The journal takes three records and a part of the fourth, by a limit on the file's length; no signal ends it."""
     server.journal.unlink(missing_ok=True)
     resource.setrlimit(resource.RLIMIT_FSIZE, (3 * RECORD + 20, resource.RLIM_INFINITY))
-    # this process ignores the signal of that limit, and serve does with it
-    server.start(connections=6, restore_signals=False)
+    server.start(connections=6)
     resource.setrlimit(resource.RLIMIT_FSIZE, (resource.RLIM_INFINITY, resource.RLIM_INFINITY))
     answers = [change(server, number) for number in range(6)]
     wanted = ["code 0 password changed"] * 3 + ["code 2 journal failed"] * 3
@@ -129,7 +128,7 @@ def raising(report, server):
     raises = [Raise(8192), Raise(8193)]
     report.tell("in the journal", read_journal(server.journal.read_bytes()), (raises, b""))
     resource.setrlimit(resource.RLIMIT_FSIZE, (16, resource.RLIM_INFINITY))
-    found = said_at_start(server, 8194, restore_signals=False)
+    found = said_at_start(server, 8194)
     resource.setrlimit(resource.RLIMIT_FSIZE, (resource.RLIM_INFINITY, resource.RLIM_INFINITY))
     failed = f"{server.journal}: journal failed: no change is accepted until a restart"
     report.tell("a disk for two", found, (["journal failed"], f"{tally}\n{failed}"))

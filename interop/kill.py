@@ -72,8 +72,6 @@ class Changes(threading.Thread):
         self.asked = []
         self.answered = 0
         self.last = ""
-        self.seed = server.journal.with_name(f"seed-{name}")
-        self.seed.write_bytes(os.urandom(32))
 
     def run(self):
         for number in itertools.count():
@@ -95,7 +93,7 @@ class Changes(threading.Thread):
     def words(self):
         return {
             "config": self.server.configuration,
-            "seed": self.seed,
+            "seed": "/dev/urandom",
             "port": self.server.port,
             "client": self.name,
             "password": self.asked[-1],

@@ -5,8 +5,8 @@ ghost use Rattle.chpw_table.specs.Times.{IsMoment};
 
 use crate::events;
 use crate::making::opened_request;
-use crate::words::{error_of, maybe_number, number, octets, text_of, verdict_of};
-use chpw_log::{Asked, Held, Line, LineLimit, MessageEvent, write_held, write_line};
+use crate::words::{error_of, kind_of, maybe_number, number, octets, text_of, verdict_of};
+use chpw_log::{Asked, Held, HeldCounts, Line, LineLimits, MessageEvent, write_held, write_line};
 use chpw_table::{LAST_SECOND, Moment};
 use krb_protocol::Refusal;
 use std::alloc::Global;
@@ -97,9 +97,9 @@ fn refusal(code: &str, error: &str, text: &str) -> Result<Refusal, Fault> {
     })
 }
 
-// SECONDS MICROS LOOPBACK OTHER
+// KIND SECONDS MICROS LOOPBACK OTHER
 fn held_line(alloc: Global, words: &[&str]) -> Result<String, Fault> {
-    let [seconds, micros, loopback, other] = words else {
+    let [kind, seconds, micros, loopback, other] = words else {
         return Err(Fault::NoSuchCase);
     };
     let moment = Moment {
@@ -115,27 +115,37 @@ fn held_line(alloc: Global, words: &[&str]) -> Result<String, Fault> {
         other,
         since: 0,
     };
-    line_of(alloc, write_held(alloc, moment, &held)?.as_slice())
+    line_of(
+        alloc,
+        write_held(alloc, moment, kind_of(kind)?, &held)?.as_slice(),
+    )
 }
 
-// TIME@PEER ..: for each `+` if it has its line and otherwise `-`, after the summary before it; finally the last
-// summary.
+// KIND@TIME@PEER ..: for each `+` if it has its line and otherwise `-`, after the summaries before it; finally the last
+// summaries.
 fn limited_lines(alloc: Global, words: &[&str]) -> Result<String, Fault> {
-    let mut limit = LineLimit::new();
+    let mut limits = LineLimits::new();
     let mut text = String::new(alloc);
     for word in words {
-        let Some((time, peer)) = word.split_once('@') else {
+        let parts: Vec<&str> = word.split('@').collect(alloc)?;
+        let [kind, time, peer] = parts.as_slice() else {
             return Err(Fault::NoSuchCase);
         };
-        let leave = limit.ask(number(time)?, octets(alloc, peer)?);
-        push_told(&mut text, leave.told)?;
+        let leave = limits.ask(kind_of(kind)?, number(time)?, octets(alloc, peer)?);
+        push_counts(&mut text, leave.told)?;
         text.push_str(if leave.line { "+" } else { "-" })?;
     }
-    push_told(&mut text, limit.rest())?;
+    push_counts(&mut text, limits.rest())?;
     Ok(text)
 }
 
-fn push_told(text: &mut String, told: Option<Held>) -> Result<(), Fault> {
+fn push_counts(text: &mut String, told: HeldCounts) -> Result<(), Fault> {
+    push_told(text, "unopened", told.unopened)?;
+    push_told(text, "skewed", told.skewed)?;
+    push_told(text, "replayed", told.replayed)
+}
+
+fn push_told(text: &mut String, kind: &str, told: Option<Held>) -> Result<(), Fault> {
     if let Some(
         Held {
             loopback,
@@ -144,7 +154,7 @@ fn push_told(text: &mut String, told: Option<Held>) -> Result<(), Fault> {
         },
     ) = told
     {
-        write!(text, "({loopback} {other})")?;
+        write!(text, "({kind} {loopback} {other})")?;
     }
     Ok(())
 }

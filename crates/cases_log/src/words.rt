@@ -1,5 +1,6 @@
 //! Words of a case.
 
+use chpw_log::HeldKind;
 use chpw_table::Verdict;
 use std::alloc::Global;
 use std::str::FromStr;
@@ -53,6 +54,16 @@ pub fn text_of(word: &str) -> Result<&'static str, Fault> {
         "full" => Ok("history full"),
         "none" => Ok(""),
         "strange" => Ok(" a\tb\\c\u{e9}d\ne~\u{7f}/@ "),
+        _ => Err(Fault::NoSuchCase),
+    }
+}
+
+/// A kind of messages whose lines are limited.
+pub fn kind_of(word: &str) -> Result<HeldKind, Fault> {
+    match word {
+        "unopened" => Ok(HeldKind::Unopened),
+        "skewed" => Ok(HeldKind::Skewed),
+        "replayed" => Ok(HeldKind::Replayed),
         _ => Err(Fault::NoSuchCase),
     }
 }

@@ -1,6 +1,7 @@
 -- What a client prints of a reply, and its exit status.
 use Rattle.std.specs.Prelude.{◌≡◌, ◌⊎◌, ℕ, ℤ, ◌==◌, ◌&&◌, List, [], ◌++◌, true, Option, Some, None, Result, Ok, Err, codes, is_none, if◌then◌else◌}
 use Rattle.std.specs.Fmt.{decimal, signed_decimal}
+use Rattle.chpw_printing.specs.Quoting.{words_text}
 use Rattle.krb_msgs.specs.Replies.{OpensReply}
 use Rattle.krb_msgs.specs.declared.fault.ReplyFault.{ReplyFault}
 use Rattle.krb_msgs.specs.declared.reply.Reply.{Reply}
@@ -13,9 +14,9 @@ abbrev pub error_words : Option ℤ → List ℕ
 error_words None = []
 error_words (Some error) = codes " error " ++ signed_decimal error
 
--- code C TEXT, or code C error E TEXT; the text as it came
+-- code C TEXT, or code C error E TEXT; the text as the log prints it
 abbrev pub line_of : Reply → List ℕ
-line_of r = codes "code " ++ decimal r.code ++ error_words r.error ++ codes " " ++ r.text
+line_of r = codes "code " ++ decimal r.code ++ error_words r.error ++ codes " " ++ words_text r.text
 
 -- 0 only for code 0 in a sealed reply: nothing protects a KRB-ERROR, and its code is never 0 (RFC 3244
 -- section 2)

@@ -4,11 +4,13 @@ ghost use Rattle.chpw_client.specs.Lines.{IsLine, line_of, status_of};
 
 use crate::request::Sent;
 use chpw_frame::split_reply;
+use chpw_printing::put_words;
 use krb_msgs::{OpenError, Reply, read_reply};
 use std::alloc::{AllocError, Global};
 
 /// What is printed for the reply to a request, and the exit status: `code C TEXT` or `code C error E TEXT`, and 0 only
-/// for code 0 in a sealed reply. `None` if the reply can't be read.
+/// for code 0 in a sealed reply. The text is printed as the log prints it, since nobody knows who sent a KRB-ERROR: bytes
+/// that aren't printable ASCII, and `\`, are `\x` and two hexadecimal digits. `None` if the reply can't be read.
 pub fn client_line(
     alloc: Global,
     sent: &Sent,
@@ -45,7 +47,7 @@ fn line(alloc: Global, said: &Reply) -> Result<Vec<u8>, AllocError>
         None => format!(in alloc; "code {code} ")?,
     };
     let mut line = head.into_bytes();
-    line.extend_from_slice(said.text.as_slice())?;
+    put_words(&mut line, said.text.as_slice())?;
     Ok(line)
 }
 

@@ -3,6 +3,7 @@
 
 mod compact;
 mod fault;
+mod file_limit;
 mod file_sink;
 mod journal_file;
 pub mod laws;
@@ -14,6 +15,7 @@ mod restoring;
 
 pub use compact::compact_journal;
 pub use fault::RestoreFault;
+pub use file_limit::room_for;
 pub use file_sink::FileSink;
 pub use journal_file::{Journal, JournalFile, OpenFault, open_journal};
 pub use memory_sink::MemorySink;

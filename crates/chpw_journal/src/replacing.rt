@@ -3,6 +3,7 @@ ghost use Rattle.std.specs.Prelude.{◌≡◌, IfOk, OnOk, string_bytes};
 ghost use Rattle.std.specs.Io.KnownBytes.{Appends};
 ghost use Rattle.chpw_journal.specs.FileNames.{beside};
 
+use crate::file_limit::room_for;
 use crate::journal_file::is_name_kept;
 use std::alloc::{AllocError, Global};
 use std::fs::{self, File, Files, OpenFile, OpenOptions};
@@ -77,6 +78,9 @@ pub fn write_new<R: Files<File = File>>(rt: &R, path: &str, text: &[u8]) -> io::
 fn put<F: Write + OpenFile>(file: &mut F, text: &[u8]) -> io::Result<()>
     ensures written { OnOk result (Appends (F.contents file.old) (F.contents file.new) text.now) }
 {
+    if room_for(file, text.len()) < text.len() {
+        return Err(io::Error::from(ErrorKind::FileTooLarge));
+    }
     file.write_all(text)?;
     file.sync_all()
 }

@@ -1,11 +1,14 @@
 -- Fields, and the line that they make.
 use Rattle.std.proofs.Common.{◌≡◌, ◌∙◌, ℕ, ◌<◌, true, List, [], ◌∷◌, ◌++◌, length, length-append, append_assoc}
-use Rattle.std.proofs.Common.{codes, ap, map, Bool, cond, Result, Ok, Err, is_ok, OnOk, ◌^◌, refl, arith}
+use Rattle.std.proofs.Common.{codes, ap, map, cond, Result, Ok, Err, is_ok, OnOk, ◌^◌, refl, arith}
 use Rattle.std.specs.List.{join_with_byte}
 use Rattle.std.specs.Fmt.{decimal}
 use Rattle.std.proofs.lemmas.Bool.{and_from, and_parts}
 use Rattle.std.proofs.lemmas.List.Folds.{list_all-append}
 use Rattle.chpw_rules.specs.Limits.{range, is_in}
+use Rattle.chpw_log.specs.declared.kind.HeldKind.{HeldKind}
+use Rattle.chpw_log.specs.declared.kind.HeldKind.TheVariants.{Unopened, Skewed, Replayed}
+use Rattle.chpw_log.specs.Summaries.{kind_words}
 use Rattle.chpw_printing.specs.Quoting.{are_graphic, are_printed, is_field}
 use Rattle.chpw_printing.proofs.QuotingLemmas.{decimal_graphic, field_of, graphic_printed}
 use Rattle.chpw_log.specs.Lines.{IsRecord, Outcome, address_text, are_fields, outcome_fields}
@@ -71,22 +74,26 @@ mark_joined old a = simp append_assoc refl
 
 -- ---- the words of what was held back
 
-pub words_joined : (old a b c : List ℕ)
-    → old ++ a ++ codes " more did not open: " ++ b ++ codes " from 127.0.0.0/8, " ++ c ++ codes " from elsewhere"
-    ≡ old ++ (a ++ codes " more did not open: " ++ b ++ codes " from 127.0.0.0/8, " ++ c ++ codes " from elsewhere")
-words_joined old a b c = simp append_assoc refl
+pub words_joined : (old a kind b c : List ℕ)
+    → old ++ a ++ kind ++ b ++ codes " from 127.0.0.0/8, " ++ c ++ codes " from elsewhere"
+    ≡ old ++ (a ++ kind ++ b ++ codes " from 127.0.0.0/8, " ++ c ++ codes " from elsewhere")
+words_joined old a kind b c = simp append_assoc refl
 
 pub both_printed : (front back : List ℕ) → are_printed front ≡ true → are_printed back ≡ true → are_printed (front ++ back) ≡ true
 both_printed front back h k =
     list_all-append (is_in (range 0x20 0x7e)) front back ∙ and_from _ _ h k
 
-pub words_printed : (a b c : List ℕ) → are_printed a ≡ true → are_printed b ≡ true → are_printed c ≡ true
-    → are_printed (a ++ codes " more did not open: " ++ b ++ codes " from 127.0.0.0/8, " ++ c ++ codes " from elsewhere") ≡ true
-words_printed a b c h k l =
-    let one = codes " more did not open: " in
+pub kind_printed : (kind : HeldKind) → are_printed (kind_words kind) ≡ true
+kind_printed Unopened = refl
+kind_printed Skewed = refl
+kind_printed Replayed = refl
+
+pub words_printed : (a one b c : List ℕ) → are_printed a ≡ true → are_printed one ≡ true → are_printed b ≡ true → are_printed c ≡ true
+    → are_printed (a ++ one ++ b ++ codes " from 127.0.0.0/8, " ++ c ++ codes " from elsewhere") ≡ true
+words_printed a one b c h o k l =
     let two = codes " from 127.0.0.0/8, " in
     let three = codes " from elsewhere" in
-    let p : are_printed (a ++ one) ≡ true = both_printed a one h refl in
+    let p : are_printed (a ++ one) ≡ true = both_printed a one h o in
     let q : are_printed (a ++ one ++ b) ≡ true = both_printed (a ++ one) b p k in
     let r : are_printed (a ++ one ++ b ++ two) ≡ true = both_printed (a ++ one ++ b) two q refl in
     let s : are_printed (a ++ one ++ b ++ two ++ c) ≡ true = both_printed (a ++ one ++ b ++ two) c r l in

@@ -2,6 +2,7 @@ pub mod Moments
 pub mod Lines
 pub mod Tellings
 pub mod Limits
+pub mod Kinds
 pub mod Summaries
 pub mod Unconfirmed
 pub mod Laws

@@ -1,4 +1,4 @@
--- Which messages that didn't open have a line of their own: ten in any one second. The others are counted.
+-- Which messages of one kind have a line of their own: ten in any one second. The others are counted.
 -- Times are microseconds.
 use Rattle.std.specs.Prelude.{ℕ, ◌+◌, ◌-◌, nat_le, List, [], ◌∷◌, Bool, true, false, not, ◌==◌, ◌&&◌, ◌||◌, if◌then◌else◌, Option, Some, None, take}
 use Rattle.chpw_log.specs.declared.held.Held.{Held}
@@ -65,7 +65,10 @@ rest_of h = if is_none_held h then None else Some h
 abbrev pub left_at : ℕ → Held → Held
 left_at now h = if is_due now h then none_held else h
 
--- after a message that came at this time from this peer
+-- the others with a message that came at this time from this peer, if it has no line
+abbrev pub counted_after : ℕ → List ℕ → List (Option ℕ) → Held → Held
+counted_after now peer lines h = if is_free now lines then h else one_more now peer h
+
+-- the same, where a summary was due before it
 abbrev pub held_after : ℕ → List ℕ → List (Option ℕ) → Held → Held
-held_after now peer lines h =
-    if is_free now lines then left_at now h else one_more now peer (left_at now h)
+held_after now peer lines h = counted_after now peer lines (left_at now h)

@@ -1,6 +1,6 @@
 //! Messages without a line of their own.
 
-/// How many messages that didn't open were held back: they have no line of their own.
+/// How many messages of one kind were held back: they have no line of their own.
 #[derive(Clone, Copy, Drop)]
 pub struct Held {
     /// Those from this machine, of 127.0.0.0/8.

@@ -3,8 +3,10 @@
 
 mod event;
 mod held;
+mod kind;
 pub mod laws;
 mod limit;
+mod limits;
 mod line;
 mod message_event;
 mod moment;
@@ -14,7 +16,8 @@ mod writing;
 
 pub use event::{ServiceEvent, write_event};
 pub use held::Held;
-pub use limit::{LineLimit, LinePermit};
+pub use kind::HeldKind;
+pub use limits::{HeldCounts, LineLimits, LinePermit};
 pub use line::{Line, micros_of};
 pub use message_event::{Asked, MessageEvent, Party};
 pub use summing::write_held;

@@ -1,6 +1,6 @@
-//! Which messages that didn't open have a line of their own: so few that no flood of them fills a disk.
+//! Which messages of one kind have a line of their own: so few that no flood of them fills a disk.
 ghost use Rattle.std.specs.Prelude.{◌≡◌, ◌+◌, ◌<◌, ◌≤◌, IfSome};
-ghost use Rattle.chpw_log.specs.Limits.{held_after, is_apart, is_due, is_free, is_gone, is_none_held, left_at};
+ghost use Rattle.chpw_log.specs.Limits.{counted_after, is_apart, is_due, is_free, is_gone, is_none_held, left_at};
 ghost use Rattle.chpw_log.specs.Limits.{lines_after, no_lines, none_held, one_more, rest_of, told_at};
 
 use crate::held::Held;
@@ -11,19 +11,10 @@ const SECOND: u64 = 1_000_000;
 /// The most messages that one summary counts.
 const MOST: u32 = 1_000_000;
 
-/// What is to be written for a message that didn't open.
+/// Which messages of one kind have a line of their own: ten in any one second. The others are counted, and a summary of
+/// them is due once the first of them is a second old; the count then starts again.
 #[derive(Clone, Copy, Drop)]
-pub struct LinePermit {
-    /// First the summary of how many were held back, if it is due.
-    pub told: Option<Held>,
-    /// Then a line of its own, if it has one.
-    pub line: bool,
-}
-
-/// Which messages that didn't open have a line of their own: ten in any one second. The others are counted, and a
-/// summary of them is due once the first of them is a second old; the count then starts again.
-#[derive(Clone, Copy, Drop)]
-pub struct LineLimit {
+pub(crate) struct LineLimit {
     /// When the last ten lines were, newest first.
     lines: [Option<u64>; 10],
     held: Held,
@@ -89,21 +80,19 @@ impl LineLimit {
         }
     }
 
-    /// What is to be written for a message from this peer that didn't open, at this time in microseconds. If it has no
-    /// line of its own it is counted.
-    pub fn ask(&mut self, now: u64, peer: [u8; 4]) -> LinePermit
-        ensures told { result.told ≡ told_at now self.old.held }
-        ensures few { IfSome result.told (λ held. held.loopback + held.other ≤ 1000000) }
-        ensures line { result.line ≡ is_free now self.old.lines }
+    /// Whether a message of the kind has a line of its own, at this time in microseconds. If it has none it is counted,
+    /// as one from this peer.
+    pub fn take(&mut self, now: u64, peer: [u8; 4]) -> bool
+        requires room { self.old.held.loopback + self.old.held.other < 1000000 }
+        ensures line { result ≡ is_free now self.old.lines }
         ensures lines { self.new.lines ≡ lines_after now self.old.lines }
-        ensures held { self.new.held ≡ held_after now peer self.old.lines self.old.held }
+        ensures held { self.new.held ≡ counted_after now peer self.old.lines self.old.held }
     {
-        let told = self.due(now);
         let line = self.note(now);
         if !line {
             self.held = self.held.with(now, peer);
         }
-        LinePermit { told, line }
+        line
     }
 
     /// How many were held back, if a summary is due at this time; the count then starts again.

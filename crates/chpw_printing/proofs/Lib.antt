@@ -1,2 +1,3 @@
 pub mod QuotingLemmas
+pub mod LinesLemmas
 pub mod TimeLemmas

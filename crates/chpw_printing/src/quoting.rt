@@ -85,7 +85,7 @@ fn put_words_byte(text: &mut Vec<u8>, byte: u8) -> Result<(), AllocError>
 }
 
 // A byte as `\x` and two hexadecimal digits.
-fn put_escaped(text: &mut Vec<u8>, byte: u8) -> Result<(), AllocError>
+pub(crate) fn put_escaped(text: &mut Vec<u8>, byte: u8) -> Result<(), AllocError>
     ensures value { OnOk result (text.new.items ≡ text.old.items ++ escaped byte) }
     ensures graphic { are_graphic (escaped byte) ≡ true }
 {

@@ -6,7 +6,8 @@ use Rattle.std.specs.Str.{bytes_eq}
 use Rattle.chpw_invocation.specs.Controls.{file_of, word_of}
 use Rattle.chpw_invocation.specs.declared.invocation.ControlCommand.{ControlCommand}
 use Rattle.chpw_program.specs.declared.ending.Ending.{Ending}
-use Rattle.chpw_program.specs.declared.ending.Ending.TheVariants.{Good, Unanswered, Refused}
+use Rattle.chpw_commands.specs.declared.drill.DrillFault.TheVariants.{Memory, Write}
+use Rattle.chpw_program.specs.declared.ending.Ending.TheVariants.{Good, Early, Unanswered, Refused}
 
 -- the line of a command: its word and, after a space, its file if it has one
 abbrev pub line_of : ControlCommand → List ℕ
@@ -29,3 +30,9 @@ abbrev pub IsAnswered : Ending → Type 0
 IsAnswered Good = Unit {0}
 IsAnswered Refused = Unit {0}
 IsAnswered _ = ⊥
+
+-- an answer couldn't be printed, or not be held for that
+abbrev pub IsUnprinted : Ending → Type 0
+IsUnprinted (Early Memory) = Unit {0}
+IsUnprinted (Early Write) = Unit {0}
+IsUnprinted _ = ⊥

@@ -10,7 +10,7 @@ use Rattle.chpw_service.specs.declared.fault.ServeFault.{ServeFault}
 use Rattle.chpw_program.specs.declared.ending.Ending.{Ending}
 use Rattle.chpw_program.specs.declared.ending.Ending.TheVariants.{Good, Faulty, Early, Unread, Unserved, Unbrought}
 use Rattle.chpw_program.specs.declared.ending.Ending.TheVariants.{EmptyPassword, ManyLines, BadArgument, Unconnected}
-use Rattle.chpw_program.specs.declared.ending.Ending.TheVariants.{Unanswered, Refused, Misused, NotText}
+use Rattle.chpw_program.specs.declared.ending.Ending.TheVariants.{Unanswered, TimedOut, Refused, Misused, NotText}
 
 abbrev pub status_of : Ending → ℕ
 status_of Good = 0
@@ -24,6 +24,7 @@ status_of (ManyLines file) = 1
 status_of BadArgument = 2
 status_of Unconnected = 1
 status_of Unanswered = 1
+status_of TimedOut = 1
 status_of Refused = 1
 status_of Misused = 2
 status_of NotText = 2
@@ -41,6 +42,7 @@ line_of (ManyLines file) = file.now ++ codes ": more than one line"
 line_of BadArgument = codes "bad argument"
 line_of Unconnected = codes "cannot connect"
 line_of Unanswered = codes "connection ended"
+line_of TimedOut = codes "no answer within 30 seconds"
 line_of Refused = []
 line_of Misused = []
 line_of NotText = codes "a word of the command line is not UTF-8"
@@ -58,6 +60,7 @@ has_line (ManyLines file) = true
 has_line BadArgument = true
 has_line Unconnected = true
 has_line Unanswered = true
+has_line TimedOut = true
 has_line Refused = false
 has_line Misused = false
 has_line NotText = true

@@ -3,4 +3,6 @@ pub mod Checking
 pub mod Controlling
 pub mod Endings
 pub mod NewPasswords
+pub mod Patience
 pub mod Reasons
+pub mod Seeds

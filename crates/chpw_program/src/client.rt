@@ -1,5 +1,5 @@
 //! `client`: one request to a service on this machine, and what its reply says.
-ghost use Rattle.std.specs.Prelude.{◌≡◌, ◌<◌, ◌≤ℤ◌, ◌<ℤ◌, ◌++◌, ◌∷◌, [], ℕ, List, pos, true, None, Some, IfErr, IfOk, IfSome, option_map};
+ghost use Rattle.std.specs.Prelude.{◌≡◌, ◌≢◌, ◌<◌, ◌≤ℤ◌, ◌<ℤ◌, ◌++◌, ◌∷◌, [], ℕ, List, pos, true, None, Some, IfErr, IfOk, IfSome, option_map};
 ghost use Rattle.std.specs.Io.KnownBytes.{Appends};
 ghost use Rattle.chpw_client.specs.Lines.{IsLine};
 ghost use Rattle.chpw_frame.specs.Receiving.{IsReceived};
@@ -13,6 +13,8 @@ ghost use Rattle.chpw_program.specs.NewPasswords.{IsPassword};
 
 use crate::ending::Ending;
 use crate::new_password::password_of;
+use crate::patience::{Patience, Timed, ending_of, longest_wait};
+use crate::seeds::warn_of_seed;
 use chpw_client::{LAST_START, LONGEST_PASSWORD, Sent, client_line, client_request};
 use chpw_commands::DrillFault;
 use chpw_frame::{LONGEST_MESSAGE, Received, read_tcp, write_tcp};
@@ -25,24 +27,28 @@ use chpw_table::Moment;
 use std::alloc::Global;
 use std::fs::{File, Files};
 use std::io;
-use std::io::{Read, Write};
-use std::net::{Net, TcpStream};
+use std::io::{ErrorKind, Read, Write};
+use std::net::{Ipv4Addr, Net, SocketAddr, TcpStream};
 use std::time::Clock;
 
 /// Sends the request, and prints what the reply says. The names, the password and the moment are checked first, then
-/// the configuration and the seed are read, and then the service is called.
+/// the configuration and the seed are read, `errors` gets a line if the seed is a regular file, and then the service is
+/// called. After 30 seconds without a whole reply it gives up.
 #[tactic(auto, using(crate::proofs::AskingLemmas::unasked, crate::proofs::AskingLemmas::replied))]
-pub fn ask<'a, R>(rt: &R, options: ClientOptions<'a>) -> Ending<'a>
+pub fn ask<'a, R, W: Write>(rt: &R, errors: &mut W, options: ClientOptions<'a>) -> Ending<'a>
 where
     R: Files<File = File> + Net<Stream = TcpStream> + Clock + Input + Print + AllocGlobal,
     ensures asked { HasAsked options.entry result }
 {
     match request(rt, options) {
         Err(ending) => ending,
-        Ok(sent) => match exchange(rt, options.port, sent.message.as_slice()) {
-            Err(ending) => ending,
-            Ok(reply) => print_reply(rt, &sent, reply.as_slice()),
-        },
+        Ok(sent) => {
+            warn_of_seed(rt, errors, options.seed);
+            match exchange(rt, options.port, sent.message.as_slice()) {
+                Err(ending) => ending,
+                Ok(reply) => print_reply(rt, &sent, reply.as_slice()),
+            }
+        }
     }
 }
 
@@ -188,15 +194,43 @@ fn in_time<'a>(now: Option<Moment>) -> Result<Moment, Ending<'a>>
     }
 }
 
-// The reply to a message.
+// The reply to a message, if there is one within 30 seconds.
 fn exchange<'a, R>(rt: &R, port: u16, message: &[u8]) -> Result<Vec<u8>, Ending<'a>>
 where
-    R: Net<Stream = TcpStream> + AllocGlobal,
+    R: Net<Stream = TcpStream> + Clock + AllocGlobal,
     ensures early { IfErr result IsUnasked }
 {
-    match TcpStream::connect(rt, ("127.0.0.1", port)) {
-        Ok(stream) => exchange_over(rt.alloc(), message, &mut &stream, &mut &stream),
-        Err(_) => Err(Ending::Unconnected),
+    let patience = Patience::start(rt);
+    let address = SocketAddr::from((Ipv4Addr::LOCALHOST, port));
+    match TcpStream::connect_timeout(rt, &address, longest_wait()) {
+        Ok(stream) => {
+            let mut service = Timed {
+                rt,
+                connection: &stream,
+                patience,
+            };
+            let mut replies = Timed {
+                rt,
+                connection: &stream,
+                patience,
+            };
+            match exchange_over(rt.alloc(), message, &mut service, &mut replies) {
+                Ok(reply) => Ok(reply),
+                Err(ending) => Err(ending_of(ending, patience.left(rt).is_none())),
+            }
+        }
+        Err(error) => Err(unconnected(error.kind())),
+    }
+}
+
+// The ending if there is no connection.
+fn unconnected<'a>(kind: ErrorKind) -> Ending<'a>
+    ensures late { kind ≡ ErrorKind.TimedOut → result ≡ Ending.TimedOut }
+    ensures other { kind ≢ ErrorKind.TimedOut → result ≡ Ending.Unconnected }
+{
+    match kind {
+        ErrorKind::TimedOut => Ending::TimedOut,
+        _ => Ending::Unconnected,
     }
 }
 

@@ -48,7 +48,7 @@ where
         Ok(Invocation::Key(options)) => ending_of_keys(tell_password(rt, options)),
         Ok(Invocation::Serve(options)) => ending_of_service(serve(rt, options)),
         Ok(Invocation::Control(options)) => send_command(rt, options),
-        Ok(Invocation::Client(options)) => ask(rt, options),
+        Ok(Invocation::Client(options)) => ask(rt, errors, options),
     }
 }
 

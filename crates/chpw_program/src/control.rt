@@ -1,20 +1,25 @@
 //! `control`: a command for a running service, and its answer.
-ghost use Rattle.std.specs.Prelude.{◌≡◌, ◌≢◌, ◌⊎◌, ◌==◌, true, IfOk, IfSome, string_bytes};
+ghost use Rattle.std.specs.Prelude.{◌≡◌, ◌≢◌, ◌⊎◌, ◌==◌, true, IfErr, IfOk, IfSome, OnOk, string_bytes};
 ghost use Rattle.std.specs.Io.KnownBytes.{Appends};
 ghost use Rattle.std.specs.IoError.{error_kind};
 ghost use Rattle.chpw_program.specs.Controlling as controlling;
-ghost use Rattle.chpw_program.specs.Controlling.{IsAnswered, ending_by, line_of, says_ok};
+ghost use Rattle.chpw_program.specs.Controlling.{IsAnswered, IsUnprinted, ending_by, line_of, says_ok};
+ghost use Rattle.chpw_printing.specs.Lines.{lines_text};
 
 use crate::ending::Ending;
+use crate::patience::{Patience, Timed, ending_of};
 use chpw_commands::DrillFault;
 use chpw_invocation::{ControlCommand, ControlOptions};
+use chpw_printing::put_lines;
 use std::alloc::{AllocError, Global};
 use std::io::{self, ErrorKind, Read, Write};
 use std::net::Net;
 use std::os::unix::net::UnixStream;
+use std::time::Clock;
 
-/// Sends the command to the service that listens at the socket, prints its answer, and ends accordingly.
-pub fn send_command<'a, R: Net + Print + AllocGlobal>(
+/// Sends the command to the service that listens at the socket, prints its answer, and ends accordingly. After 30 seconds
+/// it gives up, and the service goes on.
+pub fn send_command<'a, R: Net + Clock + Print + AllocGlobal>(
     rt: &R,
     options: ControlOptions<'a>,
 ) -> Ending<'a>
@@ -23,14 +28,28 @@ pub fn send_command<'a, R: Net + Print + AllocGlobal>(
     if is_broken(&options.command) {
         return Ending::BadArgument;
     }
+    let patience = Patience::start(rt);
     match UnixStream::connect(rt, options.socket) {
-        Ok(stream) => tell_service(
-            rt.alloc(),
-            &options.command,
-            &mut &stream,
-            &mut &stream,
-            &mut io::writer(rt),
-        ),
+        Ok(stream) => {
+            let mut service = Timed {
+                rt,
+                connection: &stream,
+                patience,
+            };
+            let mut replies = Timed {
+                rt,
+                connection: &stream,
+                patience,
+            };
+            let ending = tell_service(
+                rt.alloc(),
+                &options.command,
+                &mut service,
+                &mut replies,
+                &mut io::writer(rt),
+            );
+            ending_of(ending, patience.left(rt).is_none())
+        }
         Err(_) => Ending::Unconnected,
     }
 }
@@ -45,7 +64,8 @@ fn is_broken(command: &ControlCommand<'_>) -> bool
     }
 }
 
-/// Writes the command's line to a service, and the service's answer to `out`, and ends accordingly.
+/// Writes the command's line to a service, and the service's answer to `out`, with escapes for what isn't printable
+/// ASCII, and ends accordingly.
 pub fn tell_service<'a, S: Write, A: Read, W: Write>(
     alloc: Global,
     command: &ControlCommand<'_>,
@@ -57,7 +77,7 @@ pub fn tell_service<'a, S: Write, A: Read, W: Write>(
         → Appends (S.contents service.old) (S.contents service.new) (line_of command.now) }
     ensures ends { IsAnswered result → IfSome (A.remaining answers.old) (λ answer. result ≡ ending_by answer) }
     ensures printed { IsAnswered result
-        → IfSome (A.remaining answers.old) (Appends (W.contents out.old) (W.contents out.new)) }
+        → IfSome (A.remaining answers.old) (λ answer. Appends (W.contents out.old) (W.contents out.new) (lines_text answer)) }
 {
     let Ok(line) = command_line(alloc, command) else {
         return Ending::Early(DrillFault::Memory);
@@ -67,8 +87,8 @@ pub fn tell_service<'a, S: Write, A: Read, W: Write>(
     }
     let mut answer = Vec::new(alloc);
     match answers.read_to_end(&mut answer) {
-        Ok(_) => print_answer(answer.as_slice(), out),
-        Err(error) => broken_off(answer.as_slice(), &error, out),
+        Ok(_) => print_answer(alloc, answer.as_slice(), out),
+        Err(error) => broken_off(alloc, answer.as_slice(), &error, out),
     }
 }
 
@@ -82,18 +102,33 @@ fn command_line(alloc: Global, command: &ControlCommand<'_>) -> Result<String, A
 }
 
 // Prints a whole answer, and ends accordingly.
-fn print_answer<'a, W: Write>(answer: &[u8], out: &mut W) -> Ending<'a>
+fn print_answer<'a, W: Write>(alloc: Global, answer: &[u8], out: &mut W) -> Ending<'a>
     ensures ends { IsAnswered result → result ≡ ending_by answer.now }
-    ensures printed { IsAnswered result → Appends (W.contents out.old) (W.contents out.new) answer.now }
-    ensures told { (result ≡ ending_by answer.now) ⊎ (result ≡ Ending.Early DrillFault.Write) }
+    ensures printed { IsAnswered result → Appends (W.contents out.old) (W.contents out.new) (lines_text answer.now) }
+    ensures told { (result ≡ ending_by answer.now) ⊎ IsUnprinted result }
 {
     if answer.is_empty() {
         return Ending::Unanswered;
     }
-    match out.write_all(answer) {
-        Err(_) => Ending::Early(DrillFault::Write),
+    match print_lines(alloc, answer, out) {
+        Err(fault) => Ending::Early(fault),
         Ok(()) if is_ok(answer) => Ending::Good,
         Ok(()) => Ending::Refused,
+    }
+}
+
+// Prints lines of a service, with escapes for what isn't printable ASCII.
+fn print_lines<W: Write>(alloc: Global, lines: &[u8], out: &mut W) -> Result<(), DrillFault>
+    ensures printed { OnOk result (Appends (W.contents out.old) (W.contents out.new) (lines_text lines.now)) }
+    ensures fault { IfErr result (λ fault. (fault ≡ DrillFault.Memory) ⊎ (fault ≡ DrillFault.Write)) }
+{
+    let mut text = Vec::new(alloc);
+    if put_lines(&mut text, lines).is_err() {
+        return Err(DrillFault::Memory);
+    }
+    match out.write_all(text.as_slice()) {
+        Ok(()) => Ok(()),
+        Err(_) => Err(DrillFault::Write),
     }
 }
 
@@ -105,17 +140,21 @@ fn is_ok(answer: &[u8]) -> bool
 }
 
 // Prints what came of an answer that broke off.
-fn broken_off<'a, W: Write>(answer: &[u8], error: &io::Error, out: &mut W) -> Ending<'a>
+fn broken_off<'a, W: Write>(
+    alloc: Global,
+    answer: &[u8],
+    error: &io::Error,
+    out: &mut W,
+) -> Ending<'a>
     ensures unanswered { IsAnswered result → ⊥ }
-    ensures printed { result ≢ Ending.Early DrillFault.Write
-        → Appends (W.contents out.old) (W.contents out.new) answer.now }
-    ensures memory { error_kind error.now ≡ ErrorKind.OutOfMemory
-        → (result ≡ Ending.Early DrillFault.Memory) ⊎ (result ≡ Ending.Early DrillFault.Write) }
+    ensures printed { (IsUnprinted result → ⊥)
+        → Appends (W.contents out.old) (W.contents out.new) (lines_text answer.now) }
+    ensures memory { error_kind error.now ≡ ErrorKind.OutOfMemory → IsUnprinted result }
     ensures ended { error_kind error.now ≢ ErrorKind.OutOfMemory
-        → (result ≡ Ending.Unanswered) ⊎ (result ≡ Ending.Early DrillFault.Write) }
+        → (result ≡ Ending.Unanswered) ⊎ IsUnprinted result }
 {
-    match out.write_all(answer) {
-        Err(_) => Ending::Early(DrillFault::Write),
+    match print_lines(alloc, answer, out) {
+        Err(fault) => Ending::Early(fault),
         Ok(()) if error.kind() == ErrorKind::OutOfMemory => Ending::Early(DrillFault::Memory),
         Ok(()) => Ending::Unanswered,
     }

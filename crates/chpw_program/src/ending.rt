@@ -35,6 +35,8 @@ pub enum Ending<'a> {
     Unconnected,
     /// No reply came that can be read.
     Unanswered,
+    /// None came within 30 seconds.
+    TimedOut,
     /// The service answered with another code than 0; or without `ok` at the end.
     Refused,
     /// The command line asks for no command, or for help.
@@ -54,7 +56,7 @@ impl Ending<'_> {
             Ending::Good => 0,
             Ending::Faulty { .. } | Ending::Early(_) | Ending::Unread(_) | Ending::Unserved(_) => 1,
             Ending::Unbrought(_) | Ending::EmptyPassword(_) | Ending::ManyLines(_) => 1,
-            Ending::Unconnected | Ending::Unanswered | Ending::Refused => 1,
+            Ending::Unconnected | Ending::Unanswered | Ending::TimedOut | Ending::Refused => 1,
             Ending::BadArgument | Ending::Misused | Ending::NotText => 2,
         }
     }
@@ -96,6 +98,7 @@ impl fmt::Display for Ending<'_> {
             Ending::BadArgument => f.write_str("bad argument"),
             Ending::Unconnected => f.write_str("cannot connect"),
             Ending::Unanswered => f.write_str("connection ended"),
+            Ending::TimedOut => f.write_str("no answer within 30 seconds"),
             Ending::NotText => f.write_str("a word of the command line is not UTF-8"),
         }
     }

@@ -9,8 +9,10 @@ mod control;
 mod descriptors;
 mod ending;
 mod new_password;
+mod patience;
 mod reasons;
 mod running;
+mod seeds;
 
 pub use client::ask;
 pub use command_line::words;

@@ -43,11 +43,18 @@ where
             let ending = run(rt, errors, words.as_slice());
             let status = end(errors, &ending);
             let reason = reason_of(rt, words.as_slice(), &ending);
-            let _ = tell_reason(errors, &reason);
-            status
+            explain(errors, &reason, status)
         }
         Err(ending) => end(errors, &ending),
     }
+}
+
+// Reports the reason of a run's ending, if there is one; the run's status, also where the line can't be written.
+fn explain<W: Write>(errors: &mut W, reason: &Option<Reason<'_>>, status: u8) -> u8
+    ensures value { result ≡ status }
+{
+    let _ = tell_reason(errors, reason);
+    status
 }
 
 // Writes the line of a reason, if there is one.

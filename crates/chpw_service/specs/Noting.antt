@@ -6,18 +6,31 @@ use Rattle.chpw_table.specs.declared.request.Target.{Target}
 use Rattle.chpw_table.specs.declared.history.Event.{Event}
 use Rattle.chpw_table.specs.declared.history.Event.TheVariants.{Ask, Raise}
 use Rattle.chpw_table.specs.declared.verdict.Verdict.{Verdict}
-use Rattle.chpw_table.specs.declared.verdict.Verdict.TheVariants.{Broken}
+use Rattle.chpw_table.specs.declared.verdict.Verdict.TheVariants.{Skew, Replay, Broken}
 use Rattle.chpw_table.specs.Requests.{client_of}
 use Rattle.chpw_table.specs.Replies.{Answer, answer_of}
 use Rattle.chpw_serve.specs.Hearing.{Heard, decision, refusal}
+use Rattle.chpw_log.specs.declared.kind.HeldKind.{HeldKind}
+use Rattle.chpw_log.specs.declared.kind.HeldKind.TheVariants.{Unopened, Skewed, Replayed}
 use Rattle.chpw_log.specs.Lines.{Outcome, target_asked, line_with}
 
--- the line of a message that opened, of this moment; that of one that didn't, which may be held back, with its peer;
--- or that the journal did not take a change, at this moment
+-- the line of a message that opened, of this moment; that of one of a kind whose lines are limited, which may be held
+-- back, with its moment and peer; or that the journal did not take a change, at this moment
 pub data Noted : Type 0 where
   opened : Moment → List ℕ → Noted
-  unopened : Moment → List ℕ → List ℕ → Noted
+  limited : HeldKind → Moment → List ℕ → List ℕ → Noted
   journal_failed : Moment → Noted
+
+-- what anybody can have answered without a ticket: a message that was recorded, long ago or a short while ago
+abbrev pub kind_of : Verdict → Option HeldKind
+kind_of Skew = Some Skewed
+kind_of Replay = Some Replayed
+kind_of v = None
+
+-- a line, of a limited kind or of none
+abbrev pub noted_line : Option HeldKind → Moment → List ℕ → List ℕ → Noted
+noted_line None now peer line = opened now line
+noted_line (Some kind) now peer line = limited kind now peer line
 
 -- the result of a message, with the reply's answer
 abbrev pub outcome_with : Option Target → Option Target → Answer → Option ℕ → Outcome
@@ -48,11 +61,12 @@ failed_under now v = []
 
 -- for a decision: its line, and before it that the journal failed, if it did; a raise belongs to no message
 abbrev pub noted_event : ℕ → List ℕ → Moment → Event → Option ℕ → List Noted
-noted_event worker peer now (Ask o v) kvno = failed_under now v ++ opened now (decided_line worker peer now o v kvno) ∷ []
+noted_event worker peer now (Ask o v) kvno =
+    failed_under now v ++ noted_line (kind_of v) now peer (decided_line worker peer now o v kvno) ∷ []
 noted_event worker peer now (Raise count v) kvno = []
 
 -- by the observer of this worker
 abbrev pub noted : ℕ → Heard → List Noted
 noted worker (decision peer now r kvno) = noted_event worker peer now r.entry.event kvno
 noted worker (refusal peer now (Some o) a) = opened now (refused_line worker peer now o a) ∷ []
-noted worker (refusal peer now None a) = unopened now peer (unopened_line worker peer now a) ∷ []
+noted worker (refusal peer now None a) = limited Unopened now peer (unopened_line worker peer now a) ∷ []

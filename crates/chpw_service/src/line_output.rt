@@ -5,6 +5,7 @@ ghost use Rattle.std.specs.Io.KnownBytes.{Appends};
 ghost use Rattle.chpw_service.specs.Sheets.{ended, is_begun, is_taken, is_told_at_once};
 
 use crate::readiness::Readiness;
+use chpw_journal::room_for;
 use std::alloc::Global;
 use std::fs::{self, File, Files, OpenOptions};
 use std::io::{self, ErrorKind, Write};
@@ -86,7 +87,8 @@ impl LineOutput {
     }
 
     /// Appends a line, after a newline if the last one is incomplete; whether it is written whole. Nothing is written
-    /// if the output takes no line within half a second, or took none for the line before.
+    /// if the output takes no line within half a second, or took none for the line before; or if the file would be
+    /// longer than the process may make it.
     pub(crate) fn append<R: Eprint>(&mut self, rt: &R, line: &[u8]) -> bool
         ensures whole { result ≡ true → self.new.torn ≡ false }
         ensures part { result ≡ false → (self.new.torn ≡ true)
@@ -97,6 +99,8 @@ impl LineOutput {
             return false;
         }
         let whole = match &mut self.output {
+            // A newline may come before it.
+            Output::File(file) if room_for(file, line.len() + 1) <= line.len() => false,
             Output::File(file) => write_line(file, self.torn, line),
             Output::StandardError => print_line(rt, self.torn, line),
         };

@@ -1,9 +1,9 @@
 //! The log of a service: a line for the result of each message.
-ghost use Rattle.std.specs.Prelude.{◌+◌, ◌≤◌, ◌≡◌, ◌≢◌, ◌<◌, IfErr};
+ghost use Rattle.std.specs.Prelude.{◌≡◌, ◌≢◌, ◌<◌, IfErr, IfSome};
 ghost use Rattle.std.specs.IoError.{error_kind};
-ghost use Rattle.std.specs.Option.{ForSome};
 ghost use Rattle.chpw_table.specs.Times.{IsMoment};
 ghost use Rattle.chpw_log.specs.Events.{IsQuietTold};
+ghost use Rattle.chpw_log.specs.Kinds.{AreFew, IsFew};
 ghost use Rattle.chpw_service.specs.Faults.{IsOfClash, IsOfLog, IsUnlogged};
 ghost use Rattle.chpw_service.specs.declared.fault.ServeFault.TheVariants.{Memory};
 
@@ -16,8 +16,8 @@ use crate::observers::Lines;
 use crate::raising::RaiseReport;
 use chpw_invocation::ServeOptions;
 use chpw_log::{
-    Held, Line, LineLimit, ServiceEvent, micros_of, write_event, write_held, write_line,
-    write_unconfirmed,
+    Held, HeldCounts, HeldKind, Line, LineLimits, ServiceEvent, micros_of, write_event, write_held,
+    write_line, write_unconfirmed,
 };
 use chpw_pool::Unconfirmed;
 use chpw_table::{Moment, Table};
@@ -27,8 +27,9 @@ use std::io::{self, ErrorKind};
 use std::net::Net;
 use std::sync::{Mutex, Wait};
 
-/// The reports of a running service: in its log, if there is one, a line for each message that opened, and for ten a
-/// second of the others, by the worker that answers it and before it is answered. The desk's lock is free then.
+/// The reports of a running service: in its log, if there is one, a line for each message, but of those that anybody can
+/// send without end for ten a second of a kind, by the worker that answers it and before it is answered. The desk's lock
+/// is free then.
 ///
 /// A line that can't be written, or not within half a second, is lost, and the service goes on: the part that is
 /// written, or an empty line, shows where. The first lost line is also reported on standard error, and so is the first
@@ -55,7 +56,7 @@ struct Book<'l> {
 #[derive(Drop)]
 struct End {
     sheet: LineOutput,
-    limit: LineLimit,
+    limits: LineLimits,
     losses: Losses,
 }
 
@@ -96,7 +97,7 @@ fn book_at<'l, 'a: 'l, R: Files<File = File> + Net>(
                 path,
                 end: Mutex::new(End {
                     sheet,
-                    limit: LineLimit::new(),
+                    limits: LineLimits::new(),
                     losses: Losses::default(),
                 }),
             })),
@@ -141,14 +142,14 @@ impl<R: Wait + Eprint> Log<'_, R> {
         }
     }
 
-    /// Appends the summary that is still due, and the line of the end. They are the last ones.
+    /// Appends the summaries that are still due, and the line of the end. They are the last ones.
     pub(crate) fn end(&self, now: Moment)
         requires moment { IsMoment now }
         requires micros { now.micros < 1000000 }
     {
         if let Some(book) = &self.book {
-            let held = book.end.lock(self.rt).limit.rest();
-            self.put_held(book, now, held);
+            let held = book.end.lock(self.rt).limits.rest();
+            self.put_counts(book, now, held);
         }
         self.put_event(now, &self.facts().end());
     }
@@ -192,21 +193,21 @@ impl<R: Wait + Eprint> Log<'_, R> {
         }
     }
 
-    // Appends the line of a message that opened.
+    // Appends the line of a message whose kind has no limit.
     fn put(&self, line: &Line<'_>) {
         if let Some(book) = &self.book {
-            let held = book.end.lock(self.rt).limit.due(micros_of(line.moment));
-            self.put_held(book, line.moment, held);
+            let held = book.end.lock(self.rt).limits.due(micros_of(line.moment));
+            self.put_counts(book, line.moment, held);
             self.put_line(book, line);
         }
     }
 
-    // Appends the line of a message that didn't open, if it has one of its own.
-    fn put_unopened(&self, line: &Line<'_>) {
+    // Appends the line of a message of this kind, if it has one of its own.
+    fn put_limited(&self, kind: HeldKind, line: &Line<'_>) {
         if let Some(book) = &self.book {
             let now = micros_of(line.moment);
-            let leave = book.end.lock(self.rt).limit.ask(now, line.peer);
-            self.put_held(book, line.moment, leave.told);
+            let leave = book.end.lock(self.rt).limits.ask(kind, now, line.peer);
+            self.put_counts(book, line.moment, leave.told);
             if leave.line {
                 self.put_line(book, line);
             }
@@ -224,13 +225,24 @@ impl<R: Wait + Eprint> Log<'_, R> {
         }
     }
 
-    fn put_held(&self, book: &Book<'_>, now: Moment, held: Option<Held>)
+    // Appends the summaries of how many were held back, those that are due.
+    fn put_counts(&self, book: &Book<'_>, now: Moment, held: HeldCounts)
         requires moment { IsMoment now }
         requires micros { now.micros < 1000000 }
-        requires few { ForSome held (λ held. held.loopback + held.other ≤ 1000000) }
+        requires few { AreFew held }
+    {
+        self.put_held(book, now, HeldKind::Unopened, held.unopened);
+        self.put_held(book, now, HeldKind::Skewed, held.skewed);
+        self.put_held(book, now, HeldKind::Replayed, held.replayed);
+    }
+
+    fn put_held(&self, book: &Book<'_>, now: Moment, kind: HeldKind, held: Option<Held>)
+        requires moment { IsMoment now }
+        requires micros { now.micros < 1000000 }
+        requires few { IfSome held IsFew }
     {
         if let Some(held) = held {
-            self.put_text(book, write_held(self.alloc, now, &held));
+            self.put_text(book, write_held(self.alloc, now, kind, &held));
         }
     }
 
@@ -334,8 +346,9 @@ impl<R: Wait + Eprint> Lines for LogLines<'_, R> {
         self.log.put(line);
     }
 
-    fn put_unopened(&mut self, line: &Line<'_>) {
-        self.log.put_unopened(line);
+    fn put_limited(&mut self, kind: HeldKind, line: &Line<'_>) {
+        self.log.facts.lock(self.log.rt).count_line(line);
+        self.log.put_limited(kind, line);
     }
 
     fn tell_failed(&mut self, now: Moment) {

@@ -5,10 +5,11 @@ ghost use Rattle.chpw_table.specs.Times.{IsMoment};
 ghost use Rattle.chpw_serve.specs.Holding.{answer_in};
 ghost use Rattle.chpw_serve.specs.InTurn.{InTurn};
 ghost use Rattle.chpw_log.specs.Lines.{line_of};
-ghost use Rattle.chpw_service.specs.Noting.{Noted, opened as opened_line, unopened, journal_failed, decided_line, refused_line, failed_under};
+ghost use Rattle.chpw_service.specs.Noting.{Noted, opened as opened_line, limited, journal_failed};
+ghost use Rattle.chpw_service.specs.Noting.{decided_line, failed_under, kind_of, noted_line, refused_line};
 
 use crate::logging::{Log, LogLines};
-use chpw_log::{Asked, Line, MessageEvent};
+use chpw_log::{Asked, HeldKind, Line, MessageEvent};
 use chpw_serve::{Gate, Observer, Spot};
 use chpw_table::{Event, Moment, Opened, Receipt, Verdict};
 use krb_protocol::Refusal;
@@ -20,13 +21,13 @@ pub trait Lines {
     /// Taking this leads from the first state to the second.
     ghost takes: { Self → Noted → Self → Type 0 };
 
-    /// The line of a message that opened.
+    /// The line of a message whose kind has no limit.
     fn put(&mut self, line: &Line<'_>)
         ensures taken { takes self.old (opened_line line.now.moment (line_of line.now)) self.new };
 
-    /// The line of a message that didn't open. It may be held back.
-    fn put_unopened(&mut self, line: &Line<'_>)
-        ensures taken { takes self.old (unopened line.now.moment line.now.peer (line_of line.now)) self.new };
+    /// The line of a message of this kind, which has a limit. It may be held back.
+    fn put_limited(&mut self, kind: HeldKind, line: &Line<'_>)
+        ensures taken { takes self.old (limited kind line.now.moment line.now.peer (line_of line.now)) self.new };
 
     /// The journal did not take a change, at this moment.
     fn tell_failed(&mut self, now: Moment)
@@ -96,12 +97,15 @@ impl<L: Lines> Observer for Logging<L> {
     fn refused(&mut self, peer: [u8; 4], now: Moment, opened: Option<&Opened>, refusal: &Refusal) {
         match opened {
             Some(opened) => put_full(&mut self.lines, self.worker, peer, now, opened, refusal),
-            None => self.lines.put_unopened(&Line {
-                moment: now,
-                worker: self.worker,
-                peer,
-                news: MessageEvent::Unopened { refusal },
-            }),
+            None => self.lines.put_limited(
+                HeldKind::Unopened,
+                &Line {
+                    moment: now,
+                    worker: self.worker,
+                    peer,
+                    news: MessageEvent::Unopened { refusal },
+                },
+            ),
         }
     }
 }
@@ -129,9 +133,10 @@ fn put_decided<L: Lines>(
 )
     requires moment { IsMoment now }
     requires micros { now.micros < 1000000 }
-    ensures taken { L.takes lines.old (opened_line now (decided_line worker peer now opened.now verdict kvno)) lines.new }
+    ensures taken { L.takes lines.old
+        (noted_line (kind_of verdict) now peer (decided_line worker peer now opened.now verdict kvno)) lines.new }
 {
-    lines.put(&Line {
+    let line = Line {
         moment: now,
         worker,
         peer,
@@ -140,7 +145,23 @@ fn put_decided<L: Lines>(
             verdict,
             kvno,
         },
-    });
+    };
+    match kind_of(verdict) {
+        Some(kind) => lines.put_limited(kind, &line),
+        None => lines.put(&line),
+    }
+}
+
+// The kind of a request that was decided so, if its lines are limited: anybody can have a message that was recorded
+// answered so, as often as they like.
+fn kind_of(verdict: Verdict) -> Option<HeldKind>
+    ensures value { result ≡ kind_of verdict }
+{
+    match verdict {
+        Verdict::Skew => Some(HeldKind::Skewed),
+        Verdict::Replay => Some(HeldKind::Replayed),
+        _ => None,
+    }
 }
 
 // Writes the line of a request that came to a full history.

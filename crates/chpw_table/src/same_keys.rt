@@ -2,6 +2,7 @@
 ghost use Rattle.std.specs.Prelude.{◌≡◌, ◌↔◌, IsTrue};
 
 use chpw_record::KeyRow;
+use krb_keys::are_equal;
 
 /// Whether the keys are the same, row by row: version, iteration count and both keys.
 pub fn are_same_keys(keys: &[KeyRow], others: &[KeyRow]) -> bool
@@ -23,6 +24,6 @@ fn is_same_key(key: &KeyRow, other: &KeyRow) -> bool
 {
     key.kvno == other.kvno
         && key.count == other.count
-        && key.aes128 == other.aes128
-        && key.aes256 == other.aes256
+        && are_equal(&key.aes128, &other.aes128)
+        && are_equal(&key.aes256, &other.aes256)
 }

@@ -1,3 +1,4 @@
+pub mod ComparingLemmas
 pub mod CopyLemmas
 pub mod KeysLemmas
 pub mod NumberLemmas

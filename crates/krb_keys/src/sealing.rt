@@ -7,6 +7,7 @@ ghost use Rattle.krb_keys.specs.Keys.{dk, bytes_of};
 ghost use Rattle.krb_keys.specs.Sealing.{encryption_key, integrity_key, checksum_of, sealed, IsSealed, SealsNothing};
 ghost use Rattle.krb_keys.specs.Deciphering.{plain_part};
 
+use crate::comparing::are_equal;
 use crate::derivation::{cipher_of, derive_key};
 use crate::hmac::hmac_sha1;
 use crate::key::Key;
@@ -107,7 +108,7 @@ fn is_checksum(key: &Key, usage: u32, text: &[u8], checksum: &[u8]) -> bool
     ensures value { result ≡ bytes_eq (checksum_of key.now usage text.now) checksum.now }
     ensures bytes { AreBytes text.now }
 {
-    checksum_of(key, usage, text).as_slice() == checksum
+    are_equal(&checksum_of(key, usage, text), checksum)
 }
 
 // Deciphers a text in place, all but its checksum, and answers whether that checksum is right. Then the plain text

@@ -11,7 +11,7 @@ use std::net::{Net, TcpListener, TcpStream};
 use std::process::Abort;
 use std::thread::join;
 use std::time::{Clock, Duration};
-use std::{fs, thread};
+use std::{fs, io, thread};
 
 /// Alice may set bob's password.
 const CONFIG: &str = "\
@@ -175,7 +175,7 @@ where
     R: Files<File = File> + Net<Stream = TcpStream> + Clock + Input + Print + AllocGlobal,
 {
     for _ in 0..1000 {
-        match ask(rt, options) {
+        match ask(rt, &mut io::sink(), options) {
             Ending::Unconnected => thread::sleep(rt, Duration::from_millis(10)),
             ending => return ending,
         }
@@ -294,13 +294,18 @@ fn client_asks_a_service(rt: HostRuntime) {
     // Two records of alice's, and one of bob's, whose name is shorter by two bytes.
     assert!(rt; size_of(&rt, JOURNAL_FILE) == 66 + 64 + 66);
     expect_log(&rt);
-    let late = ask(&rt, options(port, own("New-pass6")));
+    let late = ask(&rt, &mut io::sink(), options(port, own("New-pass6")));
     assert!(rt; matches!(late, Ending::Unconnected));
     let unnamed = Wish {
         client: "",
         ..own("New-pass6")
     };
-    assert!(rt; matches!(ask(&rt, options(port, unnamed)), Ending::BadArgument));
+    assert!(rt;
+        matches!(
+            ask(&rt, &mut io::sink(), options(port, unnamed)),
+            Ending::BadArgument
+        )
+    );
 }
 
 // No line can be written to /dev/full, and a directory can't be a log.
@@ -364,5 +369,10 @@ fn files_without_a_password(rt: HostRuntime) {
     assert!(rt; matches!(ending, Ending::ManyLines(_)));
     let mut missing = options(1, own(""));
     missing.password = PasswordSource::File("client-tests.missing");
-    assert!(rt; matches!(ask(&rt, missing), Ending::Unread("client-tests.missing")));
+    assert!(rt;
+        matches!(
+            ask(&rt, &mut io::sink(), missing),
+            Ending::Unread("client-tests.missing")
+        )
+    );
 }

@@ -1,4 +1,4 @@
-use Rattle.std.proofs.Common.{◌≡◌, ◌++◌, Option, OnOk, codes, subst, sym, true}
+use Rattle.std.proofs.Common.{◌≡◌, ◌++◌, Option, OnOk, subst, sym, true}
 use Rattle.chpw_printing.specs.Quoting.{are_printed}
 use Rattle.chpw_table.specs.declared.times.Moment.{Moment}
 use Rattle.chpw_log.specs.Lines.{or_dash}

@@ -1,4 +1,4 @@
-use Rattle.std.proofs.Common.{◌≡◌, ◌++◌, ◌∙◌, List, ℕ, OnOk, ap, codes, refl, rules, subst, true}
+use Rattle.std.proofs.Common.{◌≡◌, ◌++◌, ◌∙◌, List, ℕ, OnOk, ap, codes, refl, subst, true}
 use Rattle.chpw_printing.specs.Quoting.{are_printed}
 use Rattle.chpw_log.specs.Events.{both_words}
 use Rattle.chpw_log.specs.Lines.{or_dash}

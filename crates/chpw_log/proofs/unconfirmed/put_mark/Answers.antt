@@ -1,4 +1,4 @@
-use Rattle.std.proofs.Common.{rules, ◌≡◌, ◌++◌, ◌∙◌, ◌<◌, ◌^◌, List, ℕ, ap, arith, codes, refl}
+use Rattle.std.proofs.Common.{◌≡◌, ◌++◌, ◌∙◌, ◌<◌, ◌^◌, List, ℕ, ap, arith, codes, refl}
 use Rattle.std.specs.Fmt.{decimal}
 use Rattle.chpw_printing.proofs.QuotingLemmas.{decimal_graphic, graphic_printed}
 use Rattle.chpw_log.proofs.LineLemmas.{both_printed, mark_joined}

@@ -1,0 +1,7 @@
+-- What `client` says of a seed.
+use Rattle.std.specs.Prelude.{ℕ, Bool, List, [], ◌∷◌, ◌++◌, codes, if◌then◌else◌}
+
+-- the line about a seed in a regular file, since two requests of one seed have the same keys
+abbrev pub seed_line : List ℕ → Bool → List ℕ
+seed_line file is_regular =
+    if is_regular then codes "the seed " ++ file ++ codes " is a regular file: use it only once" ++ 10 ∷ [] else []

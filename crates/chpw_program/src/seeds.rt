@@ -1,0 +1,31 @@
+//! What `client` says of its seed.
+ghost use Rattle.std.specs.Prelude.{OnOk};
+ghost use Rattle.std.specs.Io.KnownBytes.{Appends};
+ghost use Rattle.chpw_program.specs.Seeds.{seed_line};
+
+use std::fs::{self, Files};
+use std::io::{self, Write};
+
+/// Warns of a seed in a regular file, which gives the same bytes each time: the keys and confounders of two requests of
+/// one seed are the same. If the line can't be written the request is made all the same.
+pub(crate) fn warn_of_seed<R: Files, W: Write>(rt: &R, errors: &mut W, file: &str) {
+    let is_regular = match fs::metadata(rt, file) {
+        Ok(metadata) => metadata.is_file(),
+        Err(_) => false,
+    };
+    let _ = tell_seed(errors, file, is_regular);
+}
+
+// Writes the line about a seed, if it has one.
+fn tell_seed<W: Write>(errors: &mut W, file: &str, is_regular: bool) -> io::Result<()>
+    ensures told { OnOk result (Appends (W.contents errors.old) (W.contents errors.new) (seed_line file.now is_regular)) }
+{
+    if is_regular {
+        writeln!(
+            errors,
+            "the seed {file} is a regular file: use it only once"
+        )
+    } else {
+        Ok(())
+    }
+}
