@@ -128,12 +128,17 @@ def command_lines(program):
         program.tell(f"{words[0]}, {old} now '{new}'", text, *words)
 
 
+LIMIT = "a value for '--connections <N>' is a number from 1 to 4294967295, or unlimited"
 # What the program says where clap finds no fault, and where it gives an answer of its own to one.
 REFUSALS = [
     ("client --old --target bob --password P", "the argument '--old' cannot be used with '--target <NAME>'"),
     ("client --password P --password-file F", "the argument '--password <TEXT>' cannot be used with '--password-file <FILE>'"),
     ("client", "either '--password <TEXT>' or '--password-file <FILE>' is required"),
     ("table --as words", "a value for '--as <FORM>' is one of: lines, configuration, keys"),
+    ("serve --connections 0", LIMIT),
+    ("serve --connections 4294967296", LIMIT),
+    ("serve --connections Unlimited", LIMIT),
+    ("serve --connections=", LIMIT),
     ("import --realm=", "a value for '--realm <REALM>' has 1 to 255 bytes"),
     (f"import --realm={'R' * 256}", "a value for '--realm <REALM>' has 1 to 255 bytes"),
     (f"key --realm={'R' * 256}", "a value for '--realm <REALM>' has 1 to 255 bytes"),
@@ -144,6 +149,7 @@ REFUSALS = [
 REQUIRED = {
     "client": "--config c --seed s --port 1 --client alice",
     "table": "--config c --journal j",
+    "serve": "--config c --journal j --seed s --port 1 --workers 1",
     "import": "--keytab k",
     "key": "--name alice --password-file p",
     "control": "--socket s",

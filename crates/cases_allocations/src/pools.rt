@@ -155,7 +155,8 @@ fn run_pools<D: DeskName + Send + Sync, R: Machine>(
             [7; 32],
             connections,
         );
-        connections = connections.saturating_sub(pool.served);
+        let served = u32::try_from(pool.served).unwrap_or(u32::MAX);
+        connections = connections.saturating_sub(served);
         if pool.fault.is_some() {
             fell = Fell::Call;
         }

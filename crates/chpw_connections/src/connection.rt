@@ -83,7 +83,7 @@ pub(crate) struct Outgoing {
 /// release, in milliseconds; `answered` counts the replies after which it goes on.
 #[derive(Drop)]
 pub(crate) struct Connection {
-    pub number: u32,
+    pub number: u64,
     pub peer: [u8; 4],
     pub since: u64,
     pub answered: u32,
@@ -105,7 +105,7 @@ impl Connection {
     ghost use Rattle.chpw_connections.specs.Room.{gives_way as gives_way_of, is_among as is_among_of};
 
     /// A connection that was accepted at this moment.
-    pub fn new(alloc: Global, number: u32, peer: [u8; 4], now: u64) -> Connection
+    pub fn new(alloc: Global, number: u64, peer: [u8; 4], now: u64) -> Connection
         ensures stage { stage result ≡ reading [] }
         ensures number { result.number ≡ number }
         ensures peer { result.peer ≡ peer }

@@ -66,7 +66,7 @@ impl Connections {
     }
 
     /// How many connections were accepted.
-    pub fn accepted_count(&self) -> u32
+    pub fn accepted_count(&self) -> u64
         ensures value { result ≡ accepted_by self.now }
         ensures counted { result ≡ removed_by self.now + slab_len (slots_of self.now) }
     {
@@ -104,10 +104,10 @@ impl Connections {
     }
 
     /// A connection of this peer was accepted: it is in this slot, which was free. None if there are as many as
-    /// allowed, or after 4,294,967,295.
+    /// allowed, or after 18,446,744,073,709,551,615: more than can come in five hundred years.
     #[tactic(auto, using(crate::proofs::HoldsLemmas::holds_accepted))]
     pub fn accept(&mut self, peer: [u8; 4], now: u64) -> Option<usize>
-        ensures some { slab_len (slots_of self.old) < (bounds_of self.old).connections → accepted_by self.old < 4294967295 → IsSome result }
+        ensures some { slab_len (slots_of self.old) < (bounds_of self.old).connections → accepted_by self.old < 18446744073709551615 → IsSome result }
         ensures accepted { IfSome result (λ slot. IsNew peer now (accepted_by self.old) (slots_of self.old) (slots_of self.new) slot) }
         ensures counts { IfSome result (λ slot. Counts self.new (accepted_by self.old + 1) (removed_by self.old)) }
         ensures expired { expired_by self.new ≡ expired_by self.old }
@@ -117,7 +117,7 @@ impl Connections {
         ensures notes { noted_by self.new ≡ noted_by self.old }
         ensures unchanged { IfNone result (self.new ≡ self.old) }
     {
-        if self.is_full() || self.accepted == u32::MAX {
+        if self.is_full() || self.accepted == u64::MAX {
             return None;
         }
         let connection = Connection::new(self.alloc, self.accepted, peer, now);

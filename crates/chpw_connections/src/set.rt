@@ -18,8 +18,8 @@ pub struct Connections {
     pub(crate) queues: Queues,
     // Slots noted for the caller.
     pub(crate) changed: VecDeque<usize>,
-    pub(crate) accepted: u32,
-    pub(crate) removed: u32,
+    pub(crate) accepted: u64,
+    pub(crate) removed: u64,
     pub(crate) expired: u32,
     // Each connection that was accepted is present, or was removed once.
     ghost counted: { accepted ≡ removed + slab_len slots.connections },

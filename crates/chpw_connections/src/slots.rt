@@ -230,7 +230,7 @@ impl Slots {
     }
 
     /// The number of the connection in a slot.
-    pub fn number(&self, slot: usize) -> Option<u32>
+    pub fn number(&self, slot: usize) -> Option<u64>
         ensures value { result ≡ option_map (λ c. c.number) (get self.now.connections slot) }
     {
         match self.connections.get(slot) {
@@ -240,7 +240,7 @@ impl Slots {
     }
 
     /// The number of a connection whose message waits for a worker.
-    pub fn waiting_number(&self, slot: usize) -> Option<u32>
+    pub fn waiting_number(&self, slot: usize) -> Option<u64>
         ensures waits { IfSome result (λ number. (workers : ℕ) → waits_for workers (get self.now.connections slot) ≡ Some (number % workers)) }
         ensures none { IfNone result (queued_at (get self.now.connections slot) ≡ None) }
     {

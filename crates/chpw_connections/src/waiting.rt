@@ -32,7 +32,7 @@ impl Queues {
     }
 
     /// The worker of the connection of this number.
-    pub fn worker_of(&self, number: u32) -> usize
+    pub fn worker_of(&self, number: u64) -> usize
         ensures value { result ≡ number % length (lists_of self.now) }
         ensures within { result < length (lists_of self.now) }
     {
@@ -84,7 +84,7 @@ impl Queues {
     }
 
     /// Takes the slot of the connection of this number out of its worker's queue; does nothing without a number.
-    pub fn leave(&mut self, number: Option<u32>, slot: usize)
+    pub fn leave(&mut self, number: Option<u64>, slot: usize)
         ensures leaves { MatchOption number (lists_of self.new ≡ lists_of self.old) (λ n.
             Becomes (lists_of self.old) (lists_of self.new) (n % length (lists_of self.old))
             (without slot (queue_in (lists_of self.old) (n % length (lists_of self.old))))) }

@@ -1,7 +1,12 @@
 -- Which datagrams are answered. One has a whole message (RFC 3244 section 2), without the length that it has over TCP.
-use Rattle.std.specs.Prelude.{ℕ, List, Bool, false, not, ◌&&◌, ◌||◌, ◌==◌, is_none}
+use Rattle.std.specs.Prelude.{◌≡◌, ℕ, List, Bool, true, false, ◌&&◌, ◌||◌, ◌==◌, is_none}
 use Rattle.std.specs.Str.{bytes_eq}
-use Rattle.chpw_frame.specs.Framing.{first_fault, request_versions}
+use Rattle.krb_codec.specs.Grammar.{Spells}
+use Rattle.krb_der.specs.Types.{ap_req}
+use Rattle.krb_der.specs.Values.{ap_req_value}
+use Rattle.krb_der.specs.declared.ap_req.ApReq.{ApReq}
+use Rattle.krb_msgs.specs.Presented.{IsForUs}
+use Rattle.chpw_frame.specs.Framing.{ap_of, first_fault, request_versions}
 use Rattle.chpw_datagrams.specs.declared.sender.Sender.{Sender}
 
 -- the port of the service that changes passwords
@@ -19,5 +24,15 @@ is_from_service own_port sender = (sender.port == kpasswd_port) || (sender.port 
 abbrev pub is_request : List ℕ → Bool
 is_request message = is_none (first_fault request_versions false message)
 
-abbrev pub is_answered : ℕ → Sender → List ℕ → Bool
-is_answered own_port sender message = not (is_from_service own_port sender) && is_request message
+-- an AP-REQ in DER (RFC 4120 section 5.5.1) with a ticket for kadmin/changepw of this realm (RFC 3244 section 2): what
+-- whoever asks for a change has to have from the KDC
+pub record PresentsTicket (realm ap : List ℕ) : Type 0 where
+  pub request : ApReq
+  pub spelled : Spells ap_req ap (ap_req_value request)
+  pub ours : IsForUs realm request.ticket
+
+-- by a service of this realm, at this port
+pub record IsAnswered (own_port : ℕ) (realm : List ℕ) (sender : Sender) (message : List ℕ) : Type 0 where
+  pub client : is_from_service own_port sender ≡ false
+  pub framed : is_request message ≡ true
+  pub presents : PresentsTicket realm (ap_of message)

@@ -5,6 +5,7 @@
 mod answered;
 mod kept;
 pub mod laws;
+mod presented;
 mod sender;
 
 pub use answered::{Answered, MAX_ANSWERS, MAX_BYTES};

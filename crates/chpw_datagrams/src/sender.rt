@@ -1,8 +1,10 @@
 //! Who sent a datagram, and whether it is answered.
-ghost use Rattle.std.specs.Prelude.{◌≡◌};
-ghost use Rattle.chpw_datagrams.specs.Senders.{is_answered, is_from_service, is_same_sender};
+ghost use Rattle.std.specs.Prelude.{IfOk, IsTrue, ◌≡◌, ◌↔◌};
+ghost use Rattle.chpw_datagrams.specs.Senders.{IsAnswered, is_from_service, is_same_sender};
 
+use crate::presented::presents_ticket;
 use chpw_frame::split_request;
+use std::alloc::{AllocError, Global};
 
 /// The port of the service that changes passwords.
 pub const KPASSWD_PORT: u16 = 464;
@@ -30,10 +32,23 @@ impl Sender {
     }
 }
 
-/// Whether a datagram is answered: one that is a whole frame with an AP-REQ in it, and comes neither from port 464 nor
-/// from the service's own port.
-pub fn is_answerable(sender: Sender, own_port: u16, message: &[u8]) -> bool
-    ensures value { result ≡ is_answered own_port sender message.now }
+/// Whether a datagram is answered: one that comes neither from port 464 nor from the service's own port, and is a whole
+/// frame with an AP-REQ whose ticket is for kadmin/changepw of this realm. They are looked at in this order, so that
+/// most of what isn't answered costs no memory; an error means that there is none to read the AP-REQ.
+pub fn is_answerable(
+    alloc: Global,
+    sender: Sender,
+    own_port: u16,
+    realm: &[u8],
+    message: &[u8],
+) -> Result<bool, AllocError>
+    ensures { IfOk result (λ answered. IsTrue answered ↔ IsAnswered own_port realm.now sender message.now) }
 {
-    !sender.is_service(own_port) && split_request(message).is_ok()
+    if sender.is_service(own_port) {
+        return Ok(false);
+    }
+    match split_request(message) {
+        Err(_) => Ok(false),
+        Ok(parts) => presents_ticket(alloc, realm, parts.ap),
+    }
 }

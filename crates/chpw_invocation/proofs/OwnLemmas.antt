@@ -28,13 +28,15 @@ of_client : (options : List Row) (refusal : Refusal) → IsOwnRefusal (Some (cod
 of_client options refusal (inl r) = r.1
 of_client options refusal (inr (inl r)) = absurd (differ (codes "client") (codes "control") refl r.0)
 of_client options refusal (inr (inr (inl r))) = absurd (differ (codes "client") (codes "table") refl r.0)
-of_client options refusal (inr (inr (inr r))) = absurd (neither (codes "client") (codes "import") (codes "key") refl refl r.0)
+of_client options refusal (inr (inr (inr (inl r)))) = absurd (differ (codes "client") (codes "serve") refl r.0)
+of_client options refusal (inr (inr (inr (inr r)))) = absurd (neither (codes "client") (codes "import") (codes "key") refl refl r.0)
 
 of_control : (options : List Row) (refusal : Refusal) → IsOwnRefusal (Some (codes "control", options)) refusal → RefusesControl options refusal
 of_control options refusal (inl r) = absurd (differ (codes "control") (codes "client") refl r.0)
 of_control options refusal (inr (inl r)) = r.1
 of_control options refusal (inr (inr (inl r))) = absurd (differ (codes "control") (codes "table") refl r.0)
-of_control options refusal (inr (inr (inr r))) = absurd (neither (codes "control") (codes "import") (codes "key") refl refl r.0)
+of_control options refusal (inr (inr (inr (inl r)))) = absurd (differ (codes "control") (codes "serve") refl r.0)
+of_control options refusal (inr (inr (inr (inr r)))) = absurd (neither (codes "control") (codes "import") (codes "key") refl refl r.0)
 
 pub client_refused : (asked : Option (Text × List Row)) (options : List Row) (refusal : Refusal) → asked ≡ Some (codes "client", options)
     → (Suits (filled (flag (codes "old"))) options → (r : Refusal) → RefusesClient options r → RefusesClient options refusal)

@@ -4,7 +4,7 @@ use Rattle.std.specs.Prelude.{◌≡◌, ◌≢◌, ◌⊎◌, ◌≤◌, ℕ, B
 use Rattle.std.specs.Prelude.{None, option_map, codes, bytes_eq, if◌then◌else◌, length, pos, ◌<◌}
 use Rattle.std.specs.Fmt.{decimal}
 use Rattle.std.specs.Option.{option_map_or}
-use Rattle.std.specs.Str.Parse.{digits_value, without_leading_plus}
+use Rattle.std.specs.Str.Parse.{IsNumeral, digits_value, without_leading_plus}
 use Rattle.clap.specs.Kinds.{HasKind, Kinds}
 use Rattle.clap.specs.Values.{IsSignedIn, kind_of, read_as}
 use Rattle.clap.specs.Walk.{Row, Text, first_of, one_of}
@@ -14,8 +14,10 @@ use Rattle.chpw_invocation.specs.Controls.{file_of, takes_file, word_of}
 use Rattle.chpw_invocation.specs.Refusals.{kind_for}
 use Rattle.chpw_invocation.specs.declared.refusing.Refusal.{Refusal}
 use Rattle.chpw_invocation.specs.declared.refusing.Refusal.TheVariants.{OldTarget, TwoPasswords, NoPassword, NoCommand}
-use Rattle.chpw_invocation.specs.declared.refusing.Refusal.TheVariants.{NoFile, SpareFile, NoForm, NoRealm}
+use Rattle.chpw_invocation.specs.declared.refusing.Refusal.TheVariants.{NoFile, SpareFile, NoForm, NoLimit, NoRealm}
 use Rattle.chpw_invocation.specs.declared.invocation.ClientOptions.{ClientOptions}
+use Rattle.chpw_invocation.specs.declared.invocation.ConnectionLimit.{ConnectionLimit}
+use Rattle.chpw_invocation.specs.declared.invocation.ConnectionLimit.TheVariants.{Unlimited, Of}
 use Rattle.chpw_invocation.specs.declared.invocation.ControlOptions.{ControlOptions}
 use Rattle.chpw_invocation.specs.declared.invocation.ServeOptions.{ServeOptions}
 use Rattle.chpw_invocation.specs.declared.invocation.ImportOptions.{ImportOptions}
@@ -60,6 +62,20 @@ HasTakenNumber limit options name = (text : Text)
 -- it is not left out, and no such number is its value
 abbrev pub LacksGiven : ℕ → ℕ → List Row → Text → Type 0
 LacksGiven low high options name = (first_of name options ≢ None) × LacksNumber low high options name
+
+-- after how many connections a service ends: a number from 1 to 4294967295, before which a plus may stand, or `unlimited`
+abbrev pub IsLimit : Text → ConnectionLimit → Type 0
+IsLimit text Unlimited = text ≡ codes "unlimited"
+IsLimit text (Of number) = IsNumeral 10 (without_leading_plus text)
+    × (number ≡ digits_value 10 (without_leading_plus text)) × (1 ≤ number) × (number ≤ 4294967295)
+
+-- `--connections` says this
+abbrev pub HasLimit : List Row → ConnectionLimit → Type 0
+HasLimit options limit = (text : Text) × HasText options (codes "connections") text × IsLimit text limit
+
+-- its value says neither a number nor `unlimited`
+abbrev pub LacksLimit : List Row → Type 0
+LacksLimit options = (text : Text) × HasText options (codes "connections") text × ((limit : ConnectionLimit) → ¬ (IsLimit text limit))
 
 -- the realm is this, of 1 to 255 bytes
 abbrev pub HasRealm : List Row → Text → Type 0
@@ -110,7 +126,7 @@ pub record AsksServe (options : List Row) (asked : ServeOptions) : Type 0 where
   pub seed : HasText options (codes "seed") asked.seed.now
   pub port : HasNumber 1 65535 options (codes "port") asked.port
   pub workers : HasNumber 1 16 options (codes "workers") asked.workers
-  pub connections : HasNumber 1 4294967295 options (codes "connections") asked.connections
+  pub connections : HasLimit options asked.connections
   pub idle : HasNumberOr 30 1 3600 options (codes "idle") asked.idle
   pub clients : HasNumberOr 1024 1 65536 options (codes "clients") asked.clients
   pub buffers : HasNumberOr 32 1 1024 options (codes "buffers") asked.buffers
@@ -208,15 +224,16 @@ RefusesControl options refusal =
     ⊎ (((refusal ≡ NoFile) × LacksFile options)
     ⊎ ((refusal ≡ SpareFile) × HasSpareFile options))
 
--- Why words in which clap finds no fault are refused: a refused client or control, a table in an unknown form, or a
--- keytab or a password of a realm of 0 or more than 255 bytes.
+-- Why words in which clap finds no fault are refused: a refused client or control, a table in an unknown form, a service
+-- without a number of connections or `unlimited`, or a keytab or a password of a realm of 0 or more than 255 bytes.
 abbrev pub IsOwnRefusal : Option (Text × List Row) → Refusal → Type 0
 IsOwnRefusal None refusal = ⊥
 IsOwnRefusal (Some p) refusal =
     ((p.0 ≡ codes "client") × RefusesClient p.1 refusal)
     ⊎ (((p.0 ≡ codes "control") × RefusesControl p.1 refusal)
     ⊎ (((p.0 ≡ codes "table") × (refusal ≡ NoForm) × (form_asked p.1 ≡ None))
-    ⊎ (((p.0 ≡ codes "import") ⊎ (p.0 ≡ codes "key")) × (refusal ≡ NoRealm) × LacksRealm p.1)))
+    ⊎ (((p.0 ≡ codes "serve") × (refusal ≡ NoLimit) × LacksLimit p.1)
+    ⊎ (((p.0 ≡ codes "import") ⊎ (p.0 ≡ codes "key")) × (refusal ≡ NoRealm) × LacksRealm p.1))))
 
 -- the program itself refuses words in which clap finds no fault
 abbrev pub IsOwnReason : Option (Text × List Row) → Type 0

@@ -65,7 +65,7 @@ abbrev pub workers : Rule
 workers = numbered (codes "workers") 16
 
 abbrev pub connections : Rule
-connections = numbered (codes "connections") 4294967295
+connections = required (codes "connections")
 
 abbrev pub idle : Rule
 idle = may_be_numbered (codes "idle") 3600

@@ -5,7 +5,7 @@ use Rattle.clap.specs.declared.error.kind.ErrorKind.{ErrorKind}
 use Rattle.clap.specs.declared.error.kind.ErrorKind.TheVariants.{ArgumentConflict, InvalidValue, MissingRequiredArgument, UnknownArgument}
 use Rattle.chpw_invocation.specs.declared.refusing.Refusal.{Refusal}
 use Rattle.chpw_invocation.specs.declared.refusing.Refusal.TheVariants.{OldTarget, TwoPasswords, NoPassword, NoCommand}
-use Rattle.chpw_invocation.specs.declared.refusing.Refusal.TheVariants.{NoFile, SpareFile, NoForm, NoRealm}
+use Rattle.chpw_invocation.specs.declared.refusing.Refusal.TheVariants.{NoFile, SpareFile, NoForm, NoLimit, NoRealm}
 
 abbrev pub kind_for : Refusal → ErrorKind
 kind_for OldTarget = ArgumentConflict
@@ -15,6 +15,7 @@ kind_for NoCommand = InvalidValue
 kind_for NoFile = MissingRequiredArgument
 kind_for SpareFile = UnknownArgument
 kind_for NoForm = InvalidValue
+kind_for NoLimit = InvalidValue
 kind_for NoRealm = InvalidValue
 
 abbrev pub text_for : Refusal → Text
@@ -25,4 +26,5 @@ text_for NoCommand = codes "a value for '<COMMAND>' is one of: status, reload, r
 text_for NoFile = codes "the command 'compact' requires a '<FILE>'"
 text_for SpareFile = codes "only the command 'compact' takes a '<FILE>'"
 text_for NoForm = codes "a value for '--as <FORM>' is one of: lines, configuration, keys"
+text_for NoLimit = codes "a value for '--connections <N>' is a number from 1 to 4294967295, or unlimited"
 text_for NoRealm = codes "a value for '--realm <REALM>' has 1 to 255 bytes"

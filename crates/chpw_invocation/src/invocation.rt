@@ -8,9 +8,6 @@ pub const GREATEST_PORT: u16 = 65_535;
 /// The greatest `--workers`.
 pub const MOST_WORKERS: u8 = 16;
 
-/// The greatest `--connections`.
-pub const GREATEST_CONNECTIONS: u32 = 4_294_967_295;
-
 /// The greatest `--idle`, in seconds: an hour.
 pub const LONGEST_IDLE: u16 = 3600;
 
@@ -83,6 +80,15 @@ pub struct ClientOptions<'a> {
     ghost own: { old ≡ true → target ≡ None },
 }
 
+/// After how many connections the service ends.
+#[derive(Clone, Copy, PartialEq, Eq, Debug, Drop)]
+pub enum ConnectionLimit {
+    /// However many there are, it goes on.
+    Unlimited,
+    /// After this many, 1 to 4,294,967,295.
+    Of(u32),
+}
+
 /// What `serve` starts from, where it listens, and how it works.
 #[derive(Clone, Copy, Drop)]
 pub struct ServeOptions<'a> {
@@ -96,8 +102,8 @@ pub struct ServeOptions<'a> {
     pub port: u16,
     /// 1 to 16.
     pub workers: u8,
-    /// After how many connections it ends; at least 1.
-    pub connections: u32,
+    /// After how many connections it ends.
+    pub connections: ConnectionLimit,
     /// After how many seconds of waiting for its client a connection is ended, 1 to [`LONGEST_IDLE`]; default
     /// [`USUAL_IDLE`].
     pub idle: u16,

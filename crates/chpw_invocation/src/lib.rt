@@ -8,11 +8,11 @@ mod program;
 mod refusing;
 
 pub use invocation::{
-    ClientOptions, ControlCommand, ControlOptions, GREATEST_CONNECTIONS, GREATEST_COUNT,
-    GREATEST_KVNO, GREATEST_PORT, ImportOptions, Invocation, KeyOptions, LONGEST_FOLLOWER_WAIT,
-    LONGEST_IDLE, LONGEST_REALM, MOST_BUFFERS, MOST_CLIENTS, MOST_WORKERS, PasswordSource,
-    ServeOptions, TableForm, TableOptions, USUAL_BUFFERS, USUAL_CLIENTS, USUAL_COUNT,
-    USUAL_FOLLOWER_WAIT, USUAL_IDLE, USUAL_KVNO,
+    ClientOptions, ConnectionLimit, ControlCommand, ControlOptions, GREATEST_COUNT, GREATEST_KVNO,
+    GREATEST_PORT, ImportOptions, Invocation, KeyOptions, LONGEST_FOLLOWER_WAIT, LONGEST_IDLE,
+    LONGEST_REALM, MOST_BUFFERS, MOST_CLIENTS, MOST_WORKERS, PasswordSource, ServeOptions,
+    TableForm, TableOptions, USUAL_BUFFERS, USUAL_CLIENTS, USUAL_COUNT, USUAL_FOLLOWER_WAIT,
+    USUAL_IDLE, USUAL_KVNO,
 };
 pub use matching::command_of;
 pub use program::VERSION;

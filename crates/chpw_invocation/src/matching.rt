@@ -1,5 +1,5 @@
 //! What the words of the command line ask for.
-ghost use Rattle.std.specs.Prelude.{◌≡◌, ◌≢◌, ◌≤◌, ◌⊎◌, [], None, true, false, IfErr, IfOk, IfSome, OnOk, codes, map, option_map, string_bytes};
+ghost use Rattle.std.specs.Prelude.{◌≡◌, ◌≢◌, ◌≤◌, ◌⊎◌, ℕ, [], None, true, false, IfErr, IfOk, IfSome, OnOk, codes, map, option_map, string_bytes};
 ghost use Rattle.clap.specs.Faults.{fault_of};
 ghost use Rattle.clap.specs.Words.{first_of, found_of, rows_of, subcommand_of, subcommand_rows_of};
 ghost use Rattle.clap.specs.Simple.{filled};
@@ -11,17 +11,18 @@ ghost use Rattle.chpw_invocation.specs.Program.{program};
 ghost use Rattle.chpw_invocation.specs.Invocations.{AsksFor, HasNoPassword, HasNumber, HasNumberOr};
 ghost use Rattle.chpw_invocation.specs.Invocations.{HasPassword, HasRealm, HasTakenNumber, HasText};
 ghost use Rattle.chpw_invocation.specs.Invocations.{HasTwoPasswords, IsGiven, IsInFile, IsOwnReason, IsRefusal};
-ghost use Rattle.chpw_invocation.specs.Invocations.{LacksGiven, LacksNumber, LacksRealm, MayHaveNumber};
+ghost use Rattle.chpw_invocation.specs.Invocations.{HasLimit, IsLimit, LacksGiven, LacksLimit, LacksNumber, LacksRealm};
+ghost use Rattle.chpw_invocation.specs.Invocations.{MayHaveNumber};
 ghost use Rattle.chpw_invocation.specs.Invocations.{RefusesClient, RefusesControl, form_asked, form_of_name};
 ghost use Rattle.chpw_invocation.specs.Controls as controls;
 ghost use Rattle.chpw_invocation.specs.Controls.{file_of, word_of};
 
 use crate::invocation::{
-    ClientOptions, ControlCommand, ControlOptions, GREATEST_CONNECTIONS, GREATEST_COUNT,
-    GREATEST_KVNO, GREATEST_PORT, ImportOptions, Invocation, KeyOptions, LONGEST_FOLLOWER_WAIT,
-    LONGEST_IDLE, LONGEST_REALM, MOST_BUFFERS, MOST_CLIENTS, MOST_WORKERS, PasswordSource,
-    ServeOptions, TableForm, TableOptions, USUAL_BUFFERS, USUAL_CLIENTS, USUAL_COUNT,
-    USUAL_FOLLOWER_WAIT, USUAL_IDLE, USUAL_KVNO,
+    ClientOptions, ConnectionLimit, ControlCommand, ControlOptions, GREATEST_COUNT, GREATEST_KVNO,
+    GREATEST_PORT, ImportOptions, Invocation, KeyOptions, LONGEST_FOLLOWER_WAIT, LONGEST_IDLE,
+    LONGEST_REALM, MOST_BUFFERS, MOST_CLIENTS, MOST_WORKERS, PasswordSource, ServeOptions,
+    TableForm, TableOptions, USUAL_BUFFERS, USUAL_CLIENTS, USUAL_COUNT, USUAL_FOLLOWER_WAIT,
+    USUAL_IDLE, USUAL_KVNO,
 };
 use crate::program::program as new_program;
 use crate::refusing::{Refusal, refusal_of};
@@ -159,7 +160,8 @@ fn realm_of<'a>(options: &ArgMatches<'a>) -> Option<&'a str>
 #[tactic(auto, using(crate::proofs::NeedLemmas::required_there))]
 fn serve_of<'a>(options: &ArgMatches<'a>) -> Option<Invocation<'a>>
     ensures asked { IfSome result (AsksFor (Some (codes "serve", rows_of (found_of options.now)))) }
-    ensures whole { Meets specs_of.serve (rows_of (found_of options.now)) → result ≢ None }
+    ensures none { Meets specs_of.serve (rows_of (found_of options.now)) → result ≡ None
+        → LacksLimit (rows_of (found_of options.now)) }
 {
     Some(Invocation::Serve(ServeOptions {
         config: text_of(options, "config")?,
@@ -334,15 +336,37 @@ fn workers_of(options: &ArgMatches<'_>) -> Option<u8>
     Some(workers as u8)
 }
 
-// How many connections there are.
-#[tactic(auto, using(crate::proofs::NeedLemmas::number_there))]
-fn connections_of(options: &ArgMatches<'_>) -> Option<u32>
-    ensures connections { IfSome result (HasNumber 1 4294967295 (rows_of (found_of options.now)) (codes "connections")) }
-    ensures lacks { result ≡ None
-        → LacksNumber 1 4294967295 (rows_of (found_of options.now)) (codes "connections") }
-    ensures taken { Suits (filled options_of.connections) (rows_of (found_of options.now)) → result ≢ None }
+// After how many connections it ends; none if the value says neither that nor `unlimited`.
+#[tactic(auto, using(crate::proofs::NeedLemmas::required_there))]
+fn connections_of(options: &ArgMatches<'_>) -> Option<ConnectionLimit>
+    ensures limit { IfSome result (HasLimit (rows_of (found_of options.now))) }
+    ensures none { Suits (filled options_of.connections) (rows_of (found_of options.now)) → result ≡ None
+        → LacksLimit (rows_of (found_of options.now)) }
 {
-    number_of(options, "connections", GREATEST_CONNECTIONS)
+    let text = text_of(options, "connections")?;
+    limit_in(text)
+}
+
+// The limit that a text says.
+fn limit_in(text: &str) -> Option<ConnectionLimit>
+    ensures limit { IfSome result (IsLimit text.now) }
+    ensures none { result ≡ None → (limit : ConnectionLimit) → ¬ (IsLimit text.now limit) }
+{
+    match text {
+        "unlimited" => Some(ConnectionLimit::Unlimited),
+        _ => number_in(text),
+    }
+}
+
+// The limit that a number from 1 on says.
+fn number_in(text: &str) -> Option<ConnectionLimit>
+    ensures number { IfSome result (IsLimit text.now) }
+    ensures none { result ≡ None → (number : ℕ) → ¬ (IsLimit text.now (ConnectionLimit.Of number)) }
+{
+    match text.parse::<u32>() {
+        Ok(number) if number >= 1 => Some(ConnectionLimit::Of(number)),
+        _ => None,
+    }
 }
 
 // The number of an option with this default.

@@ -6,8 +6,8 @@ ghost use Rattle.chpw_invocation.specs.Options.{rule_for};
 ghost use Rattle.chpw_invocation.specs.Program as specs_of;
 
 use crate::invocation::{
-    GREATEST_CONNECTIONS, GREATEST_COUNT, GREATEST_KVNO, GREATEST_PORT, LONGEST_FOLLOWER_WAIT,
-    LONGEST_IDLE, MOST_BUFFERS, MOST_CLIENTS, MOST_WORKERS,
+    GREATEST_COUNT, GREATEST_KVNO, GREATEST_PORT, LONGEST_FOLLOWER_WAIT, LONGEST_IDLE,
+    MOST_BUFFERS, MOST_CLIENTS, MOST_WORKERS,
 };
 use crate::options::{
     OptionLine, argument_of, flag, number, optional, optional_number, optional_word,
@@ -91,7 +91,7 @@ With --raise COUNT it first prints the result: 'raised COUNT', 'count not higher
 
 Example:
   chpw_server serve --config samples/realm.toml --journal realm.journal --seed /dev/urandom \\
-      --port 464 --workers 4 --connections 4294967295";
+      --port 464 --workers 4 --connections unlimited";
 
 const JOURNAL_HELP: &str =
     "The journal of accepted changes; replayed at the start, and created if it doesn't exist";
@@ -99,7 +99,7 @@ const JOURNAL_HELP: &str =
 const WORKERS_HELP: &str = "How many messages are answered at a time, 1 to 16";
 
 const CONNECTIONS_HELP: &str =
-    "End after this many connections, 1 to 4294967295; use 4294967295 to run indefinitely";
+    "End after this many connections, 1 to 4294967295; unlimited to run until it is stopped";
 
 const IDLE_HELP: &str =
     "End a connection after this many seconds without a complete message or with an unread reply, 1 to 3600 [default: 30]";
@@ -305,7 +305,7 @@ fn serve<'a>(alloc: Global) -> Result<Command<'a>, AllocError>
         required_option("seed", "FILE", SEED_HELP),
         number("port", "N", GREATEST_PORT as u32, PORT_HELP),
         number("workers", "N", MOST_WORKERS as u32, WORKERS_HELP),
-        number("connections", "N", GREATEST_CONNECTIONS, CONNECTIONS_HELP),
+        required_option("connections", "N", CONNECTIONS_HELP),
         optional_number("idle", "SECONDS", LONGEST_IDLE as u32, IDLE_HELP),
         optional_number("clients", "N", MOST_CLIENTS, CLIENTS_HELP),
         optional_number("buffers", "MEBIBYTES", MOST_BUFFERS as u32, BUFFERS_HELP),

@@ -29,6 +29,8 @@ pub(crate) enum Refusal {
     SpareFile,
     /// `table` has an unknown form.
     NoForm,
+    /// `serve` has a value of `--connections` that is neither a number from 1 to 4,294,967,295 nor `unlimited`.
+    NoLimit,
     /// The realm is empty or has more than 255 bytes.
     NoRealm,
 }
@@ -41,7 +43,9 @@ impl Refusal {
         match self {
             Refusal::OldTarget | Refusal::TwoPasswords => ErrorKind::ArgumentConflict,
             Refusal::NoPassword | Refusal::NoFile => ErrorKind::MissingRequiredArgument,
-            Refusal::NoCommand | Refusal::NoForm | Refusal::NoRealm => ErrorKind::InvalidValue,
+            Refusal::NoCommand | Refusal::NoForm | Refusal::NoLimit | Refusal::NoRealm => {
+                ErrorKind::InvalidValue
+            }
             Refusal::SpareFile => ErrorKind::UnknownArgument,
         }
     }
@@ -64,6 +68,9 @@ impl Refusal {
             Refusal::NoFile => "the command 'compact' requires a '<FILE>'",
             Refusal::SpareFile => "only the command 'compact' takes a '<FILE>'",
             Refusal::NoForm => "a value for '--as <FORM>' is one of: lines, configuration, keys",
+            Refusal::NoLimit => {
+                "a value for '--connections <N>' is a number from 1 to 4294967295, or unlimited"
+            }
             Refusal::NoRealm => "a value for '--realm <REALM>' has 1 to 255 bytes",
         }
     }
@@ -81,6 +88,7 @@ pub(crate) fn refusal_of(matches: &ArgMatches<'_>) -> Refusal
         "client" => client_refusal(options),
         "control" => control_refusal(options),
         "table" => Refusal::NoForm,
+        "serve" => Refusal::NoLimit,
         _ => Refusal::NoRealm,
     }
 }

@@ -5,4 +5,5 @@ pub mod ReplyLemmas
 pub mod RoundLemmas
 pub mod RunLemmas
 pub mod SendLemmas
+pub mod ShareLemmas
 pub mod TransferLemmas

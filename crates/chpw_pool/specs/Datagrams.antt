@@ -1,6 +1,6 @@
 -- A message in a datagram (RFC 3244 section 2: without the length that it has over TCP), as a connection of this
 -- message alone.
-use Rattle.std.specs.Prelude.{◌≡◌, ◌≢◌, ℕ, ◌⊎◌, List, length, drop, Option, Some, None, true, false}
+use Rattle.std.specs.Prelude.{◌≡◌, ◌≢◌, ℕ, ◌⊎◌, List, length, drop, Option, Some, None, Bool, true, false}
 use Rattle.std.specs.Int.{to_be_bytes, w32}
 use Rattle.slab.specs.Slab.{Slab, get}
 use Rattle.chpw_frame.specs.Stream.{sent}
@@ -11,6 +11,8 @@ use Rattle.chpw_connections.specs.Room.{HappensWithRoom, for_message, gives_way_
 use Rattle.chpw_connections.specs.Waiting.{waits_for}
 use Rattle.chpw_connections.specs.declared.limits.ConnectionLimits.{ConnectionLimits}
 use Rattle.chpw_connections.specs.declared.connection.Connection.{Connection}
+use Rattle.chpw_pool.specs.declared.state.Progress.{Progress}
+use Rattle.chpw_pool.specs.declared.state.Progress.TheVariants as progress
 
 -- the length that precedes a message over TCP
 abbrev pub length_before : List ℕ → List ℕ
@@ -43,6 +45,11 @@ pub record TakesDatagram (b : ConnectionLimits) (now : ℕ)
 abbrev pub GaveWay : Option Connection → Option Connection → Type 0
 GaveWay old new = (b : ConnectionLimits) × (now : ℕ) × (o : Option Connection)
     × (gives_way_at (for_message b now o) old ≡ true) × Comes 0 failed old new
+
+-- one was read, whether it waits for a worker or was dropped: more may have come behind it
+abbrev pub may_have_more : Progress → Bool
+may_have_more progress.None = false
+may_have_more other = true
 
 -- or it is unchanged
 abbrev pub StaysOrGivesWay : Option Connection → Option Connection → Type 0

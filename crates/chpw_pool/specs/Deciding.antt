@@ -1,14 +1,15 @@
 -- Which datagrams are decided, and what is kept of their replies.
-use Rattle.std.specs.Prelude.{◌≡◌, ℕ, ◌<◌, ◌⊎◌, List, length, slice_get, Option, Some, None, Bool, true, false, not, ◌&&◌, is_none}
+use Rattle.std.specs.Prelude.{◌≡◌, ℕ, ◌<◌, ◌⊎◌, List, length, slice_get, Option, Some, None, Bool, true, false, ◌&&◌}
 use Rattle.std.specs.List.{list_any}
 use Rattle.std.specs.Str.{bytes_eq}
 use Rattle.slab.specs.Slab.{Slab}
 use Rattle.chpw_connections.specs.declared.limits.ConnectionLimits.{ConnectionLimits}
 use Rattle.chpw_connections.specs.declared.connection.Connection.{Connection}
 use Rattle.chpw_datagrams.specs.Answers.{Answer, reply_for, after_keep}
-use Rattle.chpw_datagrams.specs.Senders.{is_answered, is_same_sender}
+use Rattle.chpw_datagrams.specs.Senders.{IsAnswered, is_same_sender}
 use Rattle.chpw_datagrams.specs.declared.sender.Sender.{Sender}
 use Rattle.chpw_pool.specs.Datagrams.{TakesDatagram}
+use Rattle.chpw_pool.specs.Shares.{may_place_datagram}
 use Rattle.chpw_pool.specs.declared.sockets.Socket.{Socket}
 use Rattle.chpw_pool.specs.declared.sockets.Transport.{Transport}
 use Rattle.chpw_pool.specs.declared.sockets.Transport.TheVariants as place
@@ -29,12 +30,15 @@ abbrev pub is_under_way : List (Option Transport) → Sender → List ℕ → Bo
 is_under_way places sender message = list_any (is_at sender message) places
 
 -- it is answerable, and has no kept reply
-abbrev pub is_unanswered : Datagrams → Sender → List ℕ → ℕ → Bool
-is_unanswered d sender message now = is_answered d.port sender message && is_none (reply_for d.answered sender message now)
+pub record IsUnanswered (d : Datagrams) (sender : Sender) (message : List ℕ) (now : ℕ) : Type 0 where
+  pub answered : IsAnswered d.port d.realm.items sender message
+  pub unkept : reply_for d.answered sender message now ≡ None
 
 -- it is decided; no other one is
-abbrev pub is_decided : Datagrams → List (Option Transport) → Sender → List ℕ → ℕ → Bool
-is_decided d places sender message now = is_unanswered d sender message now && not (is_under_way places sender message)
+pub record IsDecided (d : Datagrams) (places : List (Option Transport)) (sender : Sender) (message : List ℕ) (now : ℕ) : Type 0 where
+  pub unanswered : IsUnanswered d sender message now
+  pub apart : is_under_way places sender message ≡ false
+  pub room : may_place_datagram places ≡ true
 
 -- at this place is a datagram of this sender with this message: its reply goes to that sender
 abbrev pub IsPlaced : List (Option Transport) → ℕ → Sender → List ℕ → Type 0
@@ -66,7 +70,7 @@ pub record Queues (d : Datagrams) (before after : List (Option Transport))
     (b : ConnectionLimits) (now number : ℕ) (old new : Slab Connection) (worker workers : ℕ) : Type 0 where
   pub sender : Sender
   pub message : List ℕ
-  pub decided : is_decided d before sender message now ≡ true
+  pub decided : IsDecided d before sender message now
   pub queued : IsQueued sender message before after b now number old new worker workers
 
 -- this reply is kept for the case that the same datagram comes again, or nothing is, without memory for it

@@ -12,6 +12,7 @@ pub mod Places
 pub mod Pools
 pub mod Reports
 pub mod Rounds
+pub mod Shares
 pub mod Steps
 pub mod Tokens
 pub mod Transfers

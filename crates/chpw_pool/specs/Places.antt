@@ -4,7 +4,7 @@ use Rattle.std.specs.declared.io.Error.{Error}
 use Rattle.chpw_connections.specs.declared.todo.Todo.{Todo}
 use Rattle.chpw_connections.specs.declared.todo.Todo.TheVariants as todo
 use Rattle.chpw_pool.specs.declared.sockets.Socket.{Socket}
-use Rattle.chpw_pool.specs.declared.sockets.Sockets.{Sockets}
+use Rattle.chpw_pool.specs.declared.places.Sockets.{Sockets}
 use Rattle.chpw_pool.specs.declared.sockets.Transport.{Transport}
 use Rattle.chpw_pool.specs.declared.sockets.Transport.TheVariants as place
 

@@ -1,11 +1,13 @@
 -- Which sockets the reactor handles, and when.
-use Rattle.std.specs.Prelude.{ℕ, ◌+◌, ◌-◌, Bool, true, false, not, ◌||◌, ◌&&◌, ◌==◌, nat_le, nat_lt, length, if◌then◌else◌}
+use Rattle.std.specs.Prelude.{ℕ, ◌+◌, ◌-◌, Bool, true, false, not, ◌||◌, ◌&&◌, ◌==◌, nat_lt, length, if◌then◌else◌}
 use Rattle.slab.specs.Slab.{slab_len}
 use Rattle.chpw_connections.specs.Held.{slots_of, accepted_by, changed_of}
 use Rattle.chpw_connections.specs.declared.todo.Todo.{Todo}
 use Rattle.chpw_connections.specs.declared.todo.Todo.TheVariants as todo
 use Rattle.chpw_pool.specs.Accepting.{is_waiting, has_failed}
+use Rattle.chpw_pool.specs.Bounded.{allows_more}
 use Rattle.chpw_pool.specs.declared.accepting.Accepting.{Accepting}
+use Rattle.chpw_pool.specs.declared.options.AcceptLimit.{AcceptLimit}
 use Rattle.chpw_follower.specs.Asks.{asks_now}
 use Rattle.chpw_pool.specs.Following.{is_waited_for}
 use Rattle.chpw_pool.specs.declared.state.State.{State}
@@ -26,15 +28,15 @@ abbrev pub has_none : State → Bool
 has_none s = slab_len (slots_of s.connections) == 0
 
 -- all connections that were to be accepted were, or no more can be
-abbrev pub has_all : ℕ → Accepting → State → Bool
-has_all wanted accepting s = nat_le wanted (accepted_by s.connections) || has_failed accepting
+abbrev pub has_all : AcceptLimit → Accepting → State → Bool
+has_all wanted accepting s = not (allows_more wanted (accepted_by s.connections)) || has_failed accepting
 
 -- and each has ended; or nobody is left to answer
-abbrev pub is_finished : ℕ → Accepting → State → Bool
+abbrev pub is_finished : AcceptLimit → Accepting → State → Bool
 is_finished wanted accepting s = s.is_deserted || (has_all wanted accepting s && has_none s)
 
 -- and no caller at the control socket has an order under way
-abbrev pub is_done : ℕ → Accepting → Bool → State → Bool
+abbrev pub is_done : AcceptLimit → Accepting → Bool → State → Bool
 is_done wanted accepting orders s = s.is_deserted || (has_all wanted accepting s && has_none s && not orders)
 
 -- it waits for its client's next bytes

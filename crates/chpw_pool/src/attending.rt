@@ -78,10 +78,9 @@ impl<
     F: Follower + StatusReporter + Drop,
 > Reactor<'a, R, L, G, F> {
     /// Callers at the control socket are accepted, read and answered, as far as their sockets allow without blocking;
-    /// the thread for orders is woken. This is done whether or not the socket was reported: a report may come after
-    /// those of many connections.
+    /// the thread for orders is woken. New ones are asked for only if the socket was reported, once a tick, and behind
+    /// connections for which something was done: a report may come after those of many connections.
     pub fn attend(&mut self, registry: &Registry) {
-        self.port.is_due = true;
         if self.port.take_due() {
             self.admit_callers(registry);
         }

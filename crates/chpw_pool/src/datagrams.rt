@@ -1,4 +1,6 @@
 //! What the reactor does for messages that come in datagrams.
+ghost use Rattle.std.specs.Prelude.{◌≡◌, ◌&&◌};
+ghost use Rattle.chpw_pool.specs.Datagrams.{may_have_more as may_follow};
 
 use crate::engine::milliseconds;
 use crate::follower::Follower;
@@ -34,12 +36,21 @@ impl<
             if !self.can_take_datagram(accepted) {
                 return;
             }
-            match self.take_datagram() {
-                Progress::None => self.has_datagrams = false,
-                Progress::Queued(worker) => self.engine.call(worker),
-                Progress::Some => {}
+            let progress = self.take_datagram();
+            self.note_datagram(progress);
+            if let Progress::Queued(worker) = progress {
+                self.engine.call(worker);
             }
         }
+    }
+
+    // A read of the next one did this. Only where none was there are no more, whether or not one got a place: what waits
+    // behind one that was dropped isn't left behind.
+    fn note_datagram(&mut self, progress: Progress)
+        ensures value { self.new.has_datagrams ≡ (self.old.has_datagrams && may_follow progress) }
+        ensures rest { (self.new.entrance ≡ self.old.entrance) × (self.new.is_stopping ≡ self.old.is_stopping) }
+    {
+        self.has_datagrams = self.has_datagrams && may_have_more(progress);
     }
 
     // Reads the next one.
@@ -47,4 +58,11 @@ impl<
         let now = milliseconds(self.rt);
         self.engine.hub.lock(self.rt).take_datagram(now)
     }
+}
+
+// Whether more may have come, behind a read that did this.
+fn may_have_more(progress: Progress) -> bool
+    ensures value { result ≡ may_follow progress }
+{
+    progress != Progress::None
 }

@@ -1,21 +1,24 @@
 //! What the reactor and the workers share.
-ghost use Rattle.std.specs.Prelude.{◌≡◌, ◌<◌, ◌≤◌, ◌-◌, ◌/◌, ◌^◌, min, nat_lt, vec_len, IfOk, IfErr, IfSome, Some, None, true, if◌then◌else◌};
+ghost use Rattle.std.specs.Prelude.{◌≡◌, ◌<◌, ◌-◌, ◌/◌, ◌^◌, min, vec_len, IfOk, IfErr, IfSome, Some, None, true, if◌then◌else◌};
 ghost use Rattle.std.specs.Duration.{as_nanos};
 ghost use Rattle.chpw_control.specs.Seats.{is_order};
+ghost use Rattle.chpw_pool.specs.Bounded.{allows_more};
 ghost use Rattle.chpw_pool.specs.Engines.{workers_at};
 ghost use Rattle.chpw_pool.specs.Pools.{Ends, IsUnmade};
 
 use crate::control::Control;
 use crate::hub::Hub;
+use crate::options::AcceptLimit;
 use crate::pool::{Pool, PoolFault};
 use crate::sockets::Selector;
+use crate::udp::DatagramSocket;
 use crate::worker::Reply;
 use chpw_connections::{ConnectionLimits, TakenMessage};
 use chpw_control::Command;
 use chpw_serve::WorkerWords;
 use mio::Waker;
 use std::alloc::{AllocError, Global};
-use std::net::{Net, UdpSocket};
+use std::net::Net;
 use std::sync::{Condvar, Mutex, MutexGuard, Wait};
 use std::thread;
 use std::time::{Clock, Duration};
@@ -57,7 +60,7 @@ impl<G: Drop> Engine<G> {
         seed: [u8; 32],
         bounds: ConnectionLimits,
         gates: Vec<G>,
-        datagrams: Option<UdpSocket>,
+        datagrams: Option<DatagramSocket>,
     ) -> Result<Engine<G>, PoolFault>
         requires gates { 0 < vec_len gates }
         ensures workers { IfOk result (λ engine. workers_at engine ≡ vec_len gates) }
@@ -273,29 +276,29 @@ impl<G> Engine<G> {
         self.hub.lock(rt).state.connections.expired_count()
     }
 
-    /// What the reactor did, after it has ended, if it was to serve this many connections.
-    pub fn outcome<R: Wait>(&self, rt: &R, wanted: u32) -> Pool
+    /// What the reactor did, after it has ended, if it was to serve so many connections.
+    pub fn outcome<R: Wait>(&self, rt: &R, wanted: AcceptLimit) -> Pool
         ensures ends { Ends wanted result }
     {
         outcome_of(self.hub.lock(rt).state.connections.accepted_count(), wanted)
     }
 }
 
-/// This many connections were accepted. If they are fewer than were wanted, the listener failed.
-pub(crate) fn outcome_of(accepted: u32, wanted: u32) -> Pool
+/// This many connections were accepted. If they are fewer than were wanted, the listener failed; so it did in any case
+/// if there is no limit.
+pub(crate) fn outcome_of(accepted: u64, wanted: AcceptLimit) -> Pool
     ensures ends { Ends wanted result }
-    ensures served { accepted ≤ wanted → result.served ≡ accepted }
-    ensures fault { result.fault ≡ (if nat_lt accepted wanted then Some PoolFault.Accept else None) }
+    ensures served { allows_more wanted accepted ≡ true → result.served ≡ accepted }
+    ensures fault { result.fault ≡ (if allows_more wanted accepted then Some PoolFault.Accept else None) }
 {
-    if accepted < wanted {
-        Pool {
+    match wanted {
+        AcceptLimit::Of(count) if count <= accepted => Pool {
+            served: count,
+            fault: None,
+        },
+        _ => Pool {
             served: accepted,
             fault: Some(PoolFault::Accept),
-        }
-    } else {
-        Pool {
-            served: wanted,
-            fault: None,
-        }
+        },
     }
 }

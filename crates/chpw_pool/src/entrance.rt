@@ -1,10 +1,13 @@
 //! The entrance: how many connections are accepted, when the next one is, and which one waits for room.
-ghost use Rattle.std.specs.Prelude.{◌≡◌, ◌&&◌, is_none, nat_lt, ◌≢◌, Some, None, false, IfOk, IfErr};
+ghost use Rattle.std.specs.Prelude.{◌≡◌, ◌&&◌, is_none, ◌≢◌, Some, None, false, IfOk, IfErr};
 ghost use Rattle.std.specs.IoError.{error_kind, raw_os_error};
 ghost use Rattle.chpw_pool.specs.Accepting.{is_passing as passing, is_ready, reported, resumed, after_fault};
+ghost use Rattle.chpw_pool.specs.Bounded.{allows_more};
 ghost use Rattle.chpw_pool.specs.declared.accepting.Accepting.TheVariants as accepting;
+ghost use Rattle.chpw_pool.specs.declared.options.AcceptLimit.TheVariants as limit;
 
 use crate::accepting::Accepting;
+use crate::options::AcceptLimit;
 use std::io::{Error, ErrorKind};
 use std::net::{SocketAddr, TcpStream};
 
@@ -19,15 +22,15 @@ pub(crate) struct Newcomer {
 #[derive(Drop)]
 pub(crate) struct Entrance {
     /// How many connections are accepted in all, those that come as datagrams among them.
-    pub wanted: u32,
+    pub wanted: AcceptLimit,
     pub accepting: Accepting,
     /// A connection for which there is no room yet.
     pub pending: Option<Newcomer>,
 }
 
 impl Entrance {
-    /// An entrance for this many connections. Nobody has come yet.
-    pub fn new(wanted: u32) -> Entrance
+    /// An entrance for so many connections. Nobody has come yet.
+    pub fn new(wanted: AcceptLimit) -> Entrance
         ensures value { result ≡ record { wanted = wanted; accepting = accepting.Ready; pending = None } }
     {
         Entrance {
@@ -38,17 +41,17 @@ impl Entrance {
     }
 
     /// Whether more than this many connections are accepted.
-    pub fn wants_more(&self, accepted: u32) -> bool
-        ensures value { result ≡ nat_lt accepted self.now.wanted }
+    pub fn wants_more(&self, accepted: u64) -> bool
+        ensures value { result ≡ allows_more self.now.wanted accepted }
     {
-        accepted < self.wanted
+        self.wanted.allows_more(accepted)
     }
 
     /// Whether the listener is asked for one more connection, after this many.
-    pub fn can_accept(&self, accepted: u32) -> bool
-        ensures value { result ≡ (nat_lt accepted self.now.wanted && (is_none self.now.pending && is_ready self.now.accepting)) }
+    pub fn can_accept(&self, accepted: u64) -> bool
+        ensures value { result ≡ (allows_more self.now.wanted accepted && (is_none self.now.pending && is_ready self.now.accepting)) }
     {
-        accepted < self.wanted
+        self.wanted.allows_more(accepted)
             && self.pending.is_none()
             && matches!(self.accepting, Accepting::Ready)
     }
@@ -114,10 +117,10 @@ impl Entrance {
     }
 
     /// After this many connections no more are accepted. The one that waits for room is dropped.
-    pub fn close(&mut self, accepted: u32)
-        ensures value { self.new ≡ record self.old { wanted = accepted; pending = None } }
+    pub fn close(&mut self, accepted: u64)
+        ensures value { self.new ≡ record self.old { wanted = limit.Of accepted; pending = None } }
     {
-        self.wanted = accepted;
+        self.wanted = AcceptLimit::Of(accepted);
         self.pending = None;
     }
 }

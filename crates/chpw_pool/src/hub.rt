@@ -1,12 +1,12 @@
 //! The connections with their sockets, which reactor and workers share under one lock.
 ghost use Rattle.slab.specs.Slab.{get, slab_len};
 ghost use Rattle.std.specs.Prelude.{◌≡◌, ◌≢◌, ◌<◌, ◌==◌, ◌⊎◌, ℕ, nat_lt, length, slice_get, if◌then◌else◌};
-ghost use Rattle.std.specs.Prelude.{IfSome, IfOk, IfErr, Err, is_err, false};
+ghost use Rattle.std.specs.Prelude.{IfSome, IfOk, IfErr, Err, is_err, is_some, false, true};
 ghost use Rattle.chpw_connections.specs.Held.{slots_of, bounds_of, accepted_by};
 ghost use Rattle.chpw_connections.specs.Queues.{workers_of};
 ghost use Rattle.chpw_connections.specs.Todos.{todo_in};
 ghost use Rattle.chpw_connections.specs.declared.todo.Todo.TheVariants as todo;
-ghost use Rattle.chpw_connections.specs.Sets.{Happens};
+ghost use Rattle.chpw_connections.specs.Sets.{Happens, IsLongest, NobodyWaits};
 ghost use Rattle.chpw_connections.specs.Stages.{failed};
 ghost use Rattle.chpw_pool.specs.Steps.{IsCalled, Steps, RunsTo, Answers};
 ghost use Rattle.chpw_pool.specs.Datagrams.{DropsDatagram};
@@ -15,16 +15,19 @@ ghost use Rattle.chpw_pool.specs.Following.{awaited};
 ghost use Rattle.chpw_pool.specs.Newcomers.{IsAdmitted, IsBegun};
 ghost use Rattle.chpw_pool.specs.Places.{RemainsAt, StaysAt};
 ghost use Rattle.chpw_pool.specs.Pools.{IsUnmade, peer_in};
+ghost use Rattle.chpw_pool.specs.Shares.{may_place_stream};
 ghost use Rattle.chpw_pool.specs.declared.state.Progress.TheVariants as progress;
 
 use crate::entrance::Newcomer;
+use crate::places::Sockets;
 use crate::pool::PoolFault;
-use crate::sockets::{Selector, Sockets};
+use crate::sockets::Selector;
 use crate::state::{Progress, State};
+use crate::udp::DatagramSocket;
 use crate::worker::{Reply, peer_of};
 use chpw_connections::{ConnectionLimits, Connections, Todo};
 use std::alloc::Global;
-use std::net::{TcpStream, UdpSocket};
+use std::net::TcpStream;
 
 /// How many steps a connection makes before the others get their turn again.
 pub(crate) const STEPS: u32 = 64;
@@ -45,7 +48,7 @@ impl Hub {
         selector: &Selector,
         bounds: ConnectionLimits,
         workers: usize,
-        datagrams: Option<UdpSocket>,
+        datagrams: Option<DatagramSocket>,
     ) -> Result<Hub, PoolFault>
         ensures begun { IfOk result (λ hub. IsBegun hub.state) }
         ensures bounds { IfOk result (λ hub. bounds_of hub.state.connections ≡ bounds) }
@@ -62,8 +65,8 @@ impl Hub {
         })
     }
 
-    /// Admits a connection that has come: its slot. If there are as many as allowed, it is handed back, and a client
-    /// waits for room. One whose socket can't be watched ends.
+    /// Admits a connection that has come: its slot. If there are as many as allowed, in all or over TCP, it is handed
+    /// back, and a client waits for room. One whose socket can't be watched ends.
     pub fn admit(&mut self, newcomer: Newcomer, now: u64) -> Result<usize, Newcomer>
         ensures admitted { IfOk result (λ slot. IsAdmitted (peer_in newcomer.address) now (accepted_by self.old.state.connections)
             (slots_of self.old.state.connections) (slots_of self.new.state.connections) slot) }
@@ -71,10 +74,15 @@ impl Hub {
         ensures others { IfOk result (λ slot. AreElsewhere self.old.sockets.by_slot.items self.new.sockets.by_slot.items slot) }
         ensures full { nat_lt (slab_len (slots_of self.old.state.connections)) (bounds_of self.old.state.connections).connections ≡ false
             → result ≡ Err newcomer }
+        ensures few { may_place_stream (is_some self.old.sockets.datagrams) self.old.sockets.by_slot.items ≡ false → result ≡ Err newcomer }
         ensures kept { IfErr result (λ back. (back ≡ newcomer) × (self.new.state.connections ≡ self.old.state.connections)
             × (self.new.sockets ≡ self.old.sockets)) }
         ensures noted { self.new.state.has_newcomer ≡ is_err result }
     {
+        if !self.sockets.may_put() {
+            self.state.has_newcomer = true;
+            return Err(newcomer);
+        }
         match self.state.accept(peer_of(newcomer.address), now) {
             None => Err(newcomer),
             Some(slot) => {
@@ -103,8 +111,25 @@ impl Hub {
         self.sockets.step(&mut self.state, slot, now)
     }
 
+    /// If there are as many connections as allowed, in all or over TCP, ends the one that has waited longest for its
+    /// client; whether one ended.
+    pub fn make_room(&mut self) -> bool
+        ensures needed { may_place_stream (is_some self.old.sockets.datagrams) self.old.sockets.by_slot.items ≡ true
+            → nat_lt (slab_len (slots_of self.old.state.connections)) (bounds_of self.old.state.connections).connections ≡ true
+            → (result ≡ false) × (self.new.state ≡ self.old.state) }
+        ensures ended { result ≡ true → (slot : ℕ) × IsLongest (slots_of self.old.state.connections) slot
+            × Happens 0 (slots_of self.old.state.connections) (slots_of self.new.state.connections) slot failed }
+        ensures nobody { may_place_stream (is_some self.old.sockets.datagrams) self.old.sockets.by_slot.items ≡ false
+            → result ≡ false → NobodyWaits (slots_of self.old.state.connections) }
+        ensures sockets { self.new.sockets ≡ self.old.sockets }
+    {
+        let may_put = self.sockets.may_put();
+        self.state.make_room(may_put)
+    }
+
     // Stores the socket of a connection that was just accepted. If it can't be watched, the connection ends.
     fn put(&mut self, slot: usize, stream: TcpStream)
+        requires room { may_place_stream (is_some self.old.sockets.datagrams) self.old.sockets.by_slot.items ≡ true }
         ensures put { Happens 0 (slots_of self.old.state.connections) (slots_of self.new.state.connections) slot failed
             ⊎ (self.new.state ≡ self.old.state) }
         ensures placed { slot < length self.old.sockets.by_slot.items → IsFresh self.new.sockets.by_slot.items slot }

@@ -16,9 +16,11 @@ mod hub;
 mod input_output;
 mod one_message;
 mod options;
+mod places;
 mod pool;
 mod reactor;
 mod rounds;
+mod shares;
 mod sockets;
 mod state;
 mod status_reporter;
@@ -31,9 +33,10 @@ pub use chpw_connections::{ConnectionLimits, Unconfirmed};
 pub use clock::{MachineClock, machine_moment};
 pub use engine::Engine;
 pub use follower::{Follower, JournalEnd, NoFollower};
-pub use options::PoolOptions;
+pub use options::{AcceptLimit, PoolOptions};
 pub use pool::{
     BackgroundTask, NotStarted, Pool, PoolFault, no_gates, run_pool, run_pool_by, run_pool_with,
     run_shift,
 };
 pub use status_reporter::{ConnectionCounts, StatusReporter};
+pub use udp::DatagramSocket;

@@ -1,8 +1,30 @@
 //! What a pool is to do.
 ghost use Rattle.std.specs.Prelude.{◌≡◌, ◌*◌};
-ghost use Rattle.chpw_pool.specs.Bounded.{bounds_asked};
+ghost use Rattle.chpw_pool.specs.Bounded.{allows_more as allows, bounds_asked};
+ghost use Rattle.chpw_pool.specs.declared.options.AcceptLimit.TheVariants as limit;
 
 use chpw_connections::ConnectionLimits;
+
+/// After how many connections a pool ends, those that come as datagrams among them.
+#[derive(Clone, Copy, PartialEq, Eq, Debug, Drop)]
+pub enum AcceptLimit {
+    /// However many there are, it goes on.
+    Unlimited,
+    /// After this many.
+    Of(u64),
+}
+
+impl AcceptLimit {
+    /// Whether one more is accepted, after this many.
+    pub(crate) fn allows_more(self, accepted: u64) -> bool
+        ensures value { result ≡ allows self accepted }
+    {
+        match self {
+            AcceptLimit::Unlimited => true,
+            AcceptLimit::Of(count) => accepted < count,
+        }
+    }
+}
 
 /// What a pool is to do, what its connections may hold, and for how long.
 #[derive(Clone, Copy, Drop)]
@@ -10,7 +32,7 @@ pub struct PoolOptions {
     /// The seed of the random words.
     pub seed: [u8; 32],
     /// After how many connections it ends.
-    pub connections: u32,
+    pub connections: AcceptLimit,
     /// How many connections are open at a time; at least 1.
     pub clients: u32,
     /// How many MiB the messages and replies of all connections hold together.
@@ -32,11 +54,11 @@ impl PoolOptions {
     /// This many connections with the default bounds: 1,024 connections at a time, which hold 32 MiB and are ended
     /// after 30 seconds.
     pub fn usual(seed: [u8; 32], connections: u32) -> PoolOptions
-        ensures value { result ≡ record { seed = seed; connections = connections; clients = 1024; buffers = 32; idle = 30 } }
+        ensures value { result ≡ record { seed = seed; connections = limit.Of connections; clients = 1024; buffers = 32; idle = 30 } }
     {
         PoolOptions {
             seed,
-            connections,
+            connections: AcceptLimit::Of(u64::from(connections)),
             clients: 1_024,
             buffers: 32,
             idle: 30,

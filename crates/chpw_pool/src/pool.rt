@@ -4,11 +4,12 @@ ghost use Rattle.rand_chacha.specs.ChaCha.{key_of};
 ghost use Rattle.chpw_serve.specs.WordStreams.{GivesFromTheFirst, stream_start};
 ghost use Rattle.chpw_pool.specs.Engines.{workers_at};
 ghost use Rattle.chpw_pool.specs.Pools.{Ends};
+ghost use Rattle.chpw_pool.specs.declared.options.AcceptLimit.TheVariants as limit;
 
 use crate::clock::MachineClock;
 use crate::engine::{Engine, outcome_of};
 use crate::follower::{JournalEnd, NoFollower};
-use crate::options::PoolOptions;
+use crate::options::{AcceptLimit, PoolOptions};
 use crate::worker::{Worker, work};
 use chpw_book::{AtDesk, Desk, DeskName, Pass};
 use chpw_serve::{Gate, Messages, NoGate, Observer, WorkerWords};
@@ -35,7 +36,7 @@ pub enum PoolFault {
 #[derive(Clone, Copy, PartialEq, Eq, Debug, Drop)]
 pub struct Pool {
     /// The connections that were accepted, each until it ended.
-    pub served: u32,
+    pub served: u64,
     pub fault: Option<PoolFault>,
 }
 
@@ -72,7 +73,7 @@ pub fn run_pool<
     connections: u32,
 ) -> Pool
     requires passes { 0 < length passes.old }
-    ensures ends { Ends connections result }
+    ensures ends { Ends (limit.Of connections) result }
 {
     let terms = PoolOptions::usual(seed, connections);
     run_pool_by(rt, alloc, rt, listener, service, desk, passes, terms)
@@ -98,7 +99,7 @@ pub fn run_pool_with<
 ) -> Pool
     requires passes { 0 < length passes.old }
     requires gates { length gates.items ≡ length passes.old }
-    ensures ends { Ends connections result }
+    ensures ends { Ends (limit.Of connections) result }
 {
     let shared = Shared {
         alloc,
@@ -148,7 +149,7 @@ pub fn run_pool_by<
 }
 
 // No connection was accepted.
-fn failed_pool(fault: PoolFault, connections: u32) -> Pool
+fn failed_pool(fault: PoolFault, connections: AcceptLimit) -> Pool
     ensures ends { Ends connections result }
     ensures fault { fault ≢ PoolFault.Accept → result ≡ record { served = 0; fault = Some fault } }
 {
@@ -223,7 +224,7 @@ struct Reacting<'a, R, L, G> {
     rt: &'a R,
     engine: &'a Engine<G>,
     listener: &'a L,
-    connections: u32,
+    connections: AcceptLimit,
 }
 
 impl<

@@ -1,8 +1,9 @@
 //! The reactor: one thread that has the listener and waits for all sockets, and never for one of them alone. The
 //! sockets are under the lock that it shares with the workers.
 
-ghost use Rattle.std.specs.Prelude.{◌≡◌, ◌&&◌, ◌||◌, is_some, nat_lt, true, false, Some};
+ghost use Rattle.std.specs.Prelude.{◌≡◌, ◌&&◌, ◌||◌, is_some, true, false, Some};
 ghost use Rattle.chpw_pool.specs.Accepting.{is_ready};
+ghost use Rattle.chpw_pool.specs.Bounded.{allows_more};
 ghost use Rattle.chpw_pool.specs.Reports.{is_control, is_datagrams, is_follower, reported_at, source_of};
 
 use crate::attending::ControlPort;
@@ -11,6 +12,7 @@ use crate::entrance::{Entrance, Newcomer};
 use crate::follower::Follower;
 use crate::following::FollowerLink;
 use crate::hub::STEPS;
+use crate::options::AcceptLimit;
 use crate::rounds::{is_round_due, slot_at_turn};
 use crate::sockets::Selector;
 use crate::state::{Progress, Shortage};
@@ -52,7 +54,7 @@ pub(crate) struct Reactor<'a, R, L, G, F> {
 }
 
 impl<G> Engine<G> {
-    /// Accepts this many connections, or as many as the listener can; reads their messages and passes them to the
+    /// Accepts so many connections, or as many as the listener can; reads their messages and passes them to the
     /// workers, connection i (from 0) to worker i modulo their number; and writes the replies. It returns once each
     /// connection has ended, or the engine is deserted. Then no message will come any more. Replies to changes wait for
     /// the follower, as the workers ask for it. It answers questions at the control socket itself; orders are for the
@@ -62,7 +64,7 @@ impl<G> Engine<G> {
         R: Wait + Clock,
         L: OpenListener<Stream = TcpStream> + AsRawFd,
         F: Follower + StatusReporter + Drop,
-    >(&self, rt: &R, listener: &L, connections: u32, mut follower: F) {
+    >(&self, rt: &R, listener: &L, connections: AcceptLimit, mut follower: F) {
         let clients = self.hub.lock(rt).sockets.by_slot.len();
         let mut selector = self.selector.lock(rt);
         let port = ControlPort::open(follower.listener(), selector.poll.registry());
@@ -147,8 +149,8 @@ impl<
     }
 
     /// Whether a datagram may have come, and may count as one more connection, after this many.
-    pub fn can_take_datagram(&self, accepted: u32) -> bool
-        ensures value { result ≡ (self.now.has_datagrams && nat_lt accepted self.now.entrance.wanted) }
+    pub fn can_take_datagram(&self, accepted: u64) -> bool
+        ensures value { result ≡ (self.now.has_datagrams && allows_more self.now.entrance.wanted accepted) }
     {
         self.has_datagrams && self.entrance.wants_more(accepted)
     }
@@ -245,6 +247,7 @@ impl<
             MutexGuard::unlock(hub);
             if is_due {
                 self.drive(slot);
+                self.port.is_due = true;
                 if !is_short && self.is_short() {
                     is_short = true;
                     self.first = slot;
@@ -319,7 +322,7 @@ impl<
         }
     }
 
-    // Admits a connection; whether there was room. If there are as many as allowed, the one that has waited longest for
+    // Admits a connection; whether there was room. If there are as many as allowed, in all or over TCP, the one that has waited longest for
     // its client ends to make room; if none waits for its client, the new one is kept until there is room.
     fn admit(&mut self, newcomer: Newcomer) -> bool
         ensures kept { result ≡ false → self.new.entrance ≡ record self.old.entrance { pending = Some newcomer } }
@@ -340,6 +343,6 @@ impl<
     }
 
     fn make_room(&self) -> bool {
-        self.engine.hub.lock(self.rt).state.make_room()
+        self.engine.hub.lock(self.rt).make_room()
     }
 }

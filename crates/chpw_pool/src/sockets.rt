@@ -1,5 +1,5 @@
 //! The sockets of the connections.
-ghost use Rattle.std.specs.Prelude.{◌≡◌, ◌≢◌, ◌⊎◌, ℕ, List, ◌<◌, ◌≤◌, IfOk, IfErr, IfSome, IfNone, false, true, is_some};
+ghost use Rattle.std.specs.Prelude.{◌≡◌, ◌≢◌, ◌⊎◌, ℕ, List, ◌<◌, ◌≤◌, ◌+◌, IfOk, IfErr, IfSome, IfNone, false, true, is_some};
 ghost use Rattle.std.specs.Prelude.{length, slice_get, if◌then◌else◌};
 ghost use Rattle.slab.specs.Slab.{get};
 ghost use Rattle.chpw_connections.specs.Held.{slots_of, bounds_of, accepted_by};
@@ -9,18 +9,22 @@ ghost use Rattle.chpw_connections.specs.Stages.{closed};
 ghost use Rattle.chpw_connections.specs.Todos.{todo_in};
 ghost use Rattle.chpw_connections.specs.declared.todo.Todo.TheVariants as todo;
 ghost use Rattle.chpw_pool.specs.Datagrams.{BeginsAndDrops, DropsDatagram};
-ghost use Rattle.chpw_pool.specs.Deciding.{AreElsewhere, IsFree, IsFresh, Queues, IsQueued, IsPlaced, is_decided, is_at, is_under_way};
+ghost use Rattle.chpw_pool.specs.Deciding.{AreElsewhere, IsDecided, IsFree, IsFresh, Queues, IsQueued, IsPlaced, is_at, is_under_way};
 ghost use Rattle.chpw_pool.specs.Pools.{IsUnmade};
 ghost use Rattle.chpw_pool.specs.Places.{IsStream, KeepsSizes, Stays, StaysAt};
 ghost use Rattle.chpw_pool.specs.Places.{has_pending, is_datagram, is_datagram_at, is_shut_behind, reads_on};
+ghost use Rattle.chpw_pool.specs.Shares.{datagrams_in, streams_in, most_datagrams, most_streams};
+ghost use Rattle.chpw_pool.specs.Shares.{may_place_datagram as may_datagram, may_place_stream as may_stream};
 ghost use Rattle.chpw_pool.specs.Steps.{IsCalled, Steps, Drains};
 ghost use Rattle.chpw_pool.specs.declared.state.Progress.TheVariants as progress;
 
+use crate::places::Sockets;
 use crate::pool::PoolFault;
+use crate::shares::{may_place_datagram, may_place_stream};
 use crate::state::{Progress, State};
 use crate::tokens::WAKER;
 use crate::transfer::Transfer;
-use crate::udp::{Datagram, Datagrams, LONGEST};
+use crate::udp::{Datagram, DatagramSocket, Datagrams, LONGEST};
 use chpw_connections::Todo;
 use chpw_datagrams::Sender;
 use mio::net::TcpStream;
@@ -153,24 +157,13 @@ impl Selector {
     }
 }
 
-/// The sockets by their connections' slots, and what watches them.
-#[derive(Drop)]
-pub(crate) struct Sockets {
-    pub registry: Registry,
-    pub by_slot: Vec<Option<Transport>>,
-    pub buffer: Vec<u8>,
-    pub datagrams: Option<Datagrams>,
-    /// The bytes of a datagram.
-    datagram: Vec<u8>,
-}
-
 impl Sockets {
     /// None yet, for this many connections, and possibly one for datagrams.
     pub fn new(
         alloc: Global,
         selector: &Selector,
         connections: usize,
-        datagrams: Option<net::UdpSocket>,
+        datagrams: Option<DatagramSocket>,
     ) -> Result<Sockets, PoolFault>
         ensures fault { IfErr result IsUnmade }
         ensures places { IfOk result (λ s. length s.by_slot.items ≡ connections) }
@@ -200,8 +193,16 @@ impl Sockets {
         })
     }
 
+    /// Whether one more connection over TCP may have a place.
+    pub fn may_put(&self) -> bool
+        ensures value { result ≡ may_stream (is_some self.now.datagrams) self.now.by_slot.items }
+    {
+        may_place_stream(self.datagrams.is_some(), self.by_slot.as_slice())
+    }
+
     /// Stores the socket of a connection that was just accepted, and makes it non-blocking; whether it is watched.
     pub fn put(&mut self, slot: usize, stream: net::TcpStream) -> bool
+        requires room { may_stream (is_some self.old.datagrams) self.old.by_slot.items ≡ true }
         ensures placed { slot < length self.old.by_slot.items → IsFresh self.new.by_slot.items slot }
         ensures past { length self.old.by_slot.items ≤ slot → result ≡ false }
         ensures others { AreElsewhere self.old.by_slot.items self.new.by_slot.items slot }
@@ -349,7 +350,10 @@ fn decide(
     ensures queued { (worker : ℕ) → result ≡ progress.Queued worker
         → Queues datagrams.now by_slot.old by_slot.new (bounds_of state.old.connections) now (accepted_by state.old.connections)
         (slots_of state.old.connections) (slots_of state.new.connections) worker (workers_of state.old.connections) }
-    ensures ignored { is_decided datagrams.now by_slot.old sender message.now now ≡ false → (state.new ≡ state.old) × (by_slot.new ≡ by_slot.old) }
+    ensures ignored { ¬ (IsDecided datagrams.now by_slot.old sender message.now now) → (state.new ≡ state.old) × (by_slot.new ≡ by_slot.old) }
+    ensures few { datagrams_in by_slot.old ≤ most_datagrams (length by_slot.old) → datagrams_in by_slot.new ≤ most_datagrams (length by_slot.new) }
+    ensures streams { streams_in by_slot.new ≤ streams_in by_slot.old }
+    ensures places { length by_slot.new ≡ length by_slot.old }
     ensures some { (result ≡ progress.None) → ⊥ }
     ensures bounds { bounds_of state.new.connections ≡ bounds_of state.old.connections }
     ensures dropped { result ≡ progress.Some → DropsDatagram (slots_of state.old.connections) (slots_of state.new.connections) }
@@ -358,13 +362,21 @@ fn decide(
         (slots_of state.old.connections) (slots_of state.new.connections) }
     ensures kept { result ≡ progress.Some → by_slot.new ≡ by_slot.old }
 {
-    let is_decided = datagrams.is_to_be_decided(sender, message, now)
-        && !is_under_way(by_slot, sender, message);
-    if is_decided {
-        queue(datagrams.alloc, by_slot, state, sender, message, now)
-    } else {
-        Progress::Some
+    match datagrams.is_to_be_decided(sender, message, now) {
+        Ok(true) if may_be_queued(by_slot, sender, message) => {
+            queue(datagrams.alloc, by_slot, state, sender, message, now)
+        }
+        _ => Progress::Some,
     }
+}
+
+// Whether a datagram isn't being answered, and one more may have a place.
+fn may_be_queued(by_slot: &[Option<Transport>], sender: Sender, message: &[u8]) -> bool
+    ensures apart { result ≡ true → is_under_way by_slot.now sender message.now ≡ false }
+    ensures room { result ≡ true → may_datagram by_slot.now ≡ true }
+    ensures not { result ≡ false → is_under_way by_slot.now sender message.now ≡ false → may_datagram by_slot.now ≡ false }
+{
+    !is_under_way(by_slot, sender, message) && may_place_datagram(by_slot)
 }
 
 // Whether the same datagram of the same sender is being answered.
@@ -402,6 +414,9 @@ fn queue(
         ⊎ BeginsAndDrops (bounds_of state.old.connections) now sender.address (accepted_by state.old.connections) message.now
         (slots_of state.old.connections) (slots_of state.new.connections) }
     ensures kept { result ≡ progress.Some → by_slot.new ≡ by_slot.old }
+    ensures one_more { datagrams_in by_slot.new ≤ datagrams_in by_slot.old + 1 }
+    ensures streams { streams_in by_slot.new ≤ streams_in by_slot.old }
+    ensures places { length by_slot.new ≡ length by_slot.old }
 {
     let Ok(copy) = Vec::from_slice(alloc, message) else {
         return Progress::Some;
@@ -416,11 +431,13 @@ fn queue(
 }
 
 // Stores the socket of a connection, if there is such a slot; whether there is.
-#[tactic(auto, using(crate::proofs::PlaceLemmas::elsewhere))]
+#[tactic(auto, using(crate::proofs::PlaceLemmas::elsewhere, crate::proofs::ShareLemmas::sum_set))]
 fn put_stream(by_slot: &mut [Option<Transport>], slot: usize, stream: TcpStream) -> bool
     ensures placed { slot < length by_slot.old → IsFresh by_slot.new slot }
     ensures past { length by_slot.old ≤ slot → result ≡ false }
     ensures others { AreElsewhere by_slot.old by_slot.new slot }
+    ensures one_more { streams_in by_slot.new ≤ streams_in by_slot.old + 1 }
+    ensures datagrams { datagrams_in by_slot.new ≤ datagrams_in by_slot.old }
 {
     if slot < by_slot.len() {
         by_slot[slot] = Some(Transport::Stream(Socket {
@@ -434,10 +451,13 @@ fn put_stream(by_slot: &mut [Option<Transport>], slot: usize, stream: TcpStream)
 }
 
 // Stores the datagram that a connection came as.
-#[tactic(auto, using(crate::proofs::PlaceLemmas::elsewhere))]
+#[tactic(auto, using(crate::proofs::PlaceLemmas::elsewhere, crate::proofs::ShareLemmas::sum_set))]
 fn put_datagram(by_slot: &mut [Option<Transport>], slot: usize, sender: Sender, message: Vec<u8>)
     ensures placed { slot < length by_slot.old → IsPlaced by_slot.new slot sender message.items }
     ensures others { (other : ℕ) → (other ≡ slot → ⊥) → slice_get by_slot.new other ≡ slice_get by_slot.old other }
+    ensures one_more { datagrams_in by_slot.new ≤ datagrams_in by_slot.old + 1 }
+    ensures streams { streams_in by_slot.new ≤ streams_in by_slot.old }
+    ensures places { length by_slot.new ≡ length by_slot.old }
 {
     if slot < by_slot.len() {
         by_slot[slot] = Some(Transport::Datagram(Datagram { sender, message }));
@@ -447,7 +467,7 @@ fn put_datagram(by_slot: &mut [Option<Transport>], slot: usize, sender: Sender, 
 // The socket for datagrams, if there is one.
 fn watched(
     alloc: Global,
-    socket: Option<net::UdpSocket>,
+    socket: Option<DatagramSocket>,
     registry: &Registry,
 ) -> Result<Option<Datagrams>, PoolFault>
     ensures fault { IfErr result IsUnmade }
@@ -468,6 +488,7 @@ fn longest_of(has_socket: bool) -> usize
 
 fn no_sockets(alloc: Global, count: usize) -> Result<Vec<Option<Transport>>, AllocError>
     ensures count { IfOk result (λ places. length places.items ≡ count) }
+    ensures none { IfOk result (λ places. (datagrams_in places.items ≡ 0) × (streams_in places.items ≡ 0)) }
 {
     let mut sockets = Vec::with_capacity(alloc, count)?;
     for _ in 0..count {

@@ -14,6 +14,7 @@ ghost use Rattle.chpw_pool.specs.Controlling.{IsCounted, sum_of};
 ghost use Rattle.chpw_pool.specs.Rounds.{is_done, is_finished, is_looked_at, is_reading, milliseconds_to_wait, wants_reactor};
 
 use crate::accepting::Accepting;
+use crate::options::AcceptLimit;
 use crate::status_reporter::ConnectionCounts;
 use chpw_connections::{Connections, Counted, TakenMessage, Todo};
 use chpw_follower::FollowerDialog;
@@ -146,7 +147,7 @@ impl State {
     }
 
     /// No more connections are accepted: how many were. No client waits for room any more.
-    pub fn close(&mut self) -> u32
+    pub fn close(&mut self) -> u64
         ensures value { result ≡ accepted_by self.old.connections }
         ensures closed { self.new ≡ record self.old { has_newcomer = false } }
     {
@@ -154,19 +155,20 @@ impl State {
         self.connections.accepted_count()
     }
 
-    /// If there are as many connections as allowed, ends the one that has waited longest for its client; whether one
-    /// ended.
-    pub fn make_room(&mut self) -> bool
-        ensures needed { nat_lt (slab_len (slots_of self.old.connections)) (bounds_of self.old.connections).connections ≡ true
+    /// If no place may be given to one more connection, or there are as many as allowed, ends the one that has waited
+    /// longest for its client; whether one ended.
+    pub fn make_room(&mut self, has_place: bool) -> bool
+        ensures needed { has_place ≡ true → nat_lt (slab_len (slots_of self.old.connections)) (bounds_of self.old.connections).connections ≡ true
             → (result ≡ false) × (self.new ≡ self.old) }
         ensures ended { result ≡ true → (slot : ℕ) × IsLongest (slots_of self.old.connections) slot
             × Happens 0 (slots_of self.old.connections) (slots_of self.new.connections) slot failed }
         ensures nobody { nat_lt (slab_len (slots_of self.old.connections)) (bounds_of self.old.connections).connections ≡ false
             → result ≡ false → NobodyWaits (slots_of self.old.connections) }
+        ensures nobody_placed { has_place ≡ false → result ≡ false → NobodyWaits (slots_of self.old.connections) }
         ensures unchanged { result ≡ false → slots_of self.new.connections ≡ slots_of self.old.connections }
         ensures rest { self.new ≡ record self.old { connections = self.new.connections } }
     {
-        self.connections.is_full() && self.connections.make_room()
+        (!has_place || self.connections.is_full()) && self.connections.make_room()
     }
 
     /// Time passes for all connections, and a round begins: the shortage of room in the last one.
@@ -229,18 +231,19 @@ impl State {
         }
     }
 
-    /// Whether nothing is left to do: this many connections were accepted, or no more can be, and each has ended; or
+    /// Whether nothing is left to do: as many connections as wanted were accepted, or no more can be, and each has ended; or
     /// nobody is left to answer.
-    pub fn is_finished(&self, wanted: u32, accepting: Accepting) -> bool
+    pub fn is_finished(&self, wanted: AcceptLimit, accepting: Accepting) -> bool
         ensures value { result ≡ is_finished wanted accepting self.now }
     {
-        let has_all = self.connections.accepted_count() >= wanted || accepting.has_failed();
+        let accepted = self.connections.accepted_count();
+        let has_all = !wanted.allows_more(accepted) || accepting.has_failed();
         self.is_deserted || (has_all && self.connections.is_empty())
     }
 
     /// Whether the reactor has nothing left to do: the connections are finished, and no order is carried out or waits;
     /// or nobody is left to answer.
-    pub fn is_done(&self, wanted: u32, accepting: Accepting, has_orders: bool) -> bool
+    pub fn is_done(&self, wanted: AcceptLimit, accepting: Accepting, has_orders: bool) -> bool
         ensures value { result ≡ is_done wanted accepting has_orders self.now }
     {
         self.is_deserted || (self.is_finished(wanted, accepting) && !has_orders)

@@ -1,5 +1,5 @@
 //! The socket for datagrams, and those that are being answered.
-ghost use Rattle.std.specs.Prelude.{◌≡◌, ◌≢◌, ◌≤◌, [], IfErr, IfOk, is_some, true, false, length, take};
+ghost use Rattle.std.specs.Prelude.{◌≡◌, ◌≢◌, ◌≤◌, ◌<◌, ◌↔◌, [], IfErr, IfOk, IfSome, None, IsTrue, is_some, true, false, length, take};
 ghost use Rattle.slab.specs.Slab.{get};
 ghost use Rattle.chpw_connections.specs.Held.{slots_of, bounds_of};
 ghost use Rattle.chpw_connections.specs.Queues.{workers_of};
@@ -8,7 +8,7 @@ ghost use Rattle.chpw_connections.specs.Stages.{closed};
 ghost use Rattle.chpw_connections.specs.declared.todo.Todo.TheVariants as todo;
 ghost use Rattle.chpw_pool.specs.Addresses.{sender_in, IsAddressOf};
 ghost use Rattle.chpw_pool.specs.Datagrams.{in_datagram};
-ghost use Rattle.chpw_pool.specs.Deciding.{is_same_datagram, is_unanswered, KeepsReply};
+ghost use Rattle.chpw_pool.specs.Deciding.{is_same_datagram, IsUnanswered, KeepsReply};
 ghost use Rattle.chpw_pool.specs.Places.{reads_on};
 ghost use Rattle.chpw_pool.specs.Pools.{IsUnmade};
 ghost use Rattle.chpw_pool.specs.Steps.{IsCalled, Steps, Writes};
@@ -25,7 +25,7 @@ use chpw_connections::Todo;
 use chpw_datagrams::{Answered, Sender, is_answerable};
 use mio::net::UdpSocket;
 use mio::{Interest, Registry};
-use std::alloc::Global;
+use std::alloc::{AllocError, Global};
 use std::net::{self, Ipv4Addr, SocketAddr, SocketAddrV4};
 use std::{io, mem};
 
@@ -78,6 +78,13 @@ impl Datagram {
     }
 }
 
+/// A socket for datagrams, and the realm whose tickets it answers.
+#[derive(Drop)]
+pub struct DatagramSocket {
+    pub socket: net::UdpSocket,
+    pub realm: Vec<u8>,
+}
+
 /// The socket for datagrams, and what it has answered.
 #[derive(Drop)]
 pub(crate) struct Datagrams {
@@ -85,6 +92,8 @@ pub(crate) struct Datagrams {
     socket: UdpSocket,
     // Its own port.
     port: u16,
+    // The service's realm.
+    realm: Vec<u8>,
     answered: Answered,
 }
 
@@ -92,12 +101,14 @@ impl Datagrams {
     /// Nothing has been answered at this socket yet, which is made non-blocking and watched.
     pub fn new(
         alloc: Global,
-        socket: net::UdpSocket,
+        socket: DatagramSocket,
         registry: &Registry,
     ) -> Result<Datagrams, PoolFault>
         ensures fault { IfErr result IsUnmade }
         ensures none { IfOk result (λ d. d.answered ≡ []) }
+        ensures realm { IfOk result (λ d. d.realm ≡ socket.realm) }
     {
+        let DatagramSocket { socket, realm } = socket;
         let Ok(answered) = Answered::new(alloc) else {
             return Err(PoolFault::Memory);
         };
@@ -107,6 +118,7 @@ impl Datagrams {
                 alloc,
                 socket,
                 port,
+                realm,
                 answered,
             }),
         }
@@ -119,25 +131,40 @@ impl Datagrams {
     }
 
     /// Whether a datagram is to be answered and wasn't less than five seconds ago; one that was gets that reply again.
-    pub fn is_to_be_decided(&self, sender: Sender, message: &[u8], now: u64) -> bool
-        ensures value { result ≡ is_unanswered self.now sender message.now now }
+    /// An error means that there is no memory to read its AP-REQ.
+    pub fn is_to_be_decided(
+        &self,
+        sender: Sender,
+        message: &[u8],
+        now: u64,
+    ) -> Result<bool, AllocError>
+        ensures { IfOk result (λ decided. IsTrue decided ↔ IsUnanswered self.now sender message.now now) }
     {
-        if !is_answerable(sender, self.port, message) {
-            return false;
+        if !is_answerable(
+            self.alloc,
+            sender,
+            self.port,
+            self.realm.as_slice(),
+            message,
+        )? {
+            return Ok(false);
         }
         match self.answered.find(sender, message, now) {
-            None => true,
+            None => Ok(true),
             Some(reply) => {
-                let _ = self.send(sender, reply);
-                false
+                let _ = self.send(sender, message, reply);
+                Ok(false)
             }
         }
     }
 
-    // Sends a reply, without its length, to its receiver.
-    fn send(&self, sender: Sender, reply: &[u8]) -> io::Result<usize> {
-        let Outgoing { to, bytes } = addressed(sender, reply);
-        self.socket.send_to(bytes, to)
+    // Sends the reply to a message, without its length, to the sender. One that isn't to be sent counts as sent: for who
+    // waits for it, it is as one that was lost on its way.
+    fn send(&self, sender: Sender, message: &[u8], reply: &[u8]) -> io::Result<usize> {
+        match addressed(sender, message, reply) {
+            None => Ok(0),
+            Some(Outgoing { to, bytes }) => self.socket.send_to(bytes, to),
+        }
     }
 
     /// Sends a connection's reply as a whole, and keeps it. If the socket would block, nothing happens.
@@ -158,7 +185,7 @@ impl Datagrams {
         ensures bounds { bounds_of state.new.connections ≡ bounds_of state.old.connections }
     {
         let reply = state.connections.pending_output(slot);
-        let sent = Transfer::of(self.send(datagram.sender, reply));
+        let sent = Transfer::of(self.send(datagram.sender, datagram.message.as_slice(), reply));
         self.note_sent(state, slot, datagram, sent, now)
     }
 
@@ -239,15 +266,22 @@ struct Outgoing<'a> {
     bytes: &'a [u8],
 }
 
-// A reply as a datagram, without its length, to the sender of its request.
-fn addressed(sender: Sender, reply: &[u8]) -> Outgoing<'_>
-    ensures to { IsAddressOf sender result.to }
-    ensures bytes { result.bytes.now ≡ in_datagram reply.now }
+// A reply as a datagram, without its length, to the sender of its request; none if it is longer than that, so that
+// nobody gets more from this service than somebody has sent in his name.
+fn addressed<'a>(sender: Sender, request: &[u8], reply: &'a [u8]) -> Option<Outgoing<'a>>
+    ensures to { IfSome result (λ outgoing. IsAddressOf sender outgoing.to) }
+    ensures bytes { IfSome result (λ outgoing. outgoing.bytes.now ≡ in_datagram reply.now) }
+    ensures no_longer { IfSome result (λ outgoing. length outgoing.bytes.now ≤ length request.now) }
+    ensures none { result ≡ None → length request.now < length (in_datagram reply.now) }
 {
-    Outgoing {
-        to: address_of(sender),
-        bytes: reply_of_datagram(reply),
+    let bytes = reply_of_datagram(reply);
+    if bytes.len() > request.len() {
+        return None;
     }
+    Some(Outgoing {
+        to: address_of(sender),
+        bytes,
+    })
 }
 
 // The socket, watched, and its port.

@@ -5,7 +5,11 @@ use Rattle.krb_msgs.specs.declared.private_message.Strictness.{Strictness}
 use Rattle.krb_msgs.specs.declared.private_message.Strictness.TheVariants.{Lenient, Strict}
 use Rattle.chpw_messages.specs.Service.{configured, held}
 use Rattle.chpw_rules.specs.declared.config.Config.{Config}
+use Rattle.chpw_invocation.specs.declared.invocation.ConnectionLimit.{ConnectionLimit}
+use Rattle.chpw_invocation.specs.declared.invocation.ConnectionLimit.TheVariants as asked
 use Rattle.chpw_invocation.specs.declared.invocation.ServeOptions.{ServeOptions}
+use Rattle.chpw_pool.specs.declared.options.AcceptLimit.{AcceptLimit}
+use Rattle.chpw_pool.specs.declared.options.AcceptLimit.TheVariants as limit
 use Rattle.chpw_pool.specs.declared.options.PoolOptions.{PoolOptions}
 use Rattle.chpw_book.specs.Passes.{PassView}
 use Rattle.chpw_messages.specs.declared.versions.Acceptance.{Acceptance}
@@ -13,10 +17,15 @@ use Rattle.chpw_messages.specs.declared.versions.Versions.{Versions}
 use Rattle.chpw_messages.specs.declared.versions.Versions.TheVariants.{Both, Rfc3244Only}
 use Rattle.chpw_service.specs.declared.rules.Rules.{Rules}
 
+-- after as many connections the pool ends, if there is a limit
+abbrev pub limit_asked : ConnectionLimit → AcceptLimit
+limit_asked asked.Unlimited = limit.Unlimited
+limit_asked (asked.Of count) = limit.Of count
+
 -- words of this seed, as many connections as its options say, and the bounds that they set
 pub record IsAskedFor (options : ServeOptions) (seed : List ℕ) (terms : PoolOptions) : Type 0 where
   pub seed_is : terms.seed ≡ seed
-  pub connections : terms.connections ≡ options.connections
+  pub connections : terms.connections ≡ limit_asked options.connections
   pub clients : terms.clients ≡ options.clients
   pub buffers : terms.buffers ≡ options.buffers
   pub idle : terms.idle ≡ options.idle

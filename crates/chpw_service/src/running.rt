@@ -1,5 +1,5 @@
 //! The service's threads: the reactor, and the one that serves at the desks.
-ghost use Rattle.std.specs.Prelude.{◌≡◌, IfErr, IfOk, IfSome, IsSome, IsSomeAnd, None, Ok, OnOk, OnErr, length};
+ghost use Rattle.std.specs.Prelude.{◌≡◌, ◌⊎◌, IfErr, IfOk, IfSome, IsSome, true, IsSomeAnd, None, Ok, OnOk, OnErr, length};
 ghost use Rattle.chpw_changelog.specs.Pens.{opening_state};
 ghost use Rattle.chpw_reload.specs.ReloadRuns.{IsServiceRun};
 ghost use Rattle.chpw_service.specs.Faults.{IsLate, told_as};
@@ -9,7 +9,7 @@ use crate::followed::{ControlTerms, SocketFollower};
 use crate::histories::{Opened, ServiceContext, serve_histories};
 use crate::rules::Rules;
 use chpw_book::DeskName;
-use chpw_pool::{Follower, Pool, PoolFault, StatusReporter};
+use chpw_pool::{AcceptLimit, Follower, Pool, PoolFault, StatusReporter};
 use chpw_table::Table;
 use std::fs::{File, Files};
 use std::net::{Net, TcpListener, TcpStream};
@@ -41,7 +41,7 @@ pub(crate) fn serve_from<
     control: ControlTerms,
     rules: Rules,
     first: Opened<D>,
-    connections: u32,
+    connections: AcceptLimit,
 ) -> Result<(), ServeFault<'a>>
     requires passes { length first.passes.items ≡ hall.now.workers }
     ensures fault { IfErr result IsLate }
@@ -92,7 +92,7 @@ fn serve_all<
     followed: F,
     rules: Rules,
     first: &mut Option<Opened<D>>,
-    connections: u32,
+    connections: AcceptLimit,
 ) -> Result<(), ServeFault<'a>>
     requires passes { IfSome first.old (λ opened. length opened.passes.items ≡ hall.now.workers) }
     ensures fault { IfErr result IsLate }
@@ -114,8 +114,10 @@ fn serve_all<
         },
     );
     match ended {
-        Ok(_) if hall.engine.was_stopped(rt) => Ok(()),
-        Ok(_) => end(hall.engine.outcome(rt, connections)),
+        Ok(_) => {
+            let was_stopped = hall.engine.was_stopped(rt);
+            end(was_stopped, hall.engine.outcome(rt, connections))
+        }
         Err(late) => Err(late.fault()),
     }
 }
@@ -151,17 +153,18 @@ fn serve_or_desert<
     }
 }
 
-// The fault with which a pool ended early.
-fn end<'a>(pool: Pool) -> Result<(), ServeFault<'a>>
-    ensures whole { OnOk result (pool.fault ≡ None) }
+// The fault with which a pool ended early, unless it was told to stop.
+fn end<'a>(was_stopped: bool, pool: Pool) -> Result<(), ServeFault<'a>>
+    ensures whole { OnOk result ((was_stopped ≡ true) ⊎ (pool.fault ≡ None)) }
+    ensures stopped { was_stopped ≡ true → OnErr result ⊥ }
     ensures none { pool.fault ≡ None → OnErr result ⊥ }
     ensures fault { IfErr result (λ fault.
         IfSome pool.fault (λ why. fault ≡ told_as why)) }
     ensures late { IfErr result IsLate }
 {
     match pool.fault {
-        None => Ok(()),
-        Some(fault) => Err(serve_fault_of(fault)),
+        Some(fault) if !was_stopped => Err(serve_fault_of(fault)),
+        _ => Ok(()),
     }
 }
 

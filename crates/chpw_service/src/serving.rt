@@ -1,11 +1,11 @@
 //! The service on a port.
-ghost use Rattle.std.specs.Prelude.{◌≡◌, ◌≤◌, IfOk, IfErr, IsSome, None, Ok, OnOk, Option, false, true, length};
+ghost use Rattle.std.specs.Prelude.{◌≡◌, ◌≤◌, IfOk, IfErr, IfSome, IsSome, None, Ok, OnOk, Option, false, true, length};
 ghost use Rattle.chpw_book.specs.Starting.{IsNamed, workers_of};
 ghost use Rattle.chpw_pool.specs.Engines.{seed_of, workers_at};
 ghost use Rattle.chpw_service.specs.Faults.{IsLate, IsOfService};
 ghost use Rattle.chpw_changelog.specs.Pens.{opening_state};
 ghost use Rattle.chpw_service.specs.Raised.{IsRaisedWhereAsked};
-ghost use Rattle.chpw_service.specs.Serving.{IsAskedFor};
+ghost use Rattle.chpw_service.specs.Serving.{IsAskedFor, limit_asked};
 ghost use Rattle.chpw_service.specs.declared.raising.RaiseReport.{RaiseReport};
 ghost use Rattle.chpw_service.specs.declared.fault.ServeFault.TheVariants.{CannotListen};
 
@@ -25,9 +25,9 @@ use crate::service_manager::{notify_ready, notify_stopping};
 use crate::shared_files::refuse_shared;
 use crate::starting::open_table;
 use chpw_book::{Desk, DeskName, Pass};
-use chpw_invocation::ServeOptions;
+use chpw_invocation::{ConnectionLimit, ServeOptions};
 use chpw_journal::{FileSink, Journal};
-use chpw_pool::{Engine, MachineClock, PoolOptions};
+use chpw_pool::{AcceptLimit, DatagramSocket, Engine, MachineClock, PoolOptions};
 use chpw_serve::Clock as _;
 use std::alloc::Global;
 use std::fs::{File, Files};
@@ -38,7 +38,7 @@ use std::sync::Wait;
 use std::thread::Threads;
 use std::time::Clock;
 
-/// Serves this many connections on 127.0.0.1, the messages of connection i (from 0) by worker i modulo their number,
+/// Serves so many connections on 127.0.0.1, the messages of connection i (from 0) by worker i modulo their number,
 /// one after the other. The configuration is read first, then the seed; with strict modes the start is refused then if
 /// others may read or write its files; then the log is opened if there is one, and the journal is read; then the
 /// iteration count of new keys is raised if that is asked for, and the service listens at the port. A torn tail that
@@ -175,7 +175,8 @@ fn serve_opened<
         return Err(ServeFault::Memory);
     };
     let connections = start.terms.connections;
-    match raise_and_listen(rt, time, start, &desk, &mut passes, clock) {
+    let realm = rules.service.realm.as_slice();
+    match raise_and_listen(rt, time, start, realm, &desk, &mut passes, clock) {
         Ok((listener, hall)) => {
             let first = Opened { desk, passes };
             serve_from(
@@ -208,6 +209,7 @@ fn raise_and_listen<
     rt: &R,
     time: &T,
     start: Start<'l, R>,
+    realm: &[u8],
     desk: &Desk<D, FileSink<File>>,
     passes: &mut [Pass<D>],
     clock: &mut C,
@@ -224,15 +226,19 @@ fn raise_and_listen<
     if let Some(told) = raise_where_asked(rt, desk, passes, clock, start.options.raise)? {
         start.log.tell_raise(MachineClock::new(time).now(), told);
     }
-    listening(rt, start)
+    listening(rt, start, realm)
 }
 
-// Listens at the port, and prints that.
+// Listens at the port, and prints that. Over UDP tickets of this realm are answered.
 fn listening<
     'a,
     'l,
     R: Net<Listener = TcpListener, Stream = TcpStream> + Wait + Env + Print + Eprint + AllocGlobal,
->(rt: &R, start: Start<'l, R>) -> Result<(TcpListener, ServiceContext<'l, R>), ServeFault<'a>>
+>(
+    rt: &R,
+    start: Start<'l, R>,
+    realm: &[u8],
+) -> Result<(TcpListener, ServiceContext<'l, R>), ServeFault<'a>>
     ensures workers { IfOk result (λ r. r.1.workers ≡ start.entry.options.now.workers) }
     ensures follower { IfOk result (λ r. (r.1.follower.socket ≡ start.entry.options.now.follower)
         × (r.1.follower.wait ≡ start.entry.options.now.follower_wait)) }
@@ -246,7 +252,7 @@ fn listening<
         journal,
     } = start;
     let listener = listen(rt, options.port)?;
-    let datagrams = datagrams_of(rt, options)?;
+    let datagrams = datagrams_of(rt, options, realm)?;
     let engine = engine_of(rt, rt.alloc(), options.workers, &terms, log, datagrams)?;
     let hall = ServiceContext {
         engine,
@@ -280,20 +286,25 @@ fn listen<'a, R: Net<Listener = TcpListener, Stream = TcpStream>>(
     }
 }
 
-// The port over UDP, if that is asked for.
-fn datagrams_of<'a, R: Net>(
+// The port over UDP, if that is asked for, where tickets of this realm are answered.
+fn datagrams_of<'a, R: Net + AllocGlobal>(
     rt: &R,
     options: &ServeOptions<'_>,
-) -> Result<Option<UdpSocket>, ServeFault<'a>>
+    realm: &[u8],
+) -> Result<Option<DatagramSocket>, ServeFault<'a>>
     ensures none { options.now.udp ≡ false → result ≡ Ok None }
     ensures asked { options.now.udp ≡ true → IfOk result (λ socket. IsSome socket) }
-    ensures fault { IfErr result (λ fault. fault ≡ CannotListen) }
+    ensures realm { IfOk result (λ socket. IfSome socket (λ s. s.realm.items ≡ realm.now)) }
+    ensures fault { IfErr result IsLate }
 {
     if !options.udp {
         return Ok(None);
     }
+    let Ok(realm) = Vec::from_slice(rt.alloc(), realm) else {
+        return Err(ServeFault::Memory);
+    };
     match UdpSocket::bind(rt, (Ipv4Addr::LOCALHOST, options.port)) {
-        Ok(socket) => Ok(Some(socket)),
+        Ok(socket) => Ok(Some(DatagramSocket { socket, realm })),
         Err(_) => Err(ServeFault::CannotListen),
     }
 }
@@ -304,10 +315,20 @@ fn terms_of(options: &ServeOptions<'_>, seed: [u8; 32]) -> PoolOptions
 {
     PoolOptions {
         seed,
-        connections: options.connections,
+        connections: limit_of(options.connections),
         clients: options.clients,
         buffers: options.buffers,
         idle: options.idle,
+    }
+}
+
+// After how many connections the pool ends.
+fn limit_of(asked: ConnectionLimit) -> AcceptLimit
+    ensures value { result ≡ limit_asked asked }
+{
+    match asked {
+        ConnectionLimit::Unlimited => AcceptLimit::Unlimited,
+        ConnectionLimit::Of(count) => AcceptLimit::Of(u64::from(count)),
     }
 }
 
@@ -318,7 +339,7 @@ fn engine_of<'a, 'l, R: Net + Wait + Eprint>(
     workers: u8,
     terms: &PoolOptions,
     log: &'l Log<'l, R>,
-    datagrams: Option<UdpSocket>,
+    datagrams: Option<DatagramSocket>,
 ) -> Result<Engine<Logging<LogLines<'l, R>>>, ServeFault<'a>>
     requires some_workers { 1 ≤ workers }
     ensures workers { IfOk result (λ engine. workers_at engine ≡ workers) }

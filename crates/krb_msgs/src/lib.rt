@@ -21,6 +21,7 @@ pub use ap_exchange::{ApOpened, open_ap};
 pub use contents::{copy_bytes, priv_part, service_name, word_bytes};
 pub use fault::{ApFault, OpenError, PrivFault, ReplyFault};
 pub use making::{make_ap_rep, make_ap_req, make_error, make_priv, make_ticket};
+pub use presenting::is_for_us;
 pub use private_message::{Private, Strictness, open_priv};
 pub use reply::{Reply, read_reply};
 pub use service_keys::ServiceKey;

@@ -30,7 +30,8 @@ fn is_change_service(name: &[GeneralString]) -> bool
     }
 }
 
-fn is_for_us(realm: &[u8], ticket: &Ticket) -> bool
+/// Whether a ticket is for kadmin/changepw of this realm (RFC 3244 section 2).
+pub fn is_for_us(realm: &[u8], ticket: &Ticket) -> bool
     ensures { IsTrue result ↔ IsForUs realm.now ticket.now }
 {
     ticket.realm.as_slice() == realm && is_change_service(ticket.sname.name_string.as_slice())

@@ -1,7 +1,7 @@
 //! The command `client`, with each of its options, against a service.
 use chpw_invocation::{
-    ClientOptions, PasswordSource, ServeOptions, USUAL_BUFFERS, USUAL_CLIENTS, USUAL_FOLLOWER_WAIT,
-    USUAL_IDLE,
+    ClientOptions, ConnectionLimit, PasswordSource, ServeOptions, USUAL_BUFFERS, USUAL_CLIENTS,
+    USUAL_FOLLOWER_WAIT, USUAL_IDLE,
 };
 use chpw_program::{Ending, ask};
 use chpw_service::{ServeFault, serve};
@@ -221,7 +221,7 @@ fn serving<'a>(port: u16, connections: u32, log: &'a str) -> ServeOptions<'a> {
         seed: SEED_FILE,
         port,
         workers: 2,
-        connections,
+        connections: ConnectionLimit::Of(connections),
         idle: USUAL_IDLE,
         clients: USUAL_CLIENTS,
         buffers: USUAL_BUFFERS,

@@ -1,5 +1,5 @@
 //! The command lines and what they ask for, and words that are no UTF-8.
-use chpw_invocation::{Invocation, PasswordSource, command_of};
+use chpw_invocation::{ConnectionLimit, Invocation, PasswordSource, command_of};
 use chpw_program::{Ending, explain_misuse, words as words_of};
 use std::alloc::{AllocError, Global};
 use std::env::FillError;
@@ -8,7 +8,7 @@ use std::rt::Env;
 
 /// Command lines without the program's name, and what they ask for; of one that asks for no command, a word
 /// of clap's text.
-const LINES: [(&str, &str); 63] = [
+const LINES: [(&str, &str); 66] = [
     ("drill", "drill"),
     ("drill --config c", "unexpected"),
     ("check --config c", "check c"),
@@ -56,8 +56,20 @@ const LINES: [(&str, &str); 63] = [
         "--port",
     ),
     (
+        "serve --config c --journal j --seed s --port 1 --workers 1 --connections unlimited",
+        "serve c j s port 1 workers 1 connections unlimited idle 30 clients 1024 buffers 32 raise - log -",
+    ),
+    (
         "serve --config c --journal j --seed s --port 1 --workers 1 --connections 0",
-        "--connections",
+        "'--connections <N>' is a number from 1 to 4294967295, or unlimited",
+    ),
+    (
+        "serve --config c --journal j --seed s --port 1 --workers 1 --connections 4294967296",
+        "'--connections <N>' is a number",
+    ),
+    (
+        "serve --config c --journal j --seed s --port 1 --workers 1 --connections Unlimited",
+        "'--connections <N>' is a number",
     ),
     (
         "serve --config c --journal j --port 1 --workers 1 --connections 1",
@@ -263,7 +275,11 @@ fn show(text: &mut String, asked: Invocation<'_>) -> Result<(), AllocError> {
         Invocation::Serve(it) => {
             write!(text, "serve {} {} {} ", it.config, it.journal, it.seed)?;
             write!(text, "port {} workers {} ", it.port, it.workers)?;
-            write!(text, "connections {} idle {} ", it.connections, it.idle)?;
+            match it.connections {
+                ConnectionLimit::Unlimited => text.push_str("connections unlimited ")?,
+                ConnectionLimit::Of(count) => write!(text, "connections {count} ")?,
+            }
+            write!(text, "idle {} ", it.idle)?;
             write!(text, "clients {} buffers {} raise ", it.clients, it.buffers)?;
             match it.raise {
                 Some(count) => write!(text, "{count}")?,

@@ -1,5 +1,10 @@
 use Rattle.std.proofs.Common.{◌≡◌, length}
+use Rattle.chpw_pool.specs.Shares.{datagrams_in, streams_in}
 use Rattle.chpw_pool.proofs.sockets.no_sockets.Given as goal
 
 abbrev pub invariant-loop : goal.invariant-loop
-invariant-loop l = length l.sockets.items ≡ l.counter
+invariant-loop l = record {
+  count : length l.sockets.items ≡ l.counter;
+  datagrams : datagrams_in l.sockets.items ≡ 0;
+  streams : streams_in l.sockets.items ≡ 0;
+}
