@@ -1,5 +1,5 @@
 -- What a service asks of its pool, and by which rules it answers requests.
-use Rattle.std.specs.Prelude.{◌≡◌, ℕ, List, [], ◌∷◌, Bool, true, false, nat_le, length, map}
+use Rattle.std.specs.Prelude.{◌≡◌, ℕ, List, [], ◌∷◌, Bool, true, false, nat_le, length, map, Ok}
 use Rattle.krb_msgs.specs.OneAnswer.{AreProtocolKeys}
 use Rattle.chpw_messages.specs.Service.{configured, held}
 use Rattle.chpw_rules.specs.declared.config.Config.{Config}
@@ -8,6 +8,7 @@ use Rattle.chpw_pool.specs.declared.options.PoolOptions.{PoolOptions}
 use Rattle.chpw_book.specs.Passes.{PassView}
 use Rattle.chpw_messages.specs.declared.versions.Versions.{Versions}
 use Rattle.chpw_messages.specs.declared.versions.Versions.TheVariants.{Both, Rfc3244Only}
+use Rattle.chpw_service.specs.Faults.{Sets}
 use Rattle.chpw_service.specs.declared.rules.Rules.{Rules}
 
 -- words of this seed, as many connections as its options say, and the bounds that they set
@@ -23,13 +24,14 @@ abbrev pub versions_asked : Bool → Versions
 versions_asked true = Rfc3244Only
 versions_asked false = Both
 
--- the rules of a configuration, with the versions that these options ask for
+-- the rules of a configuration, with its text, and with the versions that these options ask for
 pub record AreRulesOf (config : Config) (options : ServeOptions) (rules : Rules) : Type 0 where
   pub realm : rules.service.realm ≡ config.realm
   pub keys : map held rules.service.keys ≡ map configured config.service
   pub protocol : AreProtocolKeys rules.service.keys
   pub versions : rules.service.versions ≡ versions_asked options.rfc3244_only
   pub max_entries : rules.max_entries ≡ config.max_entries
+  pub text : Sets rules.text.items (Ok config)
 
 -- the first pass has as many receipts as a history may have entries, before any message is answered, because of a raise
 abbrev pub is_full_with : List PassView → ℕ → Bool

@@ -1,8 +1,9 @@
 //! What messages are answered by.
-ghost use Rattle.std.specs.Prelude.{◌≡◌, IfOk, map, true};
+ghost use Rattle.std.specs.Prelude.{◌≡◌, IfOk, map, Ok, true};
 ghost use Rattle.krb_msgs.specs.OneAnswer.{AreProtocolKeys};
 ghost use Rattle.chpw_rules.specs.Fitting.{config_fits};
 ghost use Rattle.chpw_messages.specs.Service.{configured, held};
+ghost use Rattle.chpw_service.specs.Faults.{Sets};
 ghost use Rattle.chpw_service.specs.Serving.{versions_asked};
 
 use chpw_invocation::ServeOptions;
@@ -16,15 +17,21 @@ pub struct Rules {
     pub service: Service,
     /// The most entries of a history.
     pub max_entries: u32,
+    /// The text of the configuration that set these, and that set the principals.
+    pub text: Vec<u8>,
 }
 
-/// The rules of a configuration, and the versions of requests that are asked for.
+/// The rules of a configuration with this text, and the versions of requests that are asked for.
 pub(crate) fn rules_of(
     alloc: Global,
     config: &Config,
+    text: Vec<u8>,
     options: &ServeOptions<'_>,
 ) -> Result<Rules, AllocError>
     requires fits { config_fits config.now ≡ true }
+    requires sets { Sets text.items (Ok config.now) }
+    ensures text { IfOk result (λ r. r.text ≡ text) }
+    ensures sets { IfOk result (λ r. Sets r.text.items (Ok config.now)) }
     ensures realm { IfOk result (λ r. r.service.realm ≡ config.now.realm) }
     ensures keys { IfOk result (λ r. map held r.service.keys ≡ map configured config.now.service) }
     ensures protocol { IfOk result (λ r. AreProtocolKeys r.service.keys) }
@@ -39,5 +46,6 @@ pub(crate) fn rules_of(
             service
         },
         max_entries: config.max_entries,
+        text,
     })
 }
