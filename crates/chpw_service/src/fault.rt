@@ -82,8 +82,8 @@ impl fmt::Display for ServeFault<'_> {
         match self {
             ServeFault::CannotRead(file) => write!(f, "cannot read {file}"),
             ServeFault::Config(fault) => write!(f, "config: {fault}"),
-            ServeFault::Exposed(Exposed { file, why }) => {
-                write!(f, "{file}: not started, since {why}")
+            ServeFault::Exposed(exposed) => {
+                write!(f, "{}: not started, since {}", exposed.file, exposed.why)
             }
             ServeFault::CannotWrite(file) => write!(f, "cannot write {file}"),
             ServeFault::Journal(fault) => write!(f, "journal: {fault}"),
