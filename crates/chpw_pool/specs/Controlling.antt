@@ -32,6 +32,20 @@ pub record IsHeard (old new : Slab Seat) (slot : ℕ) (before after : Option (Li
   pub read : IsRead transfer before after buffer
   pub comes : ComesOfRead transfer buffer old new slot
 
+-- What comes of a write of no bytes: a caller that has hung up can't go on; nothing happens to any other one.
+abbrev pub ComesOfProbe : Transfer → Slab Seat → Slab Seat → ℕ → Type 0
+ComesOfProbe Fault old new slot = Happens old new slot failed
+ComesOfProbe (Bytes count) old new slot = new ≡ old
+ComesOfProbe End old new slot = new ≡ old
+ComesOfProbe Later old new slot = new ≡ old
+ComesOfProbe Again old new slot = new ≡ old
+
+-- one that was made, and what came of it
+pub record IsProbed (old new : Slab Seat) (slot : ℕ) (before after : Option (List ℕ)) : Type 0 where
+  pub transfer : Transfer
+  pub written : IsWritten transfer before after []
+  pub comes : ComesOfProbe transfer old new slot
+
 -- What comes of a write of a caller's answer: this many of its bytes were written; the caller can't go on; or nothing
 -- happened.
 abbrev pub ComesOfWrite : Transfer → Slab Seat → Slab Seat → ℕ → Type 0
@@ -59,9 +73,19 @@ Hears old new slot = (before : Option (List ℕ)) × ((after : Option (List ℕ)
 abbrev pub Tells : Slab Seat → Slab Seat → ℕ → Type 0
 Tells old new slot = (before : Option (List ℕ)) × ((after : Option (List ℕ)) × IsTold old new slot before after)
 
--- what has come is read, and then what is left of the answer is written
+abbrev pub Probes : Slab Seat → Slab Seat → ℕ → Type 0
+Probes old new slot = (before : Option (List ℕ)) × ((after : Option (List ℕ)) × IsProbed old new slot before after)
+
+-- what has come is read; whoever has hung up is finished; and then what is left of the answer is written
 abbrev pub Serves : Slab Seat → Slab Seat → ℕ → Type 0
-Serves old new slot = (mid : Slab Seat) × (Hears old mid slot × Tells mid new slot)
+Serves old new slot = (heard : Slab Seat) × (Hears old heard slot
+    × ((probed : Slab Seat) × (Probes heard probed slot × Tells probed new slot)))
+
+-- the caller of a slot with a socket is looked at
+abbrev pub LooksAt : Option (Option UnixStream) → Slab Seat → Slab Seat → ℕ → Type 0
+LooksAt (Some (Some stream)) old new slot = Probes old new slot
+LooksAt (Some None) old new slot = new ≡ old
+LooksAt None old new slot = new ≡ old
 
 -- for a slot with a socket
 abbrev pub ServesAt : Option (Option UnixStream) → Slab Seat → Slab Seat → ℕ → Type 0

@@ -1,17 +1,17 @@
 //! The callers at the control socket, shared by the reactor and the thread that carries out orders.
-ghost use Rattle.std.specs.Prelude.{◌≡◌, ◌≢◌, ◌⊎◌, ◌&&◌, not, ℕ, [], IfOk, length, slice_get, true, false, None};
+ghost use Rattle.std.specs.Prelude.{◌≡◌, ◌≢◌, ◌⊎◌, ◌&&◌, not, ℕ, [], IfOk, IfSome, OnSome, length, slice_get, true, false, None};
 ghost use Rattle.slab.specs.Slab.{Slab, get, slab_len, SameValues, Updates};
 ghost use Rattle.chpw_control.specs.Callers.{asking, told, wrote};
 ghost use Rattle.chpw_control.specs.Dialogs.{at_start};
 ghost use Rattle.chpw_control.specs.declared.callers.Seat.{Seat};
-ghost use Rattle.chpw_control.specs.Seats.{Happens, IsNew, seats_of, ordering_of, accepted_of, is_over_at, left_at};
-ghost use Rattle.chpw_pool.specs.Controlling.{Admits, ComesOfRead, ComesOfWrite, HasNoOrder, HasOrder};
-ghost use Rattle.chpw_pool.specs.Controlling.{IsDue, IsHeard, IsIdle, IsOpen, IsTold, ServesAt, TellsDone, TellsLast};
+ghost use Rattle.chpw_control.specs.Seats.{Happens, IsNew, seats_of, ordering_of, accepted_of, is_order, is_over_at, left_at};
+ghost use Rattle.chpw_pool.specs.Controlling.{Admits, ComesOfProbe, ComesOfRead, ComesOfWrite, HasNoOrder, HasOrder};
+ghost use Rattle.chpw_pool.specs.Controlling.{IsDue, IsHeard, IsIdle, IsOpen, IsProbed, IsTold, LooksAt, ServesAt, TellsDone, TellsLast};
 ghost use Rattle.chpw_pool.specs.Transfers.{IsWithin};
 
 use crate::tokens::token_after;
 use crate::transfer::Transfer;
-use chpw_control::{Callers, put_ok};
+use chpw_control::{Callers, Command, put_ok};
 use mio::net::UnixStream;
 use mio::{Interest, Registry};
 use std::alloc::{AllocError, Global};
@@ -113,7 +113,7 @@ impl Control {
     }
 
     /// Reads what came of a caller's line, and writes what is left of its answer, as far as the socket allows without
-    /// blocking.
+    /// blocking. A caller that has hung up is finished, and its command is not carried out, unless that has begun.
     pub fn serve(&mut self, alloc: Global, slot: usize, buffer: &mut [u8])
         ensures served { ServesAt (slice_get self.old.streams.items slot) (seats_of self.old.callers) (seats_of self.new.callers) slot }
         ensures ordering { ordering_of self.new.callers ≡ ordering_of self.old.callers }
@@ -125,7 +125,35 @@ impl Control {
         }
         if let Some(stream) = &mut self.streams[slot] {
             hear(&mut self.callers, alloc, slot, stream, buffer);
+            probe(&mut self.callers, slot, stream);
             tell(&mut self.callers, slot, stream);
+        }
+    }
+
+    /// The next order, unless one is being carried out: that of the caller who was accepted first, of those who haven't
+    /// hung up. It is being carried out from now on.
+    pub fn next_order(&mut self) -> Option<Command>
+        ensures order { IfSome result (λ command. is_order command ≡ true) }
+        ensures idle { OnSome result (ordering_of self.old.callers ≡ None) }
+        ensures same { (self.new.is_stopping ≡ self.old.is_stopping) × (self.new.is_paused ≡ self.old.is_paused) × (self.new.is_over ≡ self.old.is_over) }
+    {
+        for slot in 0..self.streams.len() {
+            self.look_at(slot);
+        }
+        self.callers.next_order()
+    }
+
+    // A caller that has hung up can't go on.
+    fn look_at(&mut self, slot: usize)
+        ensures looked { LooksAt (slice_get self.old.streams.items slot) (seats_of self.old.callers) (seats_of self.new.callers) slot }
+        ensures ordering { ordering_of self.new.callers ≡ ordering_of self.old.callers }
+        ensures same { (self.new.is_stopping ≡ self.old.is_stopping) × (self.new.is_paused ≡ self.old.is_paused) × (self.new.is_over ≡ self.old.is_over) }
+    {
+        if slot >= self.streams.len() {
+            return;
+        }
+        if let Some(stream) = &mut self.streams[slot] {
+            probe(&mut self.callers, slot, stream);
         }
     }
 
@@ -213,6 +241,28 @@ fn note_read(callers: &mut Callers, alloc: Global, slot: usize, read: Transfer, 
         Transfer::End => callers.close(slot),
         Transfer::Later | Transfer::Again => {}
         Transfer::Fault => callers.fail(slot),
+    }
+}
+
+// Whether a caller has hung up shows at a write of no bytes, which fails then. Whoever has closed only its own side for
+// writing still reads.
+#[tactic(auto, using(crate::proofs::TransferLemmas::is_written))]
+fn probe<W: Write>(callers: &mut Callers, slot: usize, writer: &mut W)
+    ensures probed { IsProbed (seats_of callers.old) (seats_of callers.new) slot (W.contents writer.old) (W.contents writer.new) }
+    ensures ordering { ordering_of callers.new ≡ ordering_of callers.old }
+{
+    let probed = Transfer::of(writer.write(&[]));
+    note_probed(callers, slot, probed);
+}
+
+// A write of no bytes to a caller did this.
+fn note_probed(callers: &mut Callers, slot: usize, probed: Transfer)
+    ensures comes { ComesOfProbe probed (seats_of callers.old) (seats_of callers.new) slot }
+    ensures ordering { ordering_of callers.new ≡ ordering_of callers.old }
+{
+    match probed {
+        Transfer::Fault => callers.fail(slot),
+        Transfer::Bytes(_) | Transfer::End | Transfer::Later | Transfer::Again => {}
     }
 }
 

@@ -216,7 +216,7 @@ impl<G> Engine<G> {
             if control.is_paused {
                 return None;
             }
-            if let Some(command) = control.callers.next_order() {
+            if let Some(command) = control.next_order() {
                 return Some(command);
             }
             if control.is_over {

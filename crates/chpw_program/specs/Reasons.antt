@@ -5,7 +5,7 @@ use Rattle.std.specs.Fmt.{decimal}
 use Rattle.std.specs.Str.{bytes_eq}
 use Rattle.chpw_import.specs.declared.fault.KeysFault.TheVariants as keys
 use Rattle.chpw_invocation.specs.declared.invocation.Invocation.{Invocation}
-use Rattle.chpw_invocation.specs.declared.invocation.Invocation.TheVariants.{Serve, Table, Client}
+use Rattle.chpw_invocation.specs.declared.invocation.Invocation.TheVariants.{Check, Serve, Table, Client}
 use Rattle.chpw_service.specs.declared.fault.ServeFault.TheVariants as service
 use Rattle.chpw_program.specs.declared.ending.Ending.{Ending}
 use Rattle.chpw_program.specs.declared.ending.Ending.TheVariants as ending
@@ -13,7 +13,7 @@ use Rattle.chpw_program.specs.declared.reasons.Cause.{Cause}
 use Rattle.chpw_program.specs.declared.reasons.Cause.TheVariants.{Unread, Unwritten, BadConfig, Unlistened}
 use Rattle.chpw_program.specs.declared.reasons.Named.{Named}
 use Rattle.chpw_program.specs.declared.reasons.Reason.{Reason}
-use Rattle.chpw_program.specs.declared.reasons.Reason.TheVariants.{Missing, NoFolder, Forbidden, Folder, Special, Short, Held, InWords, InUse, Privileged}
+use Rattle.chpw_program.specs.declared.reasons.Reason.TheVariants.{Missing, NoFolder, Forbidden, Folder, Special, Short, Long, Held, InWords, InUse, Privileged}
 
 abbrev pub line_of : Reason → List ℕ
 line_of (Missing file) = file.now ++ codes ": no such file"
@@ -22,6 +22,7 @@ line_of (Forbidden file) = file.now ++ codes ": permission denied"
 line_of (Folder file) = file.now ++ codes ": is a directory"
 line_of (Special file) = file.now ++ codes ": not a regular file"
 line_of (Short file) = file.now ++ codes ": fewer than 32 bytes"
+line_of (Long file) = file.now ++ codes ": longer than 64 MiB"
 line_of (Held file) = file.now ++ codes ": in use by another process"
 line_of (InWords file words) = file.now ++ (codes ": " ++ string_bytes words)
 line_of (InUse port) = codes "port " ++ (decimal port ++ codes ": in use")
@@ -44,6 +45,7 @@ abbrev pub named_by : Invocation → Named
 named_by (Serve o) = record { config = Some o.config; seed = Some o.seed; journal = Some o.journal; port = o.port }
 named_by (Table o) = record { config = Some o.config; seed = None; journal = Some o.journal; port = 0 }
 named_by (Client o) = record { config = Some o.config; seed = Some o.seed; journal = None; port = 0 }
+named_by (Check config) = record { config = Some config; seed = None; journal = None; port = 0 }
 named_by _ = record { config = None; seed = None; journal = None; port = 0 }
 
 -- standard input has no reason

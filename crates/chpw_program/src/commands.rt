@@ -11,18 +11,17 @@ use crate::new_password::unread_ending;
 use chpw_commands::{DrillFault, explain_check, run_check, run_drill};
 use chpw_import::{KeysFault, tell_keytab, tell_password};
 use chpw_invocation::{Invocation, command_of};
-use chpw_service::{ServeFault, serve, tell_table};
+use chpw_service::{ServeFault, read_configuration, serve, tell_table};
 use clap::Error;
 use clap::error::ErrorKind;
 use std::alloc::Global;
 use std::fs::{File, Files};
-use std::io::Write;
+use std::io::{self, Write};
 use std::net::{Net, TcpListener, TcpStream};
 use std::rt::Env;
 use std::sync::Wait;
 use std::thread::Threads;
 use std::time::Clock;
-use std::{fs, io};
 
 /// Runs the command of these words; if they ask for none, clap's text is an error.
 pub fn run<'a, R, W: Write>(rt: &R, errors: &mut W, words: &'a [String]) -> Ending<'a>
@@ -101,10 +100,10 @@ fn ending_of_drill<'a>(ended: Result<(), DrillFault>) -> Ending<'a>
 
 // The configuration in a file.
 #[tactic(auto, using(crate::proofs::CheckLemmas::has_checked, crate::proofs::CheckLemmas::has_unread))]
-fn check<'a>(rt: &(impl Files + Print + AllocGlobal), file: &'a str) -> Ending<'a>
+fn check<'a>(rt: &(impl Files<File = File> + Print + AllocGlobal), file: &'a str) -> Ending<'a>
     ensures checked { HasChecked file.now result }
 {
-    match fs::read(rt, file) {
+    match read_configuration(rt, file) {
         Ok(text) => print_check(rt.alloc(), file, text.as_slice(), &mut io::writer(rt)),
         Err(error) => unread_ending(file, &error),
     }

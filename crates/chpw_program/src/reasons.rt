@@ -7,7 +7,7 @@ use crate::new_password::STANDARD_INPUT;
 use chpw_commands::explain_check;
 use chpw_import::KeysFault;
 use chpw_invocation::{Invocation, command_of};
-use chpw_service::ServeFault;
+use chpw_service::{LONGEST_CONFIGURATION, ServeFault, read_configuration};
 use std::alloc::Global;
 use std::fmt;
 use std::fs::{self, File, Files};
@@ -35,6 +35,8 @@ pub enum Reason<'a> {
     Special(&'a str),
     /// It has too few bytes for a seed.
     Short(&'a str),
+    /// It has too many bytes for a configuration.
+    Long(&'a str),
     /// Another process has locked it.
     Held(&'a str),
     /// The configuration has this fault, in words.
@@ -59,6 +61,7 @@ impl fmt::Display for Reason<'_> {
             Reason::Folder(file) => write!(f, "{file}: is a directory"),
             Reason::Special(file) => write!(f, "{file}: not a regular file"),
             Reason::Short(file) => write!(f, "{file}: fewer than 32 bytes"),
+            Reason::Long(file) => write!(f, "{file}: longer than 64 MiB"),
             Reason::Held(file) => write!(f, "{file}: in use by another process"),
             Reason::InWords(file, words) => write!(f, "{file}: {}", words.as_str()),
             Reason::InUse(port) => write!(f, "port {port}: in use"),
@@ -107,6 +110,12 @@ impl<'a> Named<'a> {
             Invocation::Client(options) => Named {
                 config: Some(options.config),
                 seed: Some(options.seed),
+                journal: None,
+                port: 0,
+            },
+            Invocation::Check { config } => Named {
+                config: Some(config),
+                seed: None,
                 journal: None,
                 port: 0,
             },
@@ -209,6 +218,9 @@ fn of_file<'a, R: Files<File = File>>(
     if named.seed == Some(path) && is_short(metadata.len()) {
         return Some(Reason::Short(path));
     }
+    if named.config == Some(path) && is_long(metadata.len()) {
+        return Some(Reason::Long(path));
+    }
     match File::open(rt, path) {
         Ok(file) if named.journal == Some(path) && file.try_lock().is_err() => {
             Some(Reason::Held(path))
@@ -236,6 +248,13 @@ fn is_short(bytes: u64) -> bool
     ensures value { result ≡ nat_lt bytes 32 }
 {
     bytes < SEED
+}
+
+// Whether a file with so many bytes is too long for a configuration.
+fn is_long(bytes: u64) -> bool
+    ensures value { result ≡ nat_lt LONGEST_CONFIGURATION bytes }
+{
+    bytes > LONGEST_CONFIGURATION as u64
 }
 
 // Why the path leads to nothing that can be opened, by the error's kind.
@@ -268,8 +287,8 @@ fn of_folder(path: &str, kind: ErrorKind) -> Option<Reason<'_>>
 }
 
 // What is wrong with a configuration, in the words of `check`.
-fn in_words<'a, R: Files + AllocGlobal>(rt: &R, path: &'a str) -> Option<Reason<'a>> {
-    let text = fs::read(rt, path).ok()?;
+fn in_words<'a, R: Files<File = File> + AllocGlobal>(rt: &R, path: &'a str) -> Option<Reason<'a>> {
+    let text = read_configuration(rt, path).ok()?;
     let words = explain_check(rt.alloc(), &text).ok()??;
     Some(Reason::InWords(path, words))
 }

@@ -4,6 +4,7 @@ pub mod ReloadLemmas
 pub mod GoingLemmas
 pub mod CompactingLemmas
 pub mod PartsLemmas
+pub mod NewestLemmas
 pub mod WalkLemmas
 pub mod RunLemmas
 pub mod StartingLemmas

@@ -1,7 +1,7 @@
 -- What a reload keeps, and what a later start finds.
-use Rattle.std.proofs.Common.{◌≡◌, ℕ, ◌≤◌, max, min, List, [], ◌++◌, take, length, Option, Some, None, refl, sym, ◌∙◌, ap, subst, arith}
+use Rattle.std.proofs.Common.{◌≡◌, ℕ, ◌≤◌, max, suc, List, [], ◌++◌, take, length, Option, Some, None, refl, sym, ◌∙◌, ap, subst, arith}
 use Rattle.std.specs.Prelude.{option_map, IsSome, IfSome, ℤ, negsuc}
-use Rattle.std.proofs.lemmas.List.{take_all, take-take}
+use Rattle.std.proofs.lemmas.List.{take_all}
 use Rattle.chpw_rules.specs.declared.name.Name.{Name}
 use Rattle.chpw_rules.specs.declared.config.Config.{Config}
 use Rattle.chpw_record.specs.declared.key.KeyRow.{KeyRow}
@@ -22,11 +22,13 @@ use Rattle.chpw_journal.proofs.CoverLemmas.{opening_few, known_alike, next_cover
 use Rattle.chpw_journal.proofs.FoundLemmas.{found_again, reads_again}
 use Rattle.chpw_report.specs.Held.{opening}
 use Rattle.chpw_reload.specs.Next.{settings_of, next_config, next_state}
-use Rattle.chpw_reload.specs.Comparing.{kept_by_both}
+use Rattle.chpw_reload.specs.Comparing.{AreNewest}
 use Rattle.chpw_reload.specs.Reloads.{IsRenewed, IsReload}
 use Rattle.chpw_reload.specs.Laws.{IdsStay, KeysStay, KeysAreGiven, CountStays, TimesStay, ReloadsAreSound}
 use Rattle.chpw_reload.specs.Laws.{LaterStartsFind, LaterStartsRead, StartsKnowAll, StartsFindAgain}
 use Rattle.chpw_reload.proofs.KeyLemmas.{chosen, next_keys}
+use Rattle.chpw_reload.proofs.NewestLemmas.{newest_itself, newest_taken}
+use Rattle.chpw_table.proofs.KeyLemmas.{kept_some}
 
 -- ---- what stays
 
@@ -88,12 +90,18 @@ keys_are_given file records left next h name =
 pub keys_stay : KeysStay
 keys_stay file records left next h name keys e = at (keys_held h.renewed name) refl
   where
-    both : kept_by_both h.closed h.renewed ≡ kept_by_both left next
-    both = ap (λ (f : Fixed). min (max f.policy.depth 1) (kept_count h.renewed)) h.is_left.fixed
-        ∙ ap (λ (n : ℕ). min (kept_count left) n) (renewed_kept file records h.renewed h.is_renewed ∙ sym (next_kept file records left next h))
+    kept : kept_count next ≡ max file.policy.depth 1
+    kept = next_kept file records left next h
 
-    few : kept_by_both left next ≤ max file.policy.depth 1
-    few = let k : kept_count next ≡ max file.policy.depth 1 = next_kept file records left next h in omega (arith, k)
+    more : (j : ℕ) × (max file.policy.depth 1 ≡ suc j)
+    more = kept_some file.policy.depth
+
+    -- the same, of as many keys as are kept now
+    taken : (others : List KeyRow) → AreNewest (take (max file.policy.depth 1) keys) others
+        → AreNewest (take (max file.policy.depth 1) keys) (take (max file.policy.depth 1) others)
+    taken others n =
+        subst (λ (k : ℕ). AreNewest (take k keys) (take k others)) (sym more.1)
+        (newest_taken more.0 keys others (subst (λ (k : ℕ). AreNewest (take k keys) others) more.1 n))
 
     now : (found : Option (List KeyRow)) → keys_held h.renewed name ≡ found → keys_held next name ≡ chosen (max file.policy.depth 1) found (Some keys)
     now found f =
@@ -103,17 +111,18 @@ keys_stay file records left next h name keys e = at (keys_held h.renewed name) r
         ∙ ap (λ (x : Option (List KeyRow)). chosen (max file.policy.depth 1) found x) (h.is_left.principals name ∙ e)))
 
     at : (found : Option (List KeyRow)) → keys_held h.renewed name ≡ found
-        → (later : List KeyRow) × (keys_held next name ≡ Some later) × (take (kept_by_both left next) keys ≡ take (kept_by_both left next) later)
+        → (later : List KeyRow) × (keys_held next name ≡ Some later) × AreNewest (take (kept_count next) keys) later
     at None f = (
       take (max file.policy.depth 1) keys,
       now None f,
-      sym (take-take (kept_by_both left next) (max file.policy.depth 1) keys few),
+      subst (λ (k : ℕ). AreNewest (take k keys) (take (max file.policy.depth 1) keys)) (sym kept) (newest_itself (take (max file.policy.depth 1) keys)),
     )
     at (Some others) f = (
       take (max file.policy.depth 1) others,
       now (Some others) f,
-      subst (λ (n : ℕ). take n keys ≡ take n others) both (h.may.keys name keys others (h.is_left.principals name ∙ e) f)
-          ∙ sym (take-take (kept_by_both left next) (max file.policy.depth 1) others few),
+      subst (λ (k : ℕ). AreNewest (take k keys) (take (max file.policy.depth 1) others)) (sym kept)
+          (taken others (subst (λ (k : ℕ). AreNewest (take k keys) others)
+          (renewed_kept file records h.renewed h.is_renewed) (h.may.keys name keys others (h.is_left.principals name ∙ e) f))),
     )
 
 -- ---- within the limits

@@ -1,5 +1,5 @@
 -- Reloads, computed: a principal that the new file lacks, one that it adds, another depth; other keys of a name.
-use Rattle.std.proofs.Common.{◌≡◌, ℕ, [], ◌∷◌, ◌++◌, true, false, Some, refl}
+use Rattle.std.proofs.Common.{◌≡◌, ℕ, [], ◌∷◌, ◌++◌, take, true, false, Some, refl}
 use Rattle.std.specs.Prelude.{codes, pos}
 use Rattle.std.specs.Fmt.{decimal}
 use Rattle.chpw_rules.specs.declared.policy.Policy.{Policy}
@@ -12,7 +12,7 @@ use Rattle.chpw_table.proofs.Worked.{alice, bob, admin, our_realm, key_bytes, ke
 use Rattle.chpw_journal.specs.declared.fault.RestoreFault.TheVariants.{UnknownPrincipal}
 use Rattle.chpw_reload.specs.declared.fault.ReloadFault.TheVariants.{Realm, Journal, Keys}
 use Rattle.chpw_reload.specs.Next.{settings_of, lacked, next_config, next_state}
-use Rattle.chpw_reload.specs.Comparing.{kept_by_both}
+use Rattle.chpw_reload.specs.Comparing.{AreNewest}
 use Rattle.chpw_reload.specs.Reasons.{fault_behind, fault_text}
 
 abbrev policy_of : ℕ → ℕ → Policy
@@ -73,9 +73,13 @@ quiet_as_before = refl
 pub clock_as_before : next.clock ≡ pos 1000
 clock_as_before = refl
 
--- alike as far as both keep keys
-pub one_key_compared : kept_by_both closed renewed ≡ 1
+-- the newest alone is compared, since one is kept now
+pub one_key_compared : AreNewest (take (kept_count renewed) (key_row 2 4 0xa2 ∷ key_row 1 4 0xa1 ∷ [])) (key_row 2 4 0xa2 ∷ [])
 one_key_compared = refl
+
+-- older keys may stand behind the newest that are held; a held one may not be missing
+pub older_keys_come_back : AreNewest (key_row 2 4 0xa2 ∷ []) (key_row 2 4 0xa2 ∷ key_row 1 4 0xa1 ∷ [])
+older_keys_come_back = refl
 
 -- a file that lacks alice's first key, and so can't have her change
 pub text_of_a_fault : fault_text (Journal (fault_behind 2 (UnknownPrincipal 1))) ≡ codes "J3 at " ++ decimal 3

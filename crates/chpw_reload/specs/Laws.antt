@@ -20,7 +20,7 @@ use Rattle.chpw_journal.specs.Compact.{compacted, AreWholeRecords, MayCompact}
 use Rattle.chpw_report.specs.Held.{opening}
 use Rattle.chpw_reload.specs.declared.prepared_reload.PreparedReload.{PreparedReload}
 use Rattle.chpw_reload.specs.declared.reloading.Reloaded.{Reloaded}
-use Rattle.chpw_reload.specs.Comparing.{kept_by_both, HoldAlike}
+use Rattle.chpw_reload.specs.Comparing.{AreNewest, HoldAlike}
 use Rattle.chpw_reload.specs.Reloading.{IsPrepared, IsReloaded}
 use Rattle.chpw_reload.specs.Reloads.{IsReload}
 
@@ -29,11 +29,11 @@ abbrev pub IdsStay : Type 0
 IdsStay = (file : Config) (records : List Record) (left next : State) → IsReload file records left next →
     (id : RequestId) → is_later left.clock id.ctime ≡ false → is_used next id ≡ is_used left id
 
--- each name that was held is held, with the same newest keys, as many as both keep
+-- each name that was held is held, and its keys, as many as are kept now, are its newest still
 abbrev pub KeysStay : Type 0
 KeysStay = (file : Config) (records : List Record) (left next : State) → IsReload file records left next →
     (name : Name) (keys : List KeyRow) → keys_held left name ≡ Some keys →
-    (later : List KeyRow) × (keys_held next name ≡ Some later) × (take (kept_by_both left next) keys ≡ take (kept_by_both left next) later)
+    (later : List KeyRow) × (keys_held next name ≡ Some later) × AreNewest (take (kept_count next) keys) later
 
 -- a name of the new file has the keys that the file and the journal give; another one keeps the newest of its own
 abbrev pub KeysAreGiven : Type 0
@@ -81,9 +81,9 @@ StartsFindAgain = (file : Config) (records : List Record) (quiet : ℤ) (s : Sta
     AreNext (opening file) records → Agrees s (restored (opening_of file quiet) records) → FollowOn s runs →
     IsFoundAgain (opening file) (records ++ records_in runs) (last_state s runs)
 
--- If a start over the first file finds what was left, a new file is not refused for the journal or for keys when: its
--- principals have the same newest keys there, as many as both depths keep; it has those that a record is of; and of
--- those that were left it has only such as the first file has too
+-- If a start over the first file finds what was left, a new file is not refused for the journal or for keys when: the
+-- keys of its principals in the first file, as many as the new depth keeps, are their newest; it has those that a record
+-- is of; and of those that were left it has only such as the first file has too
 abbrev pub FilesGoOn : Type 0
 FilesGoOn = (first file : Config) (records : List Record) (left closed renewed : State) →
     IsFoundAgain (opening first) records left → ((name : Name) → HoldAlike (opening first) (opening file) name) →

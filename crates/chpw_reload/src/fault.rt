@@ -16,7 +16,8 @@ pub enum ReloadFault {
     /// The journal can't be replayed over the new configuration: its first fault, and the number of its record in the
     /// whole journal.
     Journal(RestoreFault),
-    /// This principal's newest keys aren't those that the new configuration and the journal give.
+    /// This principal's keys, as many as the new depth keeps, aren't the newest that the new configuration and the
+    /// journal give.
     Keys(Name),
     /// Both together have more principals than a configuration may.
     Limits,

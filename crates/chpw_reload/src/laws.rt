@@ -6,8 +6,8 @@ ghost use Rattle.chpw_reload.specs.RunLaws.{RunsStaySound, UsedOverReloads, Name
 ghost use Rattle.chpw_reload.specs.RunLaws.{QuietOverReloads, RunsBegin, RunsGoOn, RunsReload, InARowFollowOn};
 
 /// What a reload keeps of what the history before it left: an id that was used is used; each name that was held is
-/// held, with the same newest keys, as many as both depths keep; the count of new keys never falls; the clock and the
-/// quiet time stay. A name of the new file has the keys that the file and the journal give. The next history opens
+/// held, and its keys, as many as the new depth keeps, are its newest still; the count of new keys never falls; the
+/// clock and the quiet time stay. A name of the new file has the keys that the file and the journal give. The next history opens
 /// within the limits.
 pub fn reloads()
     ensures ids { IdsStay }
@@ -45,8 +45,8 @@ pub fn compacting()
     ensures start { StartsMayCompact }
 {}
 
-/// A new file is not refused for the journal or for keys if its principals have the same newest keys as in a file over
-/// which a start would find what was left, and it has those that the journal has a record of. So policy, rules and
+/// A new file is not refused for the journal or for keys if the keys that its principals have in a file over which a
+/// start would find what was left are their newest, and it has those that the journal has a record of. So policy, rules and
 /// limits may change, new principals may be added, and principals that were never changed may be left out.
 #[tactic(auto, using(crate::proofs::AlikeLemmas::files_go_on))]
 pub fn files()

@@ -5,11 +5,13 @@ use Rattle.chpw_printing.specs.Quoting.{name_text}
 use Rattle.chpw_reload.specs.Reasons.{fault_text}
 use Rattle.chpw_rules.specs.declared.name.Name.{Name}
 use Rattle.chpw_service.specs.Faults.{line_of}
+use Rattle.chpw_service.specs.Modes.{words_of}
 use Rattle.chpw_service.specs.declared.compacting.CompactFault.{CompactFault}
 use Rattle.chpw_service.specs.declared.compacting.CompactFault.TheVariants as compaction
 use Rattle.chpw_service.specs.declared.compacting.NotReplaced.{NotReplaced}
-use Rattle.chpw_service.specs.declared.compacting.NotReplaced.TheVariants.{Failed, Changed, Waited, Unwritten, Unsafe, Memory}
+use Rattle.chpw_service.specs.declared.compacting.NotReplaced.TheVariants.{Failed, Changed, NoGain, Waited, Unwritten, Unsafe, Memory}
 use Rattle.chpw_service.specs.declared.orders.PrepareFault.{PrepareFault}
+use Rattle.chpw_service.specs.declared.ownership.Exposure.{Exposure}
 use Rattle.chpw_service.specs.declared.orders.PrepareFault.TheVariants as reload
 
 -- an order that was carried out, and one that was refused for this reason
@@ -36,14 +38,23 @@ prepare_words (reload.Reload fault) = fault_text fault
 abbrev pub unwritten : List ℕ → List ℕ
 unwritten path = codes "cannot write " ++ path
 
+-- strict modes refuse the file at this path
+abbrev pub exposed_words : List ℕ → Exposure → List ℕ
+exposed_words path why = path ++ (codes ": " ++ words_of why)
+
+abbrev pub changed_words : List ℕ
+changed_words = codes "the configuration has changed: reload it first"
+
 -- why there is no compact journal: before the desk is closed, and after that, of the journal at this path
 abbrev pub compact_words : CompactFault → List ℕ
 compact_words (compaction.Unread fault) = line_of fault
+compact_words compaction.Changed = changed_words
 compact_words (compaction.NoCopy copy) = unwritten copy
 
 abbrev pub not_replaced_words : List ℕ → NotReplaced → List ℕ
 not_replaced_words path Failed = codes "journal failed"
-not_replaced_words path Changed = codes "the configuration has changed: reload it first"
+not_replaced_words path Changed = changed_words
+not_replaced_words path NoGain = codes "nothing to gain"
 not_replaced_words path Waited = codes "replies wait for the follower"
 not_replaced_words path Unwritten = unwritten path
 not_replaced_words path Unsafe = unwritten path

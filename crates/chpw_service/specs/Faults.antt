@@ -19,10 +19,10 @@ use Rattle.chpw_report.specs.declared.report.ReportFault.TheVariants as report
 use Rattle.chpw_pool.specs.declared.pool.PoolFault.{PoolFault}
 use Rattle.chpw_pool.specs.declared.pool.PoolFault.TheVariants as pool
 use Rattle.chpw_invocation.specs.declared.invocation.ServeOptions.{ServeOptions}
-use Rattle.chpw_service.specs.declared.shared_files.SharedFiles.{SharedFiles}
-use Rattle.chpw_service.specs.Modes.{first_shared}
+use Rattle.chpw_service.specs.declared.shared_files.Exposures.{Exposures}
+use Rattle.chpw_service.specs.Modes.{first_exposed, words_of}
 use Rattle.chpw_service.specs.declared.fault.ServeFault.{ServeFault}
-use Rattle.chpw_service.specs.declared.fault.ServeFault.TheVariants.{CannotRead, Config, Shared, CannotWrite}
+use Rattle.chpw_service.specs.declared.fault.ServeFault.TheVariants.{CannotRead, Config, Exposed, CannotWrite}
 use Rattle.chpw_service.specs.declared.fault.ServeFault.TheVariants.{Journal, CannotListen, CannotListenAt}
 use Rattle.chpw_service.specs.declared.fault.ServeFault.TheVariants.{CannotPrint, Memory, CannotClose}
 use Rattle.chpw_service.specs.declared.fault.LateFault.{LateFault}
@@ -31,7 +31,7 @@ use Rattle.chpw_service.specs.declared.fault.LateFault.TheVariants as late
 abbrev pub line_of : ServeFault → List ℕ
 line_of (CannotRead file) = codes "cannot read " ++ file.now
 line_of (Config fault) = codes "config: " ++ config_text fault
-line_of (Shared file) = file.now ++ codes ": not started, since other users may read or write it"
+line_of (Exposed e) = e.file.now ++ (codes ": not started, since " ++ words_of e.why)
 line_of (CannotWrite file) = codes "cannot write " ++ file.now
 line_of (Journal fault) = codes "journal: " ++ journal_text fault
 line_of CannotListen = codes "cannot listen"
@@ -77,9 +77,9 @@ IsOfJournal path (CannotWrite file) = file.now ≡ path
 IsOfJournal path (Journal fault) = (fault ≢ NoMemory) × IsOfRecords fault
 IsOfJournal path fault = IsUnread path fault
 
--- the fault of a start with strict modes: others may read or write one of its files
+-- the fault of a start with strict modes: others can do something to one of its files
 abbrev pub IsOfModes : ServeOptions → ServeFault → Type 0
-IsOfModes o (Shared file) = (o.strict_modes ≡ true) × ((shared : SharedFiles) × (first_shared o shared ≡ Some file))
+IsOfModes o (Exposed e) = (o.strict_modes ≡ true) × ((exposures : Exposures) × (first_exposed o exposures ≡ Some e))
 IsOfModes o fault = ⊥
 
 -- the fault of the log at a path: it can't be made or appended to

@@ -1,4 +1,5 @@
 pub mod Answers
+pub mod Bounded
 pub mod Facts
 pub mod Faults
 pub mod Following

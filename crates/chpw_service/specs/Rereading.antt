@@ -1,15 +1,16 @@
 -- What a service reads of its files while it runs: for a reload, and for a compact journal.
-use Rattle.std.specs.Prelude.{◌≡◌, ◌⊎◌, ℕ, List, Option, Ok, Err}
+use Rattle.std.specs.Prelude.{◌≡◌, ◌≢◌, ◌⊎◌, ℕ, List, Option, Ok, Err}
 use Rattle.chpw_rules.specs.declared.config.Config.{Config}
 use Rattle.chpw_config.specs.declared.fault.ConfigFault.{ConfigFault}
 use Rattle.chpw_table.specs.Agreement.{Agrees, Held}
 use Rattle.chpw_report.specs.Held.{opening}
 use Rattle.chpw_reload.specs.Reloading.{IsPrepared, IsUnprepared}
 use Rattle.chpw_invocation.specs.declared.invocation.ServeOptions.{ServeOptions}
-use Rattle.chpw_service.specs.Faults.{IsLate, IsOfBytes, IsOfJournal, IsOfSettings, IsUnread, Sets}
+use Rattle.chpw_service.specs.Faults.{IsOfBytes, IsOfSettings, IsUnread, Sets}
 use Rattle.chpw_service.specs.Serving.{AreRulesOf}
+use Rattle.chpw_service.specs.Telling.{IsOfText}
 use Rattle.chpw_service.specs.declared.compacting.CompactFault.{CompactFault}
-use Rattle.chpw_service.specs.declared.compacting.CompactFault.TheVariants.{Unread, NoCopy}
+use Rattle.chpw_service.specs.declared.compacting.CompactFault.TheVariants.{Unread, Changed, NoCopy}
 use Rattle.chpw_service.specs.declared.fault.ServeFault.{ServeFault}
 use Rattle.chpw_service.specs.declared.orders.PendingReload.{PendingReload}
 use Rattle.chpw_service.specs.declared.orders.PrepareFault.{PrepareFault}
@@ -38,18 +39,15 @@ IsNotReadAnew o (Reload fault) = (config : Config) × (bytes : Option (List ℕ)
 
 -- ---- a compact journal
 
--- the table that a configuration of some bytes opens with
-pub record IsBase (base : Held) : Type 0 where
-  pub bytes : List ℕ
+-- the table that the configuration of these bytes opens with
+pub record IsBase (bytes : List ℕ) (base : Held) : Type 0 where
   pub config : Config
   pub sets : Sets bytes (Ok config)
   pub opens : Agrees base.state (opening config)
 
--- a fault of the configuration or the journal, or one after both are read
-abbrev pub IsOfFiles : ServeOptions → ServeFault → Type 0
-IsOfFiles o fault = IsOfSettings o.config.now fault ⊎ (IsOfJournal o.journal.now fault ⊎ IsLate fault)
-
--- such a fault; or the copy of this name can't be made
-abbrev pub IsNotBegun : ServeOptions → List ℕ → CompactFault → Type 0
-IsNotBegun o copy (Unread fault) = IsOfFiles o fault
-IsNotBegun o copy (NoCopy path) = path ≡ copy
+-- a fault of the configuration's file, or one of the configuration in force and the journal; the file has other bytes
+-- than the configuration in force; or the copy of this name can't be made
+abbrev pub IsNotBegun : ServeOptions → List ℕ → List ℕ → CompactFault → Type 0
+IsNotBegun o in_force copy (Unread fault) = IsUnread o.config.now fault ⊎ IsOfText in_force o.journal.now fault
+IsNotBegun o in_force copy Changed = (bytes : List ℕ) × (bytes ≢ in_force)
+IsNotBegun o in_force copy (NoCopy path) = path ≡ copy

@@ -1,5 +1,5 @@
 -- What a service asks of its pool, and by which rules it answers requests.
-use Rattle.std.specs.Prelude.{◌≡◌, ℕ, List, [], ◌∷◌, Bool, true, false, nat_le, length, map}
+use Rattle.std.specs.Prelude.{◌≡◌, ℕ, List, [], ◌∷◌, Bool, true, false, nat_le, length, map, Ok}
 use Rattle.krb_msgs.specs.OneAnswer.{AreProtocolKeys}
 use Rattle.krb_msgs.specs.declared.private_message.Strictness.{Strictness}
 use Rattle.krb_msgs.specs.declared.private_message.Strictness.TheVariants.{Lenient, Strict}
@@ -15,6 +15,7 @@ use Rattle.chpw_book.specs.Passes.{PassView}
 use Rattle.chpw_messages.specs.declared.versions.Acceptance.{Acceptance}
 use Rattle.chpw_messages.specs.declared.versions.Versions.{Versions}
 use Rattle.chpw_messages.specs.declared.versions.Versions.TheVariants.{Both, Rfc3244Only}
+use Rattle.chpw_service.specs.Faults.{Sets}
 use Rattle.chpw_service.specs.declared.rules.Rules.{Rules}
 
 -- after as many connections the pool ends, if there is a limit
@@ -47,13 +48,14 @@ acceptance_asked options = record {
   messages = messages_asked options.strict_messages;
 }
 
--- the rules of a configuration, with the acceptance that these options ask for
+-- the rules of a configuration, with its text, and with the acceptance that these options ask for
 pub record AreRulesOf (config : Config) (options : ServeOptions) (rules : Rules) : Type 0 where
   pub realm : rules.service.realm ≡ config.realm
   pub keys : map held rules.service.keys ≡ map configured config.service
   pub protocol : AreProtocolKeys rules.service.keys
   pub accepts : rules.service.accepts ≡ acceptance_asked options
   pub max_entries : rules.max_entries ≡ config.max_entries
+  pub text : Sets rules.text.items (Ok config)
 
 -- the first pass has as many receipts as a history may have entries, before any message is answered, because of a raise
 abbrev pub is_full_with : List PassView → ℕ → Bool

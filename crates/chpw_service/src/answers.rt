@@ -2,18 +2,22 @@
 ghost use Rattle.std.specs.Prelude.{◌≡◌, ◌++◌, ◌∷◌, [], IfOk, IfErr, OnOk, OnErr};
 ghost use Rattle.chpw_control.specs.Answers.{lines_text};
 ghost use Rattle.chpw_reload.specs.Reasons.{fault_text};
-ghost use Rattle.chpw_service.specs.Answers.{compact_words, done_lines, lacked_line, prepare_words, refused_lines};
-ghost use Rattle.chpw_service.specs.Answers.{reloaded_lines, replaced_lines, unwritten};
+ghost use Rattle.chpw_service.specs.Answers.{compact_words, done_lines, exposed_words, lacked_line, prepare_words};
+ghost use Rattle.chpw_service.specs.Answers.{refused_lines, reloaded_lines, replaced_lines, unwritten};
 ghost use Rattle.chpw_service.specs.Faults.{line_of};
 
 use crate::compacting::{CompactFault, NotReplaced};
 use crate::fault::ServeFault;
 use crate::orders::PrepareFault;
+use crate::ownership::Exposure;
 use chpw_control::put_ok;
 use chpw_printing::{put_name, put_words};
 use chpw_reload::{ReloadFault, put_fault};
 use chpw_rules::Name;
 use std::alloc::{AllocError, Global};
+
+/// Why no compact journal is made while the configuration's file isn't the one in force.
+const CHANGED: &str = "the configuration has changed: reload it first";
 
 /// The answer to a reload that was refused before the desk was closed.
 pub(crate) fn prepare_refusal(
@@ -101,6 +105,7 @@ pub(crate) fn compact_refusal(
 {
     match fault {
         CompactFault::Unread(fault) => refusal(alloc, fault.to_string(alloc)?.as_str()),
+        CompactFault::Changed => refusal(alloc, CHANGED),
         CompactFault::NoCopy(copy) => write_refusal(alloc, copy.as_str()),
     }
 }
@@ -116,13 +121,23 @@ pub(crate) fn compact_answer(
     match replaced {
         Ok(()) => ok_answer(alloc),
         Err(NotReplaced::Failed) => refusal(alloc, "journal failed"),
-        Err(NotReplaced::Changed) => {
-            refusal(alloc, "the configuration has changed: reload it first")
-        }
+        Err(NotReplaced::Changed) => refusal(alloc, CHANGED),
+        Err(NotReplaced::NoGain) => refusal(alloc, "nothing to gain"),
         Err(NotReplaced::Waited) => refusal(alloc, "replies wait for the follower"),
         Err(NotReplaced::Unwritten | NotReplaced::Unsafe) => write_refusal(alloc, path),
         Err(NotReplaced::Memory) => refusal(alloc, "memory"),
     }
+}
+
+/// The answer where strict modes refuse the file at a path.
+pub(crate) fn exposed_refusal(
+    alloc: Global,
+    file: &str,
+    why: Exposure,
+) -> Result<Vec<u8>, AllocError>
+    ensures value { IfOk result (λ text. text.items ≡ lines_text (refused_lines (exposed_words file.now why))) }
+{
+    refusal(alloc, format!(in alloc; "{file}: {why}")?.as_str())
 }
 
 /// The answer when it is refused, for this reason.

@@ -1,24 +1,24 @@
 //! Replacing the journal by a compact one.
 ghost use Rattle.std.specs.Prelude.{◌≡◌, ◌≢◌, ◌≤◌, ◌<◌, ◌-◌, ◌^◌, ℕ, List, Option, Ok, Err, OnOk, IfOk, IfErr, IfNone, IfSome};
-ghost use Rattle.std.specs.Prelude.{false, not, if◌then◌else◌};
+ghost use Rattle.std.specs.Prelude.{false, not, if◌then◌else◌, length, ◌↔◌, IsTrue};
 ghost use Rattle.chpw_book.specs.Starting.{table_of, workers_of};
 ghost use Rattle.chpw_journal.specs.Compact.{AreWholeRecords, compacted};
 ghost use Rattle.chpw_reload.specs.Compacting.{GoesWith};
-ghost use Rattle.chpw_service.specs.Faults.{IsOfSettings};
+ghost use Rattle.chpw_service.specs.Faults.{IsOfBytes};
 ghost use Rattle.chpw_service.specs.Following.{reopened};
 ghost use Rattle.chpw_service.specs.Replacing.{IsNoText, compact_text};
-ghost use Rattle.chpw_service.specs.Rereading.{IsBase, IsNotBegun, IsOfFiles};
-ghost use Rattle.chpw_service.specs.Telling.{Tells};
-ghost use Rattle.chpw_service.specs.declared.compacting.NotReplaced.TheVariants.{Unsafe};
+ghost use Rattle.chpw_service.specs.Rereading.{IsBase, IsNotBegun};
+ghost use Rattle.chpw_service.specs.Telling.{IsOfText, TellsOf};
+ghost use Rattle.chpw_service.specs.declared.compacting.NotReplaced.TheVariants.{NoGain, Unsafe};
 ghost use Rattle.chpw_service.specs.declared.fault.ServeFault.TheVariants.{Memory};
 
 use crate::answers::{answer_or_empty, compact_answer};
 use crate::fault::ServeFault;
-use crate::files::{read_regular, settings};
+use crate::files::{configuration_text, settings};
 use crate::histories::{Opening, ServiceContext, next_opening};
-use crate::table::write_table;
+use crate::table::write_table_of;
 use chpw_control::FileName;
-use chpw_invocation::{ServeOptions, TableForm, TableOptions};
+use chpw_invocation::{ServeOptions, TableForm};
 use chpw_journal::{
     FileSink, Replacement, compact_journal, remove_unfinished, replace_journal, write_new,
 };
@@ -38,9 +38,9 @@ const LONGEST_WAIT: u64 = 1_000;
 /// A compact journal that is due: it is made once the desk is closed.
 #[derive(Drop)]
 pub(crate) struct Compaction {
-    // What the configuration opens with, as its file is now.
+    // What the configuration in force opens with.
     base: Table,
-    // The copy of the configuration that is held.
+    // The copy of it, with what is held.
     copy: FileName,
 }
 
@@ -49,28 +49,35 @@ pub(crate) struct Compaction {
 pub(crate) enum CompactFault<'a> {
     /// The configuration or the journal can't be read, or memory ran out.
     Unread(ServeFault<'a>),
+    /// The configuration's file isn't the one in force any more.
+    Changed,
     /// The copy can't be made, or something is at its path.
     NoCopy(FileName),
 }
 
-/// Copies the configuration that is held to a new file, as `table --as configuration` prints it, and reads what the
-/// configuration opens with. What an earlier, unfinished replacement left beside the journal is removed first. A copy
-/// at that very path is in the way of the new journal, which is then refused.
+/// Copies the configuration in force, with what is held, to a new file, as `table --as configuration` prints it. The
+/// configuration's file has to have its very bytes; else it was changed, and is to be reloaded first. What an earlier,
+/// unfinished replacement left beside the journal is removed. A copy at that very path is in the way of the new journal,
+/// which is then refused.
 pub(crate) fn begin_compaction<'a, R: Files<File = File> + AllocGlobal>(
     rt: &R,
     options: &ServeOptions<'a>,
+    in_force: &[u8],
     copy: FileName,
 ) -> Result<Compaction, CompactFault<'a>>
-    ensures base { IfOk result (λ compaction. IsBase compaction.base) }
+    ensures base { IfOk result (λ compaction. IsBase in_force.now compaction.base) }
     ensures copy { IfOk result (λ compaction. compaction.copy ≡ copy) }
-    ensures fault { IfErr result (IsNotBegun options.now copy) }
+    ensures fault { IfErr result (IsNotBegun options.now in_force.now copy) }
 {
-    let base = match base_of(rt, options.config) {
-        Ok(base) => base,
+    let present = match configuration_text(rt, options.config) {
+        Ok(present) => present,
         Err(fault) => return Err(CompactFault::Unread(fault)),
     };
-    let text = match held_configuration(rt, options) {
-        Ok(text) => text,
+    if !are_same_bytes(&present, in_force) {
+        return Err(CompactFault::Changed);
+    }
+    let (base, text) = match base_and_copy(rt, options, in_force) {
+        Ok(both) => both,
         Err(fault) => return Err(CompactFault::Unread(fault)),
     };
     if remove_unfinished(rt, rt.alloc(), options.journal).is_err() {
@@ -82,31 +89,42 @@ pub(crate) fn begin_compaction<'a, R: Files<File = File> + AllocGlobal>(
     }
 }
 
-// The configuration that is held, as text.
-fn held_configuration<'a, R: Files<File = File> + AllocGlobal>(
-    rt: &R,
-    options: &ServeOptions<'a>,
-) -> Result<Vec<u8>, ServeFault<'a>>
-    ensures text { IfOk result (λ text. (torn : Option ℕ) × Tells TableForm.Configuration torn text.items) }
-    ensures fault { IfErr result (IsOfFiles options.now) }
+// Whether two texts have the same bytes.
+fn are_same_bytes(text: &[u8], other: &[u8]) -> bool
+    ensures value { IsTrue result ↔ text.now ≡ other.now }
 {
-    let from = TableOptions {
-        config: options.config,
-        journal: options.journal,
-        form: TableForm::Configuration,
-    };
-    let mut text = Vec::new(rt.alloc());
-    write_table(rt, from, &mut text)?;
-    Ok(text)
+    text == other
 }
 
-// What the configuration opens with, as its file is now.
-fn base_of<'a, R: Files + AllocGlobal>(rt: &R, path: &'a str) -> Result<Table, ServeFault<'a>>
-    ensures base { IfOk result IsBase }
-    ensures fault { IfErr result (IsOfSettings path.now) }
+// What the configuration with this text opens with; and the configuration with what is held, as text.
+fn base_and_copy<'a, R: Files<File = File> + AllocGlobal>(
+    rt: &R,
+    options: &ServeOptions<'a>,
+    in_force: &[u8],
+) -> Result<(Table, Vec<u8>), ServeFault<'a>>
+    ensures base { IfOk result (λ both. IsBase in_force.now both.0) }
+    ensures text { IfOk result (λ both. (torn : Option ℕ)
+        × TellsOf in_force.now TableForm.Configuration torn both.1.items) }
+    ensures fault { IfErr result (IsOfText in_force.now options.now.journal.now) }
 {
-    let text = read_regular(rt, path)?;
-    match Table::start(rt.alloc(), settings(rt.alloc(), &text)?, -1) {
+    let base = base_of(rt.alloc(), in_force)?;
+    let mut text = Vec::new(rt.alloc());
+    write_table_of(
+        rt,
+        in_force,
+        TableForm::Configuration,
+        options.journal,
+        &mut text,
+    )?;
+    Ok((base, text))
+}
+
+// What the configuration with this text opens with.
+fn base_of<'a>(alloc: Global, text: &[u8]) -> Result<Table, ServeFault<'a>>
+    ensures base { IfOk result (IsBase text.now) }
+    ensures fault { IfErr result (IsOfBytes text.now) }
+{
+    match Table::start(alloc, settings(alloc, text)?, -1) {
         Ok(base) => Ok(base),
         Err(_) => Err(ServeFault::Memory),
     }
@@ -154,8 +172,10 @@ pub(crate) fn compact<
 pub(crate) enum NotReplaced {
     /// An append to the present one has failed.
     Failed,
-    /// The configuration in its file doesn't go with what is held.
+    /// The configuration doesn't go with what is held.
     Changed,
+    /// The compact one would be as long as the present one, or longer.
+    NoGain,
     /// A reply waited too long for the follower.
     Waited,
     /// The new one can't be written.
@@ -205,7 +225,8 @@ fn replace<'l, R: Wait + Clock + Eprint + AllocGlobal, P: JournalPlace>(
     ensures unchanged { IfErr result (λ why. why ≢ Unsafe → sink.new ≡ sink.old) }
     ensures failed { ⟦<FileSink<File> as JournalSink>⟧.failed sink.new ≡ ⟦<FileSink<File> as JournalSink>⟧.failed sink.old }
 {
-    let text = match text_to_write(rt.alloc(), hall.log.has_failed(), base, held) {
+    let present = hall.journal.bytes();
+    let text = match text_to_write(rt.alloc(), hall.log.has_failed(), present, base, held) {
         Ok(text) => text,
         Err(why) => return Err(why),
     };
@@ -220,26 +241,40 @@ fn replace<'l, R: Wait + Clock + Eprint + AllocGlobal, P: JournalPlace>(
     replaced
 }
 
-// The text of the journal that replaces the present one: a compact one, unless an append to that has failed, or the
-// base doesn't go with the held table.
+// The text of the journal that replaces the present one of this many bytes: a compact one, unless an append to that has
+// failed, the base doesn't go with the held table, or it would be no shorter.
 fn text_to_write(
     alloc: Global,
     has_failed: bool,
+    present: u64,
     base: &Table,
     held: &Table,
 ) -> Result<Vec<u8>, NotReplaced>
     ensures text { IfOk result (λ text. text.items ≡ compact_text base.now.state held.now.state) }
     ensures goes_with { OnOk result (GoesWith base.now.state held.now.state) }
     ensures good { OnOk result (has_failed ≡ false) }
-    ensures why { IfErr result (IsNoText has_failed base.now.state held.now.state) }
+    ensures shorter { IfOk result (λ text. length text.items < present) }
+    ensures why { IfErr result (IsNoText has_failed present base.now.state held.now.state) }
 {
     if has_failed {
         return Err(NotReplaced::Failed);
     }
     match compact_text(alloc, base, held) {
-        Ok(Some(text)) => Ok(text),
+        Ok(Some(text)) => shorter_text(text, present),
         Ok(None) => Err(NotReplaced::Changed),
         Err(_) => Err(NotReplaced::Memory),
+    }
+}
+
+// The text, if it has fewer bytes than the present journal.
+fn shorter_text(text: Vec<u8>, present: u64) -> Result<Vec<u8>, NotReplaced>
+    ensures shorter { IfOk result (λ same. (same ≡ text) × (length text.items < present)) }
+    ensures longer { IfErr result (λ why. (why ≡ NoGain) × (present ≤ length text.items)) }
+{
+    if (text.len() as u64) < present {
+        Ok(text)
+    } else {
+        Err(NotReplaced::NoGain)
     }
 }
 

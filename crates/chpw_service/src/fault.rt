@@ -2,6 +2,7 @@
 ghost use Rattle.std.specs.Prelude.{◌≡◌};
 ghost use Rattle.chpw_service.specs.Faults.{IsLate, late_fault};
 
+use crate::shared_files::Exposed;
 use chpw_config::ConfigFault;
 use chpw_journal::RestoreFault;
 use std::fmt;
@@ -14,8 +15,9 @@ pub enum ServeFault<'a> {
     CannotRead(&'a str),
     /// The configuration has this fault.
     Config(ConfigFault),
-    /// Others may read or write this file, with strict modes: the configuration, the seed, the log or the journal.
-    Shared(&'a str),
+    /// Others may read, write or replace this file, with strict modes: the configuration, the seed, the log or the
+    /// journal.
+    Exposed(Exposed<'a>),
     /// The journal's file can't be made, or its torn tail can't be cut off.
     CannotWrite(&'a str),
     /// The journal has this fault.
@@ -80,11 +82,8 @@ impl fmt::Display for ServeFault<'_> {
         match self {
             ServeFault::CannotRead(file) => write!(f, "cannot read {file}"),
             ServeFault::Config(fault) => write!(f, "config: {fault}"),
-            ServeFault::Shared(file) => {
-                write!(
-                    f,
-                    "{file}: not started, since other users may read or write it"
-                )
+            ServeFault::Exposed(exposed) => {
+                write!(f, "{}: not started, since {}", exposed.file, exposed.why)
             }
             ServeFault::CannotWrite(file) => write!(f, "cannot write {file}"),
             ServeFault::Journal(fault) => write!(f, "journal: {fault}"),

@@ -118,15 +118,24 @@ fn place_of<'a, R: Files>(rt: &R, path: &'a str) -> Option<FileId<'a>> {
             name: None,
         });
     }
-    let (folder, name) = match path.rsplit_once('/') {
-        None => (".", path),
-        Some(("", name)) => ("/", name),
-        Some((folder, name)) => (folder, name),
-    };
+    let (folder, name) = folder_and_name(path);
     let metadata = fs::metadata(rt, folder).ok()?;
     Some(FileId {
         device: metadata.dev(),
         number: metadata.ino(),
         name: Some(name),
     })
+}
+
+/// The folder in which a path names a file.
+pub(crate) fn folder_of(path: &str) -> &str {
+    folder_and_name(path).0
+}
+
+fn folder_and_name(path: &str) -> (&str, &str) {
+    match path.rsplit_once('/') {
+        None => (".", path),
+        Some(("", name)) => ("/", name),
+        Some((folder, name)) => (folder, name),
+    }
 }

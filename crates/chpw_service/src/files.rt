@@ -1,12 +1,12 @@
 //! The files that a service starts from.
-ghost use Rattle.std.specs.Prelude.{◌≡◌, ◌≢◌, IfOk, IfErr, List, ℕ, Ok, true};
+ghost use Rattle.std.specs.Prelude.{◌≡◌, ◌≢◌, ◌≤◌, IfOk, IfErr, List, ℕ, Ok, length, true};
 ghost use Rattle.std.specs.IoError.{error_kind};
 ghost use Rattle.chpw_service.specs.declared.fault.ServeFault.TheVariants.{Memory};
 ghost use Rattle.std.specs.Io.KnownBytes.{Consumes};
 ghost use Rattle.chpw_rules.specs.Fitting.{config_fits};
-ghost use Rattle.chpw_service.specs.Modes.{lets_others};
 ghost use Rattle.chpw_service.specs.Faults.{IsOfBytes, IsOfSettings, IsUnread, Sets};
 
+use crate::bounded::read_at_most;
 use crate::fault::ServeFault;
 use crate::line_output::{Kind, kind_of};
 use chpw_config::{ConfigError, ConfigFault, read_config};
@@ -14,14 +14,13 @@ use chpw_rules::Config;
 use std::alloc::Global;
 use std::fs::{File, Files};
 use std::io::{ErrorKind, Read};
-use std::os::unix::fs::PermissionsExt;
-use std::{fs, io, str};
+use std::{io, str};
 
-/// The bits of a mode by which group and others read and write.
-const OTHERS: u32 = 0o066;
+/// The most bytes of a configuration: 64 MiB.
+pub const LONGEST_CONFIGURATION: usize = 67_108_864;
 
 /// The settings in the configuration's file.
-pub fn read_settings<'a, R: Files + AllocGlobal>(
+pub fn read_settings<'a, R: Files<File = File> + AllocGlobal>(
     rt: &R,
     path: &'a str,
 ) -> Result<Config, ServeFault<'a>>
@@ -29,71 +28,85 @@ pub fn read_settings<'a, R: Files + AllocGlobal>(
     ensures value { IfOk result (λ config. (bytes : List ℕ) × Sets bytes (Ok config)) }
     ensures fault { IfErr result (IsOfSettings path.now) }
 {
-    settings(rt.alloc(), read_file(rt, path)?.as_slice())
+    let Configuration { config, text: _ } = configuration_of(rt, path)?;
+    Ok(config)
 }
 
-/// The bytes of a file.
-pub(crate) fn read_file<'a, R: Files + AllocGlobal>(
+/// A configuration, and the text that set it.
+#[derive(Drop)]
+pub(crate) struct Configuration {
+    pub config: Config,
+    pub text: Vec<u8>,
+}
+
+/// The configuration in a file.
+pub(crate) fn configuration_of<'a, R: Files<File = File> + AllocGlobal>(
+    rt: &R,
+    path: &'a str,
+) -> Result<Configuration, ServeFault<'a>>
+    ensures fits { IfOk result (λ c. config_fits c.config ≡ true) }
+    ensures sets { IfOk result (λ c. Sets c.text.items (Ok c.config)) }
+    ensures fault { IfErr result (IsOfSettings path.now) }
+{
+    let text = configuration_text(rt, path)?;
+    let config = settings(rt.alloc(), &text)?;
+    Ok(Configuration { config, text })
+}
+
+/// The text of the configuration in a file.
+pub(crate) fn configuration_text<'a, R: Files<File = File> + AllocGlobal>(
     rt: &R,
     path: &'a str,
 ) -> Result<Vec<u8>, ServeFault<'a>>
+    ensures few { IfOk result (λ bytes. length bytes.items ≤ LONGEST_CONFIGURATION) }
     ensures fault { IfErr result (IsUnread path.now) }
 {
-    match fs::read(rt, path) {
+    match read_configuration(rt, path) {
         Ok(bytes) => Ok(bytes),
         Err(error) => Err(unread_fault(path, error)),
     }
 }
 
-/// The bytes of a regular file. A pipe would block its reader, and is refused before it is opened.
-pub(crate) fn read_regular<'a, R: Files + AllocGlobal>(
+/// The bytes of a configuration's file. What isn't a regular file can't be read, and neither can a file of more than
+/// 64 MiB; also one that grows meanwhile is read no further than that.
+pub fn read_configuration<R: Files<File = File> + AllocGlobal>(
     rt: &R,
-    path: &'a str,
-) -> Result<Vec<u8>, ServeFault<'a>>
-    ensures fault { IfErr result (IsUnread path.now) }
+    path: &str,
+) -> io::Result<Vec<u8>>
+    ensures few { IfOk result (λ bytes. length bytes.items ≤ LONGEST_CONFIGURATION) }
 {
-    if matches!(kind_of(rt, path), Kind::File) {
-        read_file(rt, path)
-    } else {
-        Err(ServeFault::CannotRead(path))
+    let mut file = open_regular(rt, path)?;
+    match read_at_most(rt.alloc(), &mut file, LONGEST_CONFIGURATION)? {
+        Some(bytes) => Ok(bytes),
+        None => Err(io::Error::from(ErrorKind::FileTooLarge)),
     }
 }
 
-/// An existing file, opened for reading. A directory can be opened too, and is refused as unreadable.
+/// An existing regular file, opened for reading, such as a journal. Anything else can't be read.
 pub(crate) fn open_file<'a, R: Files<File = File>>(
     rt: &R,
     path: &'a str,
 ) -> Result<File, ServeFault<'a>>
     ensures fault { IfErr result (IsUnread path.now) }
 {
-    match File::open(rt, path) {
-        Ok(file) if is_folder(&file) => Err(ServeFault::CannotRead(path)),
+    match open_regular(rt, path) {
         Ok(file) => Ok(file),
         Err(error) => Err(unread_fault(path, error)),
     }
 }
 
-fn is_folder(file: &File) -> bool {
-    match file.metadata() {
-        Ok(metadata) => metadata.is_dir(),
-        Err(_) => false,
+// A regular file, opened for reading. A pipe would block its opener, so the kind is looked at before; and once more
+// afterwards, since another file may have got the name meanwhile.
+fn open_regular<R: Files<File = File>>(rt: &R, path: &str) -> io::Result<File> {
+    if !matches!(kind_of(rt, path), Kind::File) {
+        return Err(io::Error::from(ErrorKind::InvalidInput));
     }
-}
-
-/// Whether others than its owner may read or write the file at a path; a device, such as one of random bytes, is never
-/// reported.
-pub(crate) fn is_shared<R: Files>(rt: &R, path: &str) -> bool {
-    match fs::metadata(rt, path) {
-        Ok(metadata) => metadata.is_file() && lets_others(metadata.permissions().mode()),
-        Err(_) => false,
+    let file = File::open(rt, path)?;
+    if file.metadata()?.is_file() {
+        Ok(file)
+    } else {
+        Err(io::Error::from(ErrorKind::InvalidInput))
     }
-}
-
-// Whether a file's mode lets others read or write it.
-fn lets_others(mode: u32) -> bool
-    ensures value { result ≡ lets_others mode }
-{
-    mode & OTHERS != 0
 }
 
 /// The settings that a file's bytes set, or their first fault. A text that isn't UTF-8 isn't TOML.

@@ -283,7 +283,12 @@ fn serve_shift<
         passes,
         rules.max_entries,
         &hall.journal,
-        Orders { rt, time, hall },
+        Orders {
+            rt,
+            time,
+            hall,
+            in_force: &rules.text,
+        },
     )
 }
 

@@ -3,6 +3,7 @@
 #![tactic(auto)]
 
 mod answers;
+mod bounded;
 mod checked_reload;
 mod closing;
 mod compacting;
@@ -18,6 +19,7 @@ mod logging;
 mod notices;
 mod observers;
 mod orders;
+mod ownership;
 mod raising;
 mod readiness;
 mod reloading;
@@ -31,11 +33,13 @@ mod status;
 mod table;
 
 pub use fault::ServeFault;
-pub use files::{read_seed, read_settings};
+pub use files::{LONGEST_CONFIGURATION, read_configuration, read_seed, read_settings};
 pub use followed::{FollowerTerms, JournalLength};
 pub use histories::{Opened, ServiceContext, serve_histories};
 pub use logging::{Log, LogLines};
 pub use observers::{Lines, Logging};
+pub use ownership::Exposure;
 pub use rules::Rules;
 pub use serving::{serve, serve_by};
+pub use shared_files::Exposed;
 pub use table::{tell_table, write_table};

@@ -7,7 +7,7 @@ ghost use Rattle.chpw_service.specs.Sheets.{ended, is_begun, is_taken, is_told_a
 use crate::readiness::Readiness;
 use chpw_journal::room_for;
 use std::alloc::Global;
-use std::fs::{self, File, Files, OpenOptions};
+use std::fs::{self, File, Files, Metadata, OpenOptions};
 use std::io::{self, ErrorKind, Write};
 use std::net::Net;
 use std::os::fd::AsRawFd;
@@ -133,9 +133,14 @@ impl LineOutput {
 
 /// The kind of file at a path.
 pub(crate) fn kind_of<R: Files>(rt: &R, path: &str) -> Kind {
-    let Ok(metadata) = fs::metadata(rt, path) else {
-        return Kind::Missing;
-    };
+    match fs::metadata(rt, path) {
+        Ok(metadata) => kind_in(&metadata),
+        Err(_) => Kind::Missing,
+    }
+}
+
+/// The kind of file of which the system reports this.
+pub(crate) fn kind_in(metadata: &Metadata) -> Kind {
     let kind = metadata.file_type();
     if kind.is_file() {
         Kind::File

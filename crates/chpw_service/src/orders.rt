@@ -1,16 +1,20 @@
 //! Orders of callers at the control socket.
 ghost use Rattle.std.specs.Prelude.{IfErr, IfOk};
-ghost use Rattle.chpw_service.specs.Faults.{IsOfBytes};
-ghost use Rattle.chpw_service.specs.Orders.{BeginsCompaction, BeginsReload, IsCarriedOut, RefusesAtOnce, ReopensLog};
+ghost use Rattle.chpw_service.specs.Faults.{IsOfBytes, IsUnread};
+ghost use Rattle.chpw_service.specs.Orders.{BeginsCompaction, BeginsReload, IsCarriedOut, RefusesAtOnce, ReopensLog, TellsExposed};
 ghost use Rattle.chpw_service.specs.Rereading.{IsNotReadAnew, IsReadAnew, IsUnset};
 
-use crate::answers::{answer_or_empty, compact_refusal, prepare_refusal, refusal, reopen_answer};
+use crate::answers::{
+    answer_or_empty, compact_refusal, exposed_refusal, prepare_refusal, refusal, reopen_answer,
+};
 use crate::checked_reload::CheckedReload;
 use crate::compacting::{Compaction, begin_compaction};
 use crate::fault::ServeFault;
-use crate::files::{open_file, read_regular, settings};
+use crate::files::{configuration_text, open_file, settings, unread_fault};
 use crate::histories::ServiceContext;
+use crate::ownership::Exposure;
 use crate::rules::{Rules, rules_of};
+use crate::shared_files::exposure_at;
 use chpw_config::explain;
 use chpw_control::{Command, FileName};
 use chpw_invocation::ServeOptions;
@@ -19,7 +23,7 @@ use chpw_reload::{ReloadFault, prepare};
 use chpw_serve::Clock as _;
 use std::alloc::Global;
 use std::fs::{File, Files};
-use std::io::{self, Seek, SeekFrom};
+use std::io::{Seek, SeekFrom};
 use std::net::Net;
 use std::str;
 use std::sync::Wait;
@@ -49,6 +53,8 @@ pub(crate) struct Orders<'s, 'l, R: Wait + Eprint, T> {
     pub rt: &'s R,
     pub time: &'s T,
     pub hall: &'s ServiceContext<'l, R>,
+    /// The text of the configuration in force: the one that was read last, by the start or a reload.
+    pub in_force: &'s [u8],
 }
 
 impl<R: Files<File = File> + Net + Wait + Clock + Eprint + AllocGlobal, T: Clock> BackgroundTask
@@ -89,7 +95,7 @@ impl<R: Files<File = File> + Net + Wait + Clock + Eprint + AllocGlobal, T: Clock
     T,
 > {
     fn carry_out(&self, command: Command) -> Carried
-        ensures carried { IsCarriedOut self.now.hall.now.options.now command result }
+        ensures carried { IsCarriedOut self.now.hall.now.options.now self.now.in_force.now command result }
     {
         match command {
             Command::Reload => self.begin_reload(),
@@ -102,7 +108,11 @@ impl<R: Files<File = File> + Net + Wait + Clock + Eprint + AllocGlobal, T: Clock
     fn begin_reload(&self) -> Carried
         ensures begins { BeginsReload self.now.hall.now.options.now result }
     {
-        match read_anew(self.rt, self.hall.options) {
+        let options = self.hall.options;
+        if let Some(why) = exposure_at(self.rt, options, options.config) {
+            return exposed_answer(self.rt.alloc(), options.config, why);
+        }
+        match read_anew(self.rt, options) {
             Ok(anew) => Carried::AfterClose(AfterClose::Reload(anew)),
             Err(fault) => {
                 let answer = prepare_refusal(self.rt.alloc(), &fault);
@@ -115,15 +125,20 @@ impl<R: Files<File = File> + Net + Wait + Clock + Eprint + AllocGlobal, T: Clock
         ensures reopens { ReopensLog self.now.hall.now.options.now result }
     {
         let options = self.hall.options;
+        if let Some(log) = options.log {
+            if let Some(why) = exposure_at(self.rt, options, log) {
+                return exposed_answer(self.rt.alloc(), log, why);
+            }
+        }
         let now = MachineClock::new(self.time).now();
         let answer = reopen_answer(self.rt.alloc(), self.hall.log.reopen(options, now));
         Carried::Answered(answer_or_empty(self.rt.alloc(), answer))
     }
 
     fn begin_compaction(&self, copy: FileName) -> Carried
-        ensures begins { BeginsCompaction self.now.hall.now.options.now copy result }
+        ensures begins { BeginsCompaction self.now.hall.now.options.now self.now.in_force.now copy result }
     {
-        match begin_compaction(self.rt, self.hall.options, copy) {
+        match begin_compaction(self.rt, self.hall.options, self.in_force, copy) {
             Ok(compaction) => Carried::AfterClose(AfterClose::Compact(compaction)),
             Err(fault) => {
                 let answer = compact_refusal(self.rt.alloc(), &fault);
@@ -131,6 +146,14 @@ impl<R: Files<File = File> + Net + Wait + Clock + Eprint + AllocGlobal, T: Clock
             }
         }
     }
+}
+
+// The answer where strict modes refuse the file at a path.
+fn exposed_answer(alloc: Global, file: &str, why: Exposure) -> Carried
+    ensures refuses { TellsExposed file.now why result }
+{
+    let answer = exposed_refusal(alloc, file, why);
+    Carried::Answered(answer_or_empty(alloc, answer))
 }
 
 // The answer to what is no order.
@@ -159,7 +182,7 @@ fn read_anew<'a, R: Files<File = File> + AllocGlobal>(
     ensures read { IfOk result (IsReadAnew options.now) }
     ensures fault { IfErr result (IsNotReadAnew options.now) }
 {
-    let text = match read_regular(rt, options.config) {
+    let text = match configuration_text(rt, options.config) {
         Ok(text) => text,
         Err(fault) => return Err(PrepareFault::Start(fault)),
     };
@@ -167,7 +190,7 @@ fn read_anew<'a, R: Files<File = File> + AllocGlobal>(
         Ok(config) => config,
         Err(fault) => return Err(unset_fault(rt.alloc(), &text, fault)),
     };
-    let Ok(rules) = rules_of(rt.alloc(), &config, options) else {
+    let Ok(rules) = rules_of(rt.alloc(), &config, text, options) else {
         return Err(PrepareFault::Start(ServeFault::Memory));
     };
     let journal = match open_file(rt, options.journal) {
@@ -178,8 +201,9 @@ fn read_anew<'a, R: Files<File = File> + AllocGlobal>(
         Ok(renewal) => renewal,
         Err(fault) => return Err(PrepareFault::Reload(fault)),
     };
-    let Ok(rest) = rest_of(rt, options.journal, renewal.kept) else {
-        return Err(PrepareFault::Start(ServeFault::CannotRead(options.journal)));
+    let rest = match rest_of(rt, options.journal, renewal.kept) {
+        Ok(rest) => rest,
+        Err(fault) => return Err(PrepareFault::Start(fault)),
     };
     Ok(PendingReload {
         renewed: CheckedReload::of(renewal),
@@ -189,10 +213,18 @@ fn read_anew<'a, R: Files<File = File> + AllocGlobal>(
 }
 
 // The file at a path, to be read from after this many bytes.
-fn rest_of<R: Files<File = File>>(rt: &R, path: &str, kept: u64) -> io::Result<File> {
-    let mut file = File::open(rt, path)?;
-    file.seek(SeekFrom::Start(kept))?;
-    Ok(file)
+fn rest_of<'a, R: Files<File = File>>(
+    rt: &R,
+    path: &'a str,
+    kept: u64,
+) -> Result<File, ServeFault<'a>>
+    ensures fault { IfErr result (IsUnread path.now) }
+{
+    let mut file = open_file(rt, path)?;
+    match file.seek(SeekFrom::Start(kept)) {
+        Ok(_) => Ok(file),
+        Err(error) => Err(unread_fault(path, error)),
+    }
 }
 
 // A fault of the configuration with this text.

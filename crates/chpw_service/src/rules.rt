@@ -1,10 +1,11 @@
 //! What messages are answered by.
-ghost use Rattle.std.specs.Prelude.{◌≡◌, IfOk, map, true};
+ghost use Rattle.std.specs.Prelude.{◌≡◌, IfOk, map, Ok, true};
 ghost use Rattle.krb_msgs.specs.OneAnswer.{AreProtocolKeys};
 ghost use Rattle.chpw_rules.specs.Fitting.{config_fits};
 ghost use Rattle.chpw_messages.specs.Service.{configured, held};
 ghost use Rattle.krb_msgs.specs.declared.private_message.Strictness.TheVariants.{Lenient};
 ghost use Rattle.chpw_messages.specs.declared.versions.Versions.TheVariants.{Both};
+ghost use Rattle.chpw_service.specs.Faults.{Sets};
 ghost use Rattle.chpw_service.specs.Serving.{acceptance_asked};
 
 use chpw_invocation::ServeOptions;
@@ -18,15 +19,21 @@ pub struct Rules {
     pub service: Service,
     /// The most entries of a history.
     pub max_entries: u32,
+    /// The text of the configuration that set these, and that set the principals.
+    pub text: Vec<u8>,
 }
 
-/// The rules of a configuration, and the versions and the strictness of messages that are asked for.
+/// The rules of a configuration with this text, and the versions and the strictness of messages that are asked for.
 pub(crate) fn rules_of(
     alloc: Global,
     config: &Config,
+    text: Vec<u8>,
     options: &ServeOptions<'_>,
 ) -> Result<Rules, AllocError>
     requires fits { config_fits config.now ≡ true }
+    requires sets { Sets text.items (Ok config.now) }
+    ensures text { IfOk result (λ r. r.text ≡ text) }
+    ensures sets { IfOk result (λ r. Sets r.text.items (Ok config.now)) }
     ensures realm { IfOk result (λ r. r.service.realm ≡ config.now.realm) }
     ensures keys { IfOk result (λ r. map held r.service.keys ≡ map configured config.now.service) }
     ensures protocol { IfOk result (λ r. AreProtocolKeys r.service.keys) }
@@ -37,6 +44,7 @@ pub(crate) fn rules_of(
     Ok(Rules {
         service: service_for(service, options),
         max_entries: config.max_entries,
+        text,
     })
 }
 

@@ -12,17 +12,18 @@ ghost use Rattle.chpw_service.specs.declared.fault.ServeFault.TheVariants.{Canno
 use crate::control_socket::{control_socket, take_away};
 use crate::facts::time_of;
 use crate::fault::ServeFault;
-use crate::files::{is_shared, read_seed, read_settings};
+use crate::files::{Configuration, configuration_of, read_seed};
 use crate::followed::{ControlTerms, FollowerTerms, JournalLength, journal_length};
 use crate::histories::{Opened, Opening, ServiceContext, first_opening, start_desk};
 use crate::logging::{Log, LogLines, log_of};
 use crate::notices::Notice;
 use crate::observers::{Logging, log_observers};
+use crate::ownership::{is_shared, own_ids, standing_at};
 use crate::raising::raise_where_asked;
 use crate::rules::{Rules, rules_of};
 use crate::running::{serve_fault_of, serve_from};
 use crate::service_manager::{notify_ready, notify_stopping};
-use crate::shared_files::refuse_shared;
+use crate::shared_files::refuse_exposed;
 use crate::starting::open_table;
 use chpw_book::{Desk, DeskName, Pass};
 use chpw_invocation::{ConnectionLimit, ServeOptions};
@@ -40,7 +41,7 @@ use std::time::Clock;
 
 /// Serves so many connections on 127.0.0.1, the messages of connection i (from 0) by worker i modulo their number,
 /// one after the other. The configuration is read first, then the seed; with strict modes the start is refused then if
-/// others may read or write its files; then the log is opened if there is one, and the journal is read; then the
+/// others may read, write or replace its files; then the log is opened if there is one, and the journal is read; then the
 /// iteration count of new keys is raised if that is asked for, and the service listens at the port. A torn tail that
 /// was cut off the journal is reported on standard error. Printed are the result of the raise, `listening on
 /// 127.0.0.1:N` before a connection is accepted, when the service manager is told too, and `entries N changes N` for
@@ -81,11 +82,11 @@ pub fn serve_by<
 >(rt: &R, time: &T, options: ServeOptions<'a>) -> Result<(), ServeFault<'a>>
     ensures fault { IfErr result (IsOfService options.entry) }
 {
-    let config = read_settings(rt, options.config)?;
+    let Configuration { config, text } = configuration_of(rt, options.config)?;
     let seed = read_seed(rt, options.seed)?;
-    refuse_shared(rt, &options)?;
+    refuse_exposed(rt, &options)?;
     let log = log_of(rt, rt.alloc(), &options)?;
-    let Ok(rules) = rules_of(rt.alloc(), &config, &options) else {
+    let Ok(rules) = rules_of(rt.alloc(), &config, text, &options) else {
         return Err(ServeFault::Memory);
     };
     let mut clock = MachineClock::new(time);
@@ -126,7 +127,7 @@ pub fn serve_by<
 // Reports which of its files others may read or write.
 fn tell_shared<R: Files + Wait + Eprint>(rt: &R, log: &Log<'_, R>, options: &ServeOptions<'_>) {
     for file in [options.config, options.seed, options.journal] {
-        if is_shared(rt, file) {
+        if is_shared(own_ids(), standing_at(rt, file)) {
             log.tell(Notice::Shared(file));
         }
     }

@@ -9,10 +9,10 @@ ghost use Rattle.chpw_report.specs.Configurations.{config_held};
 ghost use Rattle.chpw_report.specs.Held.{IsHeld};
 ghost use Rattle.chpw_journal.specs.declared.fault.RestoreFault.TheVariants.{Memory as NoMemory};
 ghost use Rattle.chpw_service.specs.Faults.{IsLate, IsOfBytes, IsOfJournal, IsOfRecords, Sets, report_fault, restore_fault};
-ghost use Rattle.chpw_service.specs.Telling.{IsOfTable, IsTold, Tells};
+ghost use Rattle.chpw_service.specs.Telling.{IsOfTable, IsOfText, IsTold, Tells, TellsOf};
 
 use crate::fault::ServeFault;
-use crate::files::{open_file, read_file, settings};
+use crate::files::{configuration_text, open_file, settings};
 use chpw_invocation::{TableForm, TableOptions};
 use chpw_journal::RestoreFault;
 use chpw_report::{Form, HeldTable, ReportFault, held_from, write_configuration, write_report};
@@ -39,7 +39,7 @@ pub fn tell_table<'a, R: Files<File = File> + Print + Eprint + AllocGlobal>(
 }
 
 /// Writes the report of the table that these files hold; returns after how many bytes of the journal a torn record
-/// stands, if there is one. A directory, and a journal that doesn't exist, can't be read.
+/// stands, if there is one. What isn't a regular file can't be read, nor can a journal that doesn't exist.
 pub fn write_table<'a, R: Files<File = File> + AllocGlobal, W: Write>(
     rt: &R,
     options: TableOptions<'a>,
@@ -49,15 +49,29 @@ pub fn write_table<'a, R: Files<File = File> + AllocGlobal, W: Write>(
         × Appends (W.contents writer.old) (W.contents writer.new) text) }
     ensures fault { IfErr result (IsOfTable options.entry) }
 {
+    let text = configuration_text(rt, options.config)?;
+    write_table_of(rt, &text, options.form, options.journal, writer)
+}
+
+/// The same of the table that a configuration with this text and a journal hold.
+pub(crate) fn write_table_of<'a, R: Files<File = File> + AllocGlobal, W: Write>(
+    rt: &R,
+    text: &[u8],
+    form: TableForm,
+    journal: &'a str,
+    writer: &mut W,
+) -> Result<Option<u64>, ServeFault<'a>>
+    ensures written { IfOk result (λ torn. (report : List ℕ) × TellsOf text.now form torn report
+        × Appends (W.contents writer.old) (W.contents writer.new) report) }
+    ensures fault { IfErr result (IsOfText text.now journal.now) }
+{
     let alloc = rt.alloc();
-    let file = read_file(rt, options.config)?;
-    let bytes = file.as_slice();
-    let config = settings(alloc, bytes)?;
+    let config = settings(alloc, text)?;
     let Ok(realm) = config.realm.clone() else {
         return Err(ServeFault::Memory);
     };
-    let held = held_table(rt, config, options.journal)?;
-    tell(alloc, options.form, bytes, realm.as_slice(), &held, writer)?;
+    let held = held_table(rt, config, journal)?;
+    tell(alloc, form, text, realm.as_slice(), &held, writer)?;
     Ok(held.torn_behind)
 }
 
