@@ -17,8 +17,8 @@ After=krb5-kdc.service krb5-admin-server.service
 Type=oneshot
 ExecStart=/bin/sh /opt/try/inside
 ExecStopPost=/usr/bin/systemctl --no-block poweroff
-StandardOutput=file:/opt/try/output
-StandardError=file:/opt/try/output
+StandardOutput=append:/opt/try/output
+StandardError=append:/opt/try/output
 TimeoutStartSec=300
 
 [Install]
@@ -61,6 +61,8 @@ check "kadmind gives it up" systemctl restart krb5-admin-server
 systemctl reset-failed $S
 check "start" systemctl start $F $S
 check "it listens" says $S "listening on 127.0.0.1:464"
+check "no process of the service's user may trace it" sh -c '[ "$(stat -c %u /proc/'"$(pid $S)"'/mem)" = 0 ]'
+for it in $S $F; do check "$it: its system calls are filtered" grep -q "Seccomp:.2" "/proc/$(pid $it)/status"; done
 check "the follower runs" says $F "principals 2, set 0, failed 0"
 check "the files are those of the start by hand" files
 check "kpasswd" changed alice Old-pass1 New-pass1

@@ -131,6 +131,7 @@ class Steps:
         process = self.root.start("sh", "-c", f"umask 022; exec {command}")
         self.tell("by hand: it runs", waited(lambda: self.status().get("journal") == "good"))
         self.by_hand = self.files()
+        self.tell("by hand: no process of its user may trace it", untraced(process.pid))
         stopped = self.root.run("chpw_server", "control", "--socket", "/run/boddrelyn/control", "stop")
         self.tell("by hand: it stops", (stopped.returncode, process.wait(60)), (0, 0))
         for file in (JOURNAL, LOG):
@@ -145,8 +146,9 @@ class Steps:
         self.tell("limits: CAP_NET_BIND_SERVICE alone",
                   [re.search(rf"{it}:\s+(\w+)", status)[1].lstrip("0") for it in ("CapEff", "CapBnd", "CapAmb")], ["400"] * 3)
         self.tell("limits: no new privileges", re.search(r"NoNewPrivs:\s+(\d)", status)[1], "1")
-        found = [re.search(rf"{it}\s+(\d+)", limits)[1] for it in ("Max open files", "Max core file size")]
-        self.tell("limits: open files, core", found, [str(self.service().limit("LimitNOFILE")), "0"])
+        found = [re.search(rf"{it}\s+(\w+)", limits)[1] for it in ("Max open files", "Max core file size", "Max file size")]
+        self.tell("limits: open files, core, file size", found, [str(self.service().limit("LimitNOFILE")), "1", "unlimited"])
+        self.tell("limits: no process of its user may trace it", untraced(pid))
         pid = self.root.unit(self.follower).process.pid
         status = open(f"/proc/{pid}/status", encoding="ascii").read()
         self.tell("limits: the follower's capabilities", re.search(r"CapEff:\s+(\w+)", status)[1].lstrip("0"), "5")
@@ -287,6 +289,11 @@ def waited(is_so, seconds=20):
             return True
         time.sleep(0.1)
     return False
+
+
+def untraced(pid):
+    """Whether the process can't be traced by others of its user: its memory is root's."""
+    return pathlib.Path(f"/proc/{pid}/mem").stat().st_uid == 0
 
 
 def compile_ahead(folder):
