@@ -80,6 +80,10 @@ check "upgrade: it answers" wait_for chpw_server control --socket /run/boddrelyn
 A=$(pid $S); kill -9 $A
 check "a kill: it is started again" wait_for new_pid $S $A
 check "a kill: it answers" wait_for chpw_server control --socket /run/boddrelyn/control status
+systemctl reset-failed $S
+A=$(pid $S); runuser -u boddrelyn -- chpw_server control --socket /run/boddrelyn/control stop
+check "an end with status 0: it is started again" wait_for new_pid $S $A
+check "an end with status 0: it answers" wait_for chpw_server control --socket /run/boddrelyn/control status
 check "stop" systemctl stop $S $F
 check "stop: with status 0" is $S ExecMainStatus 0
 check "stop: the follower with status 0" is $F ExecMainStatus 0

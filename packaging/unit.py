@@ -140,11 +140,13 @@ class Unit:
 
     def run(self, key):
         """Runs the commands of that name, one after the other; the first status that isn't 0."""
-        for command in self.values.get(key, ()):
+        for line in self.values.get(key, ()):
+            command = line.removeprefix("-")
             with self.output.open("a") as out:
                 status = subprocess.run(self.launcher(command), env=self.environment(), stdin=subprocess.DEVNULL,
                                         stdout=out, stderr=out, timeout=60, check=False).returncode
-            if status:
+            # with a dash before it its status counts as 0
+            if status and command == line:
                 return status
         return 0
 
