@@ -71,7 +71,7 @@ SCRIPTS = (
     Script(("replays.sh",), ("500",), "replays refused"),
     Script(("sync.sh", *OF_THE_PROGRAM), (*OF_THE_PROGRAM, "--count", "3", "--changers", "1"), "a slow sync"),
     Script(("reload.sh", *OF_THE_PROGRAM), (*OF_THE_PROGRAM, "--principals", "100", "--reloads", "2"), "a reload"),
-    Script(("siege.sh", *OF_THE_PROGRAM), (*OF_THE_PROGRAM, *"--requests 20 --flooded 3 --silent 50 --flood 5 2 6".split()),
+    Script(("siege.sh", *OF_THE_PROGRAM), (*OF_THE_PROGRAM, *"--requests 20 --flooded 3 --silent 50 --flood 5 --seconds 2 2 6 8".split()),
            "hostile clients"),
     *followers(),
 )

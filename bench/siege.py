@@ -13,6 +13,15 @@ clients, which are processes of their own and have stood for two seconds. The si
     6  1,000 that send, as fast as they can, the message that costs the most to refuse: one of 65,535 bytes whose
        ticket is forged and nearly as long, so that all of it is deciphered
 
+    7       as many silent connections as there are places
+    8, 9    one sender of random datagrams, and three, as fast as the system takes them
+    10, 11  the same of whole frames without a request
+    12      three senders of requests whose ticket is forged
+
+7 to 12 (junk.py) are compared with MIT's kadmind beside the same, if Debian's packages can be had, and not with peace:
+clients change passwords over TCP and over UDP, where each request is sent once. The limits: over TCP each is answered
+within 100 ms; over UDP no fewer than by kadmind. They need gcc.
+
 A hostile connection that has ended comes again a second later. The requests of siege 4 don't open, so that what is
 measured isn't the memory of the history; those of siege 5 do. There an honest request may be told `history full`;
 it is asked again, and its time goes on.
@@ -776,6 +785,9 @@ def raise_files(wanted):
 
 
 def main():
+    # it stands on this module
+    import junk
+
     parser = Parser(__doc__, "limits N failed M", "a limit is passed")
     parser.add_program()
     parser.add_argument("--clients", type=int, help=f"of serve; where it isn't given {CLIENTS} are taken for its own")
@@ -788,15 +800,21 @@ def main():
     parser.add_argument("--slow", type=int, default=200, help="connections that send a byte a second")
     parser.add_argument("--mute", type=int, default=16, help="connections that read no reply")
     parser.add_argument("--flood", type=int, default=1_000, help="connections of the flood")
-    parser.add_argument("sieges", nargs="*", type=int, metavar="SIEGE", help="1 to 6; all where none is given")
+    parser.add_argument("--seconds", type=int, default=10, help="of each server in sieges 7 to 12")
+    parser.add_argument("--short", action="store_true", help="clients of sieges 7 to 12 ask for passwords that are too short")
+    parser.add_argument("sieges", nargs="*", type=int, metavar="SIEGE", help="1 to 12; all where none is given")
     options = parser.parse_args()
-    if not set(options.sieges) <= set(SIEGES):
-        parser.error("a siege is one of 1 to 6")
+    wanted = options.sieges or [*SIEGES, *junk.SIEGES]
+    if not set(wanted) <= SIEGES.keys() | junk.SIEGES.keys():
+        parser.error("a siege is one of 1 to 12")
     hostile = options.silent + options.slow + options.mute
     raise_files(max(hostile, options.flood, options.clients or CLIENTS) + 64)
     report = Report("limits {} failed {}")
-    for number in options.sieges or SIEGES:
-        measure(report, options, number)
+    for number in wanted:
+        if number in SIEGES:
+            measure(report, options, number)
+    if of_junk := [number for number in wanted if number in junk.SIEGES]:
+        junk.measure(report, options, of_junk)
     sys.exit(report.status())
 
 

@@ -35,6 +35,20 @@ def siege(lines):
     return ["Siege", "Hostile", "Changes a second", "Median, ms", "Longest, ms", "MiB", "Files", "`status`, 99th, ms"], rows
 
 
+def junk(lines):
+    """What each server answers beside junk, over TCP and over UDP."""
+    rows, of_server = [], r"^\s*([\w ]+): TCP (.*); UDP (.*); ([\d,]+) datagrams of junk a second$"
+    for (number, whom), text in parts(r"junk (\d+): (.*)", lines):
+        for name, tcp, udp, sent in re.findall(of_server, text, re.MULTILINE):
+            cells = []
+            for of in tcp, udp:
+                answered, asked = re.match(r"(\d+) of (\d+) answered", of).groups()
+                spread = re.search(r"median ([\d.]+) ms, longest ([\d.]+) ms", of)
+                cells += [f"{answered} of {asked}", ", ".join(spread.groups()) if spread else "-"]
+            rows.append([number, whom, name, *cells, sent])
+    return ["Siege", "Hostile", "Server", "TCP", "ms", "UDP", "ms", "Junk a second"], rows
+
+
 def sync(lines):
     """Of each request, by how many clients change passwords meanwhile."""
     cells = re.findall(r"^(\d+) changing: (.*): median ([\d.]+) ms, longest ([\d.]+) ms$", "\n".join(lines), re.MULTILINE)
@@ -84,6 +98,11 @@ TABLES = {
                  "had.", siege),
     "sync.sh": ("A slow sync", "Every sync takes 20 ms, and others change passwords without a pause. "
                 "Milliseconds, median and longest of 40.", sync),
+}
+# a second table of a script's
+MORE = {
+    "siege.sh": ("Answers to honest clients, of those that asked; milliseconds, median and longest. Over UDP each request is one "
+                 "datagram, which is sent once.", junk),
 }
 FOLLOWER = "follower.py"
 OF_FOLLOWERS = ("The follower", "10,000 principals. Milliseconds to the follower's answer: median, 99th, longest of 100. "

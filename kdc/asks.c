@@ -60,7 +60,7 @@ static const char *listen_at(struct asks *asks, const struct sockaddr_un *addres
         return strerror(errno);
     asks->path = address->sun_path;
     if (owner != geteuid() && lchown(address->sun_path, owner, (gid_t)-1) < 0)
-        return "it can't be given to the configuration's owner";
+        return "it can't be given to its owner";
     return listen(asks->listener, MOST_CONNECTIONS) < 0 ? strerror(errno) : NULL;
 }
 

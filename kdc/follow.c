@@ -3,6 +3,7 @@
 #include <errno.h>
 #include <fcntl.h>
 #include <poll.h>
+#include <pwd.h>
 #include <signal.h>
 #include <stdlib.h>
 #include <string.h>
@@ -139,19 +140,52 @@ static void hide_memory(void)
     prctl(PR_SET_DUMPABLE, 0);
 }
 
+/* the user of that name, or of that number where no name is the same; whether there is one */
+static int is_user(const char *word, uid_t *user)
+{
+    const struct passwd *found = getpwnam(word);
+    unsigned long long number;
+    char *end;
+
+    if (found != NULL) {
+        *user = found->pw_uid;
+        return 1;
+    }
+    errno = 0;
+    number = strtoull(word, &end, 10);
+    /* the greatest number stands for no user */
+    if (word[0] < '0' || word[0] > '9' || *end != '\0' || errno != 0 || number >= (uid_t)-1)
+        return 0;
+    *user = (uid_t)number;
+    return 1;
+}
+
+/* who may connect to the socket: the service, as the user who is named, or as the configuration's owner; NULL, or why there
+   is none, to be freed */
+static char *find_owner(const struct follower *follower, uid_t *owner)
+{
+    const struct options *options = follower->options;
+    struct stat config;
+
+    if (options->socket_owner != NULL)
+        return is_user(options->socket_owner, owner) ? NULL : text_of("%s: no such user", options->socket_owner);
+    if (fstat(follower->pass.lock, &config) < 0)
+        return text_of("%s: %s", options->config, strerror(errno));
+    *owner = config.st_uid;
+    return NULL;
+}
+
 /* what has to be there before it runs: the lock, and the socket; NULL, or why not, to be freed */
 static char *begin(struct follower *follower)
 {
     const struct options *options = follower->options;
-    struct stat config;
+    uid_t owner = 0;
     char *why = pass_lock(&follower->pass);
 
     if (why != NULL || options->socket == NULL || options->once)
         return why;
-    /* the service asks, to whom the configuration belongs */
-    if (fstat(follower->pass.lock, &config) < 0)
-        return text_of("%s: %s", options->config, strerror(errno));
-    return asks_open(&follower->asks, options->socket, config.st_uid);
+    why = find_owner(follower, &owner);
+    return why != NULL ? why : asks_open(&follower->asks, options->socket, owner);
 }
 
 static void end(struct follower *follower)

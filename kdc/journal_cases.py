@@ -428,7 +428,7 @@ class JournalCases(Cases):
                 self.tell("  told", second.all_lines, [f"another follower has {files.configuration}"])
                 self.tell(f"ends by {number.name}: status", follower.stop(number), 0)
                 self.tell("  the socket is gone", files.socket.exists(), False)
-            for words in ["--every", "0"], ["--socket"], ["more"], ["--help"], ["--realm", ""]:
+            for words in ["--every", "0"], ["--socket"], ["--socket-owner"], ["more"], ["--help"], ["--realm", ""]:
                 wrong = Follower(self.realm, files, *words)
                 self.tell(f"{words}: status", wrong.process.wait(timeout=20), 2)
                 wrong.reader.join()

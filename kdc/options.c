@@ -10,7 +10,8 @@
 static void tell_usage(const char *name)
 {
     tell("usage: %s --config FILE --journal FILE --realm REALM [--program PROGRAM]", name);
-    tell("           [--socket SOCKET] [--database DATABASE] [--every SECONDS] [--create] [--overwrite] [--once]");
+    tell("           [--socket SOCKET] [--socket-owner USER] [--database DATABASE] [--every SECONDS]");
+    tell("           [--create] [--overwrite] [--once]");
 }
 
 /* the place of the option's value; NULL where it has none, or is none */
@@ -27,6 +28,8 @@ static const char **place_of(struct options *options, int letter)
         return &options->program;
     case 's':
         return &options->socket;
+    case 'u':
+        return &options->socket_owner;
     case 'd':
         return &options->database;
     default:
@@ -70,6 +73,7 @@ int options_read(struct options *options, const char *name, int count, char **wo
                                         {"realm", required_argument, NULL, 'r'},
                                         {"program", required_argument, NULL, 'p'},
                                         {"socket", required_argument, NULL, 's'},
+                                        {"socket-owner", required_argument, NULL, 'u'},
                                         {"database", required_argument, NULL, 'd'},
                                         {"every", required_argument, NULL, 'e'},
                                         {"create", no_argument, NULL, 'n'},

@@ -4,8 +4,9 @@
 
 struct options {
     const char *config, *journal, *realm;
-    /* the service's program; the socket, or NULL; the KDC's database, or NULL for the KDC's own choice */
-    const char *program, *socket, *database;
+    /* the service's program; the socket, or NULL; the name or number of the user to whom it is given, or NULL for the
+       configuration's owner; the KDC's database, or NULL for the KDC's own choice */
+    const char *program, *socket, *socket_owner, *database;
     /* principals that the KDC lacks are made; its keys are replaced whatever their version is */
     int create, overwrite;
     /* one whole pass, and no more */

@@ -2,6 +2,7 @@
 
 import contextlib
 import os
+import pwd
 import signal
 import socket
 import stat
@@ -69,7 +70,7 @@ exec {1} "$@"
 class SocketCases(Cases):
     def run(self):
         for case in (
-            self.file, self.stale, self.not_ours, self.garbage, self.numbers, self.several,
+            self.file, self.owners, self.stale, self.not_ours, self.garbage, self.numbers, self.several,
             self.places, self.silent_reader, self.flood, self.halves, self.slow_pass, self.killed,
             self.replaced, self.replaced_unread, self.replaced_first, self.replaced_twice,
         ):
@@ -95,6 +96,27 @@ class SocketCases(Cases):
                 found = files.socket.lstat()
                 owner = found.st_uid, oct(found.st_mode & 0o7777)
                 self.tell("another's configuration: the socket's owner and mode", owner, (NOBODY, "0o600"))
+
+    def owners(self, files, name):
+        """The user of `--socket-owner` has the socket, whoever the configuration belongs to."""
+        own = os.geteuid()
+        words = [pwd.getpwuid(own).pw_name, str(own)]
+        if own == 0:
+            os.chown(files.configuration, NOBODY, -1)
+            words += ["nobody", str(NOBODY)]
+        for word in words:
+            wanted = own if word in words[:2] else NOBODY
+            with self.following(files, "--socket-owner", word) as follower:
+                found = files.socket.lstat()
+                owner = found.st_uid, oct(found.st_mode & 0o7777)
+                self.tell(f"--socket-owner {word}: the socket's owner and mode", owner, (wanted, "0o600"))
+                self.tell("  a question is answered", follower.ask(self.record(files, name)))
+        for word in "", "nobody at all", "-1", "+1", "1 ", "4294967295", "4294967296", "99999999999999999999":
+            follower = Follower(self.realm, files, "--socket-owner", word)
+            self.tell(f"--socket-owner '{word}': status", follower.process.wait(timeout=20), 1)
+            follower.reader.join()
+            self.tell("  told", follower.all_lines, [f"{word}: no such user"])
+            self.tell("  a socket", files.socket.exists(), False)
 
     def stale(self, files, name):
         """One that a follower left which was killed."""

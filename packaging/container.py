@@ -17,8 +17,8 @@ After=krb5-kdc.service krb5-admin-server.service
 Type=oneshot
 ExecStart=/bin/sh /opt/try/inside
 ExecStopPost=/usr/bin/systemctl --no-block poweroff
-StandardOutput=file:/opt/try/output
-StandardError=file:/opt/try/output
+StandardOutput=append:/opt/try/output
+StandardError=append:/opt/try/output
 TimeoutStartSec=300
 
 [Install]
@@ -61,6 +61,8 @@ check "kadmind gives it up" systemctl restart krb5-admin-server
 systemctl reset-failed $S
 check "start" systemctl start $F $S
 check "it listens" says $S "listening on 127.0.0.1:464"
+check "no process of the service's user may trace it" sh -c '[ "$(stat -c %u /proc/'"$(pid $S)"'/mem)" = 0 ]'
+for it in $S $F; do check "$it: its system calls are filtered" grep -q "Seccomp:.2" "/proc/$(pid $it)/status"; done
 check "the follower runs" says $F "principals 2, set 0, failed 0"
 check "the files are those of the start by hand" files
 check "kpasswd" changed alice Old-pass1 New-pass1
@@ -78,6 +80,10 @@ check "upgrade: it answers" wait_for chpw_server control --socket /run/boddrelyn
 A=$(pid $S); kill -9 $A
 check "a kill: it is started again" wait_for new_pid $S $A
 check "a kill: it answers" wait_for chpw_server control --socket /run/boddrelyn/control status
+systemctl reset-failed $S
+A=$(pid $S); runuser -u boddrelyn -- chpw_server control --socket /run/boddrelyn/control stop
+check "an end with status 0: it is started again" wait_for new_pid $S $A
+check "an end with status 0: it answers" wait_for chpw_server control --socket /run/boddrelyn/control status
 check "stop" systemctl stop $S $F
 check "stop: with status 0" is $S ExecMainStatus 0
 check "stop: the follower with status 0" is $F ExecMainStatus 0

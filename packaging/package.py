@@ -56,7 +56,8 @@ class Package:
     def fill(self, program):
         """All files but those of DEBIAN/ that speak of the others."""
         self.program = self.folder / "usr/sbin" / (f"follow_{self.kind}" if self.kind else "chpw_server")
-        self.put(self.program.relative_to(self.folder), program.read_bytes(), 0o755)
+        # nobody may trace a program that may be run and not read, and it leaves no core (prctl(2), PR_SET_DUMPABLE)
+        self.put(self.program.relative_to(self.folder), program.read_bytes(), 0o755 if self.kind else 0o711)
         self.put(f"etc/default/{self.name}", (HERE / "debian" / f"{self.name}.default").read_bytes())
         self.put(f"{UNITS}/{self.name}.service", (HERE / "units" / f"{self.name}.service").read_bytes())
         if self.kind:

@@ -10,6 +10,7 @@ from root import Failed
 HERE = pathlib.Path(__file__).resolve().parent
 FOLDERS = ("/etc/boddrelyn", "/var/lib/boddrelyn", "/var/log/boddrelyn", "/run/boddrelyn", "/run/boddrelyn-follow")
 SERVICE, JOURNAL, LOG = "boddrelyn", "/var/lib/boddrelyn/journal", "/var/log/boddrelyn/log"
+CONFIGURATION = "/etc/boddrelyn/realm.toml"
 # seconds that a client is ahead, so that it isn't refused in the five minutes after a start
 AHEAD = 298
 
@@ -72,8 +73,8 @@ class Steps:
         self.tell("install: dpkg", done.returncode, 0) or print(done.stdout)
         passwd = self.root.must("getent", "passwd", "boddrelyn").strip().split(":")
         self.tell("install: the user can't log in", passwd[-1], "/usr/sbin/nologin")
-        self.tell("install: the directories are the user's alone", self.files(*FOLDERS[:4]),
-                  sorted(f"drwx------ boddrelyn:boddrelyn {it}" for it in FOLDERS[:4]))
+        self.tell("install: the configuration's directory is root's, and the others are the user's alone", self.files(*FOLDERS[:4]),
+                  sorted(["drwxr-x--- root:boddrelyn /etc/boddrelyn", *(f"drwx------ boddrelyn:boddrelyn {it}" for it in FOLDERS[1:4])]))
         self.tell("install: nothing was started", [it for it in self.root.asked if "start" in it], [])
         for name in (SERVICE, self.follower):
             link = self.root.path(f"/etc/systemd/system/multi-user.target.wants/{name}.service")
@@ -101,9 +102,11 @@ class Steps:
         self.tell("start: the follower compares the table", self.root.unit(self.follower).says("principals 2, set 0, failed 0"))
         self.by_unit = self.files()
         self.tell("start: a start by hand leaves the same files", self.by_hand, self.by_unit)
-        wanted = {JOURNAL, LOG, "/run/boddrelyn/control", "/etc/boddrelyn/realm.toml", "/run/boddrelyn-follow/socket"}
+        wanted = {JOURNAL, LOG, "/run/boddrelyn/control", "/run/boddrelyn-follow/socket"}
         private = {line.split()[2] for line in self.files() if re.match(r"[-s]rw------- boddrelyn:", line)}
-        self.tell("start: configuration, journal, log and sockets are the user's alone", private, wanted)
+        self.tell("start: journal, log and sockets are the user's alone", private, wanted)
+        self.tell("start: the configuration is root's, and the service may read it", self.files(CONFIGURATION),
+                  [f"-rw-r----- root:boddrelyn {CONFIGURATION}"])
 
     def port_is_taken(self, start):
         self.root.run("sh", "-c", start)
@@ -128,6 +131,7 @@ class Steps:
         process = self.root.start("sh", "-c", f"umask 022; exec {command}")
         self.tell("by hand: it runs", waited(lambda: self.status().get("journal") == "good"))
         self.by_hand = self.files()
+        self.tell("by hand: no process of its user may trace it", untraced(process.pid))
         stopped = self.root.run("chpw_server", "control", "--socket", "/run/boddrelyn/control", "stop")
         self.tell("by hand: it stops", (stopped.returncode, process.wait(60)), (0, 0))
         for file in (JOURNAL, LOG):
@@ -142,8 +146,9 @@ class Steps:
         self.tell("limits: CAP_NET_BIND_SERVICE alone",
                   [re.search(rf"{it}:\s+(\w+)", status)[1].lstrip("0") for it in ("CapEff", "CapBnd", "CapAmb")], ["400"] * 3)
         self.tell("limits: no new privileges", re.search(r"NoNewPrivs:\s+(\d)", status)[1], "1")
-        found = [re.search(rf"{it}\s+(\d+)", limits)[1] for it in ("Max open files", "Max core file size")]
-        self.tell("limits: open files, core", found, [str(self.service().limit("LimitNOFILE")), "0"])
+        found = [re.search(rf"{it}\s+(\w+)", limits)[1] for it in ("Max open files", "Max core file size", "Max file size")]
+        self.tell("limits: open files, core, file size", found, [str(self.service().limit("LimitNOFILE")), "1", "unlimited"])
+        self.tell("limits: no process of its user may trace it", untraced(pid))
         pid = self.root.unit(self.follower).process.pid
         status = open(f"/proc/{pid}/status", encoding="ascii").read()
         self.tell("limits: the follower's capabilities", re.search(r"CapEff:\s+(\w+)", status)[1].lstrip("0"), "5")
@@ -171,8 +176,10 @@ class Steps:
         file = self.root.path(f"/etc/default/{SERVICE}")
         file.write_text(file.read_text().replace("WORKERS=4", "WORKERS=2"))
         before, journal, pids = self.files(), self.root.path(JOURNAL).read_bytes(), self.pids()
+        self.former_owner()
         done = self.root.run("dpkg", "-i", *files)
         self.tell("upgrade: dpkg", done.returncode, 0) or print(done.stdout)
+        self.tell("upgrade: the configuration becomes root's", f"boddrelyn: {CONFIGURATION} belongs to root now" in done.stdout)
         self.tell("upgrade: both are restarted, and run", [new not in pids and new for new in self.pids()], self.pids())
         self.tell("upgrade: it listens again", self.service().says("listening on 127.0.0.1:464"))
         self.tell("upgrade: no file changes mode or owner", self.files(), before)
@@ -181,6 +188,37 @@ class Steps:
         say = self.realm.kpasswd("alice", "New-pass1", "Newer-pass1")
         self.tell("upgrade: quiet for five minutes", "clock skew" in say.lower()) or print(say)
         self.changes_ahead("New-pass1", "Newer-pass1", 3)
+
+    def former_owner(self):
+        """The configuration and its directory become what they were in earlier packages."""
+        self.former_owner_of_the_folder()
+        self.root.must("chown", "boddrelyn:boddrelyn", CONFIGURATION)
+        self.root.must("chmod", "600", CONFIGURATION)
+
+    def left_by_the_former_owner(self):
+        """What the service's user could put there while the directory was its own is named, not followed, and not given away."""
+        for name in (SERVICE, self.follower):
+            self.root.must("systemctl", "stop", name)
+        self.root.must("sh", "-c", "mkdir /root/own && umask 077 && echo mine > /root/own/file && cp -p /root/own/file /root/own/other")
+        kept = f"cp {CONFIGURATION} /root/own/realm.toml"
+        link = f"ln -sf /root/own/file {CONFIGURATION}; chown -h boddrelyn: {CONFIGURATION}"
+        # what a user could do who may write the file, or where links aren't protected
+        second_name = f"chown boddrelyn: /root/own/other; ln -f /root/own/other {CONFIGURATION}"
+        for what, commands in (("a link", link), ("a file with a second name", second_name)):
+            self.root.must("sh", "-eu", "-c", f"{kept}; {commands}")
+            own = self.files("/root/own")
+            self.former_owner_of_the_folder()
+            done = self.root.run("/var/lib/dpkg/info/boddrelyn.postinst", "configure", "0.1-1")
+            self.tell(f"upgrade over {what}: status", done.returncode, 0) or print(done.stdout)
+            self.tell(f"upgrade over {what}: it is named", f"left as it is: {CONFIGURATION}, which belongs to boddrelyn" in done.stdout)
+            self.tell(f"upgrade over {what}: root's files stay", self.files("/root/own"), own)
+            self.tell(f"upgrade over {what}: and what is in them", self.root.must("cat", "/root/own/file", "/root/own/other"), "mine\n" * 2)
+            self.root.must("sh", "-eu", "-c", f"rm {CONFIGURATION}; install -g boddrelyn -m 640 /root/own/realm.toml {CONFIGURATION}")
+        self.root.must("rm", "-r", "/root/own")
+
+    def former_owner_of_the_folder(self):
+        self.root.must("chown", "boddrelyn:boddrelyn", "/etc/boddrelyn")
+        self.root.must("chmod", "700", "/etc/boddrelyn")
 
     def changes_ahead(self, old, new, kvno):
         """By a client whose clock is ahead of the quiet time."""
@@ -251,6 +289,11 @@ def waited(is_so, seconds=20):
             return True
         time.sleep(0.1)
     return False
+
+
+def untraced(pid):
+    """Whether the process can't be traced by others of its user: its memory is root's."""
+    return pathlib.Path(f"/proc/{pid}/mem").stat().st_uid == 0
 
 
 def compile_ahead(folder):

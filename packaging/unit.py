@@ -15,8 +15,8 @@ import time
 
 PLACES = ("usr/lib/systemd/system", "etc/systemd/system")
 FOLDERS = {"StateDirectory": "var/lib", "LogsDirectory": "var/log", "RuntimeDirectory": "run"}
-LIMITS = {"LimitNOFILE": "--nofile", "LimitCORE": "--core"}
-KINDS = {"LimitNOFILE": resource.RLIMIT_NOFILE, "LimitCORE": resource.RLIMIT_CORE}
+LIMITS = {"LimitNOFILE": "--nofile", "LimitCORE": "--core", "LimitFSIZE": "--fsize"}
+KINDS = {"LimitNOFILE": resource.RLIMIT_NOFILE, "LimitCORE": resource.RLIMIT_CORE, "LimitFSIZE": resource.RLIMIT_FSIZE}
 
 
 def settings(text):
@@ -83,13 +83,18 @@ class Unit:
 
     def limit(self, key):
         """What a limit becomes: the unit's, or, where the right to raise it is missing, the nearest, as with systemd."""
-        value = int(self.one(key))
+        value = resource.RLIM_INFINITY if self.one(key) == "infinity" else int(self.one(key))
         highest = resource.getrlimit(KINDS[key])[1]
-        if highest == resource.RLIM_INFINITY or value <= highest:
+        if value == highest or highest == resource.RLIM_INFINITY or 0 <= value <= highest:
             return value
-        words = ["prlimit", f"{LIMITS[key]}={value}:{value}", "true"]
+        words = ["prlimit", self.limit_word(key, value), "true"]
         may = subprocess.run(words, stderr=subprocess.DEVNULL, check=False).returncode == 0
         return value if may else highest
+
+    @staticmethod
+    def limit_word(key, value):
+        word = "unlimited" if value == resource.RLIM_INFINITY else value
+        return f"{LIMITS[key]}={word}:{word}"
 
     def as_user(self):
         """The command by which another one runs as the unit's user, with its limits."""
@@ -103,7 +108,7 @@ class Unit:
             words += [f"--inh-caps={chosen}", f"--ambient-caps={chosen}"]
         if self.one("NoNewPrivileges") == "yes":
             words.append("--no-new-privs")
-        limits = [f"{option}={self.limit(key)}:{self.limit(key)}" for key, option in LIMITS.items() if self.one(key)]
+        limits = [self.limit_word(key, self.limit(key)) for key in LIMITS if self.one(key)]
         return (["prlimit", *limits, "--"] if limits else []) + words + [
             "sh", "-c", 'umask "$1"; shift; exec "$@"', "sh", self.one("UMask", "0022")]
 
@@ -135,11 +140,13 @@ class Unit:
 
     def run(self, key):
         """Runs the commands of that name, one after the other; the first status that isn't 0."""
-        for command in self.values.get(key, ()):
+        for line in self.values.get(key, ()):
+            command = line.removeprefix("-")
             with self.output.open("a") as out:
                 status = subprocess.run(self.launcher(command), env=self.environment(), stdin=subprocess.DEVNULL,
                                         stdout=out, stderr=out, timeout=60, check=False).returncode
-            if status:
+            # with a dash before it its status counts as 0
+            if status and command == line:
                 return status
         return 0
 
