@@ -29,7 +29,7 @@ use chpw_book::{Desk, DeskName, Pass};
 use chpw_invocation::{ConnectionLimit, ServeOptions};
 use chpw_journal::{FileSink, Journal};
 use chpw_pool::{AcceptLimit, DatagramSocket, Engine, MachineClock, PoolOptions};
-use chpw_serve::Clock as _;
+use chpw_serve::{Clock as _, Messages as _};
 use std::alloc::Global;
 use std::fs::{File, Files};
 use std::marker::Brand;
@@ -176,7 +176,7 @@ fn serve_opened<
         return Err(ServeFault::Memory);
     };
     let connections = start.terms.connections;
-    let realm = rules.service.realm.as_slice();
+    let realm = rules.service.realm();
     match raise_and_listen(rt, time, start, realm, &desk, &mut passes, clock) {
         Ok((listener, hall)) => {
             let first = Opened { desk, passes };
