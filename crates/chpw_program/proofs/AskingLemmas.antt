@@ -14,7 +14,7 @@ use Rattle.chpw_program.specs.NewPasswords.{IsPassword}
 use Rattle.chpw_program.specs.declared.ending.Ending.{Ending}
 use Rattle.chpw_program.specs.declared.ending.Ending.TheVariants.{Good, Faulty, Early, Unread, Unserved, Unbrought}
 use Rattle.chpw_program.specs.declared.ending.Ending.TheVariants.{EmptyPassword, ManyLines, BadArgument, Unconnected}
-use Rattle.chpw_program.specs.declared.ending.Ending.TheVariants.{Unanswered, Refused, Misused, NotText}
+use Rattle.chpw_program.specs.declared.ending.Ending.TheVariants.{Unanswered, TimedOut, Refused, Misused, NotText}
 
 pub asks : (options : ClientOptions) (config : Config) (q : Question) (target : Option Name) (drawn : _)
     (sent : Sent) → config_fits config ≡ true → q.realm ≡ config.realm → IsFirstKey config.service q.service
@@ -51,6 +51,7 @@ unasked options (ManyLines file) is = tt
 unasked options BadArgument is = tt
 unasked options Unconnected is = tt
 unasked options Unanswered is = tt
+unasked options TimedOut is = tt
 unasked options Misused is = tt
 unasked options NotText is = tt
 
@@ -67,5 +68,6 @@ replied options sent reply (ManyLines file) asks tells = tt
 replied options sent reply BadArgument asks tells = tt
 replied options sent reply Unconnected asks tells = tt
 replied options sent reply Unanswered asks tells = tt
+replied options sent reply TimedOut asks tells = tt
 replied options sent reply Misused asks tells = tt
 replied options sent reply NotText asks tells = tt

@@ -6,7 +6,7 @@ use Rattle.chpw_program.specs.NewPasswords.{IsUnread}
 use Rattle.chpw_program.specs.declared.ending.Ending.{Ending}
 use Rattle.chpw_program.specs.declared.ending.Ending.TheVariants.{Good, Faulty, Early, Unread, Unserved, Unbrought}
 use Rattle.chpw_program.specs.declared.ending.Ending.TheVariants.{EmptyPassword, ManyLines, BadArgument, Unconnected}
-use Rattle.chpw_program.specs.declared.ending.Ending.TheVariants.{Unanswered, Refused, Misused, NotText}
+use Rattle.chpw_program.specs.declared.ending.Ending.TheVariants.{Unanswered, TimedOut, Refused, Misused, NotText}
 
 pub has_checked : (file text : List ℕ) (e : Ending) → IsChecked file text e → HasChecked file e
 has_checked file text Good is = (text, is)
@@ -20,6 +20,7 @@ has_checked file text (ManyLines path) is = absurd is
 has_checked file text BadArgument is = absurd is
 has_checked file text Unconnected is = absurd is
 has_checked file text Unanswered is = absurd is
+has_checked file text TimedOut is = absurd is
 has_checked file text Refused is = absurd is
 has_checked file text Misused is = absurd is
 has_checked file text NotText is = absurd is
@@ -36,6 +37,7 @@ has_unread file (ManyLines path) is = absurd is
 has_unread file BadArgument is = absurd is
 has_unread file Unconnected is = absurd is
 has_unread file Unanswered is = absurd is
+has_unread file TimedOut is = absurd is
 has_unread file Refused is = absurd is
 has_unread file Misused is = absurd is
 has_unread file NotText is = absurd is

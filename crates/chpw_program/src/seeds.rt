@@ -3,8 +3,27 @@ ghost use Rattle.std.specs.Prelude.{OnOk};
 ghost use Rattle.std.specs.Io.KnownBytes.{Appends};
 ghost use Rattle.chpw_program.specs.Seeds.{seed_line};
 
+use std::fmt;
 use std::fs::{self, Files};
 use std::io::{self, Write};
+
+/// The warning of a seed in the regular file at this path.
+#[derive(Drop)]
+struct SeedWarning<'a> {
+    file: &'a str,
+}
+
+impl fmt::Display for SeedWarning<'_> {
+    ghost use Rattle.std.specs.Prelude.{Some};
+    ghost use Rattle.chpw_program.specs.Seeds.{warning_of};
+
+    ghost output = { λ warning. Some (warning_of warning.file.now) };
+
+    fn fmt<W: fmt::Write>(&self, f: &mut fmt::Formatter<W>) -> fmt::Result {
+        let file = self.file;
+        write!(f, "the seed {file} is a regular file: use it only once")
+    }
+}
 
 /// Warns of a seed in a regular file, which gives the same bytes each time: the keys and confounders of two requests of
 /// one seed are the same. If the line can't be written the request is made all the same.
@@ -21,10 +40,8 @@ fn tell_seed<W: Write>(errors: &mut W, file: &str, is_regular: bool) -> io::Resu
     ensures told { OnOk result (Appends (W.contents errors.old) (W.contents errors.new) (seed_line file.now is_regular)) }
 {
     if is_regular {
-        writeln!(
-            errors,
-            "the seed {file} is a regular file: use it only once"
-        )
+        let warning = SeedWarning { file };
+        writeln!(errors, "{warning}")
     } else {
         Ok(())
     }
