@@ -131,8 +131,7 @@ const RFC3244_ONLY_HELP: &str =
 const STRICT_MESSAGES_HELP: &str =
     "Refuse a KRB-PRIV without an expected sequence number or microseconds, or for another address";
 
-const STRICT_MODES_HELP: &str =
-    "Don't start if other users may read or write the configuration, the seed, the log or the journal";
+const STRICT_MODES_HELP: &str = "Don't start if other users may read, write or replace its files";
 
 const IMPORT: &str = "Convert a keytab's keys to a configuration.";
 
