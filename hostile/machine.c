@@ -27,6 +27,7 @@
 #include <stdlib.h>
 #include <string.h>
 #include <sys/epoll.h>
+#include <sys/eventfd.h>
 #include <sys/socket.h>
 #include <sys/stat.h>
 #include <sys/syscall.h>
@@ -155,6 +156,16 @@ int epoll_create1(int flags)
 int epoll_wait(int file, struct epoll_event *events, int most, int patience)
 {
     return fails("epoll_wait") ? -1 : (int)syscall(SYS_epoll_wait, file, events, most, patience);
+}
+
+int eventfd(unsigned int count, int flags)
+{
+    return fails("eventfd") ? -1 : (int)syscall(SYS_eventfd2, count, flags);
+}
+
+int bind(int socket, const struct sockaddr *address, socklen_t length)
+{
+    return fails("bind") ? -1 : (int)syscall(SYS_bind, socket, address, length);
 }
 
 int listen(int listener, int most)
