@@ -173,7 +173,7 @@ int listen(int listener, int most)
     return fails("listen") ? -1 : (int)syscall(SYS_listen, listener, most);
 }
 
-/* that many bytes came: of a socket of the network */
+/* so many bytes came over the network: they take their time */
 static ssize_t dripped(ssize_t came)
 {
     if (came > 0)
