@@ -9,6 +9,12 @@
    HELD     while this file is there, the first to look at that clock puts .held behind the file's name, and waits until
             the file isn't there under that name either
    LOCK     the same for the first to lock a file
+   MODE     the same for the first to set the mode of a path
+   SEEK     the same for the first to go to a place of a file
+   ACCEPT   the same for the first to accept
+   FAILS    a call, a number from 1 and a fault of Linux, in decimal digits with a space before each: the call of this
+            number fails so. Calls are those below, `sync` that of a file that is no folder
+   DRIPS    bytes come one by one over TCP, and each read of one, or of a datagram, takes so many milliseconds
    ACCEPTS  the first accepts fail, each with the next one of these faults of Linux, in decimal digits with a space
             between them
    ACCEPTED this file gets a byte for each accept */
@@ -19,6 +25,9 @@
 #include <stdatomic.h>
 #include <stdio.h>
 #include <stdlib.h>
+#include <string.h>
+#include <sys/epoll.h>
+#include <sys/eventfd.h>
 #include <sys/socket.h>
 #include <sys/stat.h>
 #include <sys/syscall.h>
@@ -43,14 +52,36 @@ static void hold(const char *file)
             wait_for("1");
 }
 
-/* whether this is a sync that is to fail */
+/* whether this call is the one that is to fail; then errno has its fault */
+static int fails(const char *call)
+{
+    static atomic_int calls;
+    const char *words = getenv("FAILS");
+    size_t length = strlen(call);
+    char *fault;
+    if (words == NULL || strncmp(words, call, length) != 0 || words[length] != ' ')
+        return 0;
+    if (atomic_fetch_add(&calls, 1) + 1 != strtol(words + length, &fault, 10))
+        return 0;
+    errno = (int)strtol(fault, NULL, 10);
+    return 1;
+}
+
+static int is_folder(int file)
+{
+    struct stat found;
+    return fstat(file, &found) == 0 && S_ISDIR(found.st_mode);
+}
+
+/* whether this sync is one that is to fail; then errno has its fault */
 static int is_lost(int file)
 {
     static atomic_int folders;
     const char *number = getenv("FOLDERS");
-    struct stat found;
-    return number != NULL && fstat(file, &found) == 0 && S_ISDIR(found.st_mode) &&
-           atomic_fetch_add(&folders, 1) + 1 == strtol(number, NULL, 10);
+    if (!is_folder(file))
+        return fails("sync");
+    errno = EIO;
+    return number != NULL && atomic_fetch_add(&folders, 1) + 1 == strtol(number, NULL, 10);
 }
 
 /* notes which folder is synced */
@@ -58,8 +89,7 @@ static void note_folder(int file)
 {
     const char *notes = getenv("SYNCED");
     char link[64], path[4096];
-    struct stat found;
-    if (notes == NULL || fstat(file, &found) != 0 || !S_ISDIR(found.st_mode))
+    if (notes == NULL || !is_folder(file))
         return;
     snprintf(link, sizeof link, "/proc/self/fd/%d", file);
     ssize_t length = readlink(link, path, sizeof path - 1);
@@ -76,23 +106,94 @@ int fsync(int file)
 {
     wait_for(getenv("SLOW"));
     note_folder(file);
-    if (is_lost(file)) {
-        errno = EIO;
-        return -1;
-    }
-    return (int)syscall(SYS_fsync, file);
+    return is_lost(file) ? -1 : (int)syscall(SYS_fsync, file);
 }
 
 int fdatasync(int file)
 {
     wait_for(getenv("SLOW"));
-    return (int)syscall(SYS_fdatasync, file);
+    return is_lost(file) ? -1 : (int)syscall(SYS_fdatasync, file);
 }
 
 int flock(int file, int how)
 {
     hold(getenv("LOCK"));
-    return (int)syscall(SYS_flock, file, how);
+    return fails("flock") ? -1 : (int)syscall(SYS_flock, file, how);
+}
+
+int rename(const char *from, const char *to)
+{
+    return fails("rename") ? -1 : (int)syscall(SYS_rename, from, to);
+}
+
+int ftruncate(int file, off_t length)
+{
+    return fails("ftruncate") ? -1 : (int)syscall(SYS_ftruncate, file, length);
+}
+
+off_t lseek(int file, off_t place, int from)
+{
+    hold(getenv("SEEK"));
+    return (off_t)syscall(SYS_lseek, file, place, from);
+}
+
+ssize_t read(int file, void *bytes, size_t length)
+{
+    return fails("read") ? -1 : syscall(SYS_read, file, bytes, length);
+}
+
+int chmod(const char *path, mode_t mode)
+{
+    hold(getenv("MODE"));
+    return fails("chmod") ? -1 : (int)syscall(SYS_chmod, path, mode);
+}
+
+int epoll_create1(int flags)
+{
+    return fails("epoll_create1") ? -1 : (int)syscall(SYS_epoll_create1, flags);
+}
+
+int epoll_wait(int file, struct epoll_event *events, int most, int patience)
+{
+    return fails("epoll_wait") ? -1 : (int)syscall(SYS_epoll_wait, file, events, most, patience);
+}
+
+int eventfd(unsigned int count, int flags)
+{
+    return fails("eventfd") ? -1 : (int)syscall(SYS_eventfd2, count, flags);
+}
+
+int bind(int socket, const struct sockaddr *address, socklen_t length)
+{
+    return fails("bind") ? -1 : (int)syscall(SYS_bind, socket, address, length);
+}
+
+int listen(int listener, int most)
+{
+    return fails("listen") ? -1 : (int)syscall(SYS_listen, listener, most);
+}
+
+/* so many bytes came over the network: they take their time */
+static ssize_t dripped(ssize_t came)
+{
+    if (came > 0)
+        wait_for(getenv("DRIPS"));
+    return came;
+}
+
+ssize_t recv(int file, void *bytes, size_t length, int flags)
+{
+    struct sockaddr_storage own = {0};
+    socklen_t size = sizeof own;
+    if (getenv("DRIPS") == NULL || getsockname(file, (struct sockaddr *)&own, &size) != 0 || own.ss_family != AF_INET)
+        return syscall(SYS_recvfrom, file, bytes, length, flags, NULL, NULL);
+    return dripped(syscall(SYS_recvfrom, file, bytes, length > 0, flags, NULL, NULL));
+}
+
+ssize_t recvfrom(int file, void *restrict bytes, size_t length, int flags, struct sockaddr *restrict address,
+                 socklen_t *restrict size)
+{
+    return dripped(syscall(SYS_recvfrom, file, bytes, length, flags, address, size));
 }
 
 static void set_by(const char *file, struct timespec *now)
@@ -135,6 +236,7 @@ int accept4(int listener, struct sockaddr *restrict address, socklen_t *restrict
     static atomic_int accepts;
     const char *faults = getenv("ACCEPTS");
     long fault = 0;
+    hold(getenv("ACCEPT"));
     note_accept();
     if (faults != NULL) {
         int number = atomic_fetch_add(&accepts, 1);

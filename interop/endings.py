@@ -29,6 +29,8 @@ HEAD = pathlib.Path(__file__).resolve().parent.parent / "samples/head.toml"
 PRINTED = bytes(range(0x20, 0x7F))
 NO_TEXT = "a word of the command line is not UTF-8"
 MISSING = "no such file"
+# what is UTF-8, and what isn't: a byte of no character, one that is cut off, one that goes on though none has begun
+NOT_TEXT = [(b"", b"\xff"), (b"# a comment\n", b"\xc3"), ("# é\n".encode(), b"\xa9\nrealm = 1\n")]
 
 
 def closing(numbers, command):
@@ -186,6 +188,10 @@ def check(program):
     found, words, status = program.ended("check", "--config", "bad")
     told = (found, words.split(":")[0], status)
     program.report.tell("check: a depth of 17", told, ("C4 policy 0", "bad", 1))
+    for before, rest in NOT_TEXT:
+        (program.folder / "no-text").write_bytes(before + rest)
+        words = f"no-text: not UTF-8 after {len(before)} bytes"
+        program.tell(f"check: no text, {len(before)} bytes", ("C1 file 0", words, 1), "check", "--config", "no-text")
     unread = unreadable("missing", MISSING)
     program.tell("check: no file", unread, "check", "--config", "missing")
     program.tell_unwritten("check: good, a full disk", "check", "--config", "good")

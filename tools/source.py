@@ -255,7 +255,50 @@ class Sources:
         found = [it for it in self.functions(crate) if it[2] == name and "ensures" in it[3] and owner in ("", it[1])]
         for file, _, _, head, bounds in sorted(found, key=lambda it: it[3].startswith(" ")):
             return self.head(crate, path, file, head, bounds, clauses)
-        return sys.exit(f"there is no {path} with a contract in {crate}")
+        traits = [trait for trait, type_name, *_ in self.instances(crate) if type_name == owner]
+        more = "".join(f"; {crate} {owner} as {trait} is an instance" for trait in traits)
+        return sys.exit(f"there is no {path} with a contract in {crate}{more}")
+
+    def instances(self, crate):
+        """Each impl of a trait: the trait, the type, the file, the head of the impl, and its block."""
+        for file in sorted((CRATES / crate / "src").rglob("*.rt")):
+            text = self.text(file)
+            for match in re.finditer(r"^impl\b", text, re.MULTILINE):
+                body = block(text, match.start())
+                head = body[: body.find("{")]
+                rest = head[generics_end(head, len("impl")) :]
+                found = re.match(r"\s*(?:\w+::)*(\w+)(?:<.*>)?\s+for\s+&?(?:'\w+\s+)?(\w+)", rest, re.DOTALL)
+                if found:
+                    yield *found.groups(), file, head, body
+
+    def instance(self, crate, name, trait, clauses=()):
+        """What a type's instance of a trait adds to it: what its ghost members stand for, and the clauses of its methods
+        that the trait hasn't. Its laws are proofs of what the trait says of them, and so left out."""
+        for found, type_name, file, head, body in self.instances(crate):
+            if (found, type_name) == (trait, name):
+                return self.members(crate, f"{name} as {trait}", file, head, body, clauses)
+        return sys.exit(f"there is no instance {name} as {trait} in {crate}")
+
+    def members(self, crate, path, file, head, body, clauses):
+        name, _, trait = path.partition(" as ")
+        place = str(file.relative_to(TOP))
+        declared = self.rust_type(Definition(place, path, "", "contract", crate), trait)
+        laws = laws_of(declared.text) if declared else set()
+        found = {it[1]: block(body, it.start()) for it in re.finditer(r"^    ghost (\w+) = ", body, re.MULTILINE)}
+        found = {key: text for key, text in found.items() if key not in laws}
+        for it in re.finditer(r"^ +(?:const )?fn (\w+)\b", body, re.MULTILINE):
+            if "ensures" in head_at(body, it.start()):
+                found[it[1]] = head_at(body, it.start())
+        for wanted in clauses:
+            if wanted not in found:
+                sys.exit(f"{path} has no {wanted}")
+        kept = [text.strip() for key, text in found.items() if not clauses or key in clauses]
+        uses = re.findall(r"^    ghost use .*;", body, re.MULTILINE)
+        said = plain("\n".join(kept))
+        bounds = re.findall(r"(\w+): (\w+)", head[: generics_end(head, len("impl"))])
+        spoken = [said, name, trait, *(bound for variable, bound in bounds if re.search(rf"\b{variable}\.", said))]
+        text = "\n".join([f"{head.rstrip()} {{", *uses, *[""] * bool(uses), "\n\n".join(f"    {it}" for it in kept), "}"])
+        return Definition(place, path, text, "contract", crate, ("\n".join(spoken),))
 
     def head(self, crate, path, file, head, bounds, clauses):
         signature, found = clauses_of(head)
@@ -275,6 +318,12 @@ class Sources:
             spoken.append(path.rpartition("::")[0])
         spoken += [bound for variable, bound in bounds if re.search(rf"\b{variable}\.", said)]
         return Definition(str(file.relative_to(TOP)), path, text, "contract", crate, ("\n".join(spoken),))
+
+
+def laws_of(trait):
+    """The ghost members of a trait that say something of other ones: an instance has a proof of each."""
+    found = {it[1]: plain(block(trait, it.start())) for it in re.finditer(r"^    ghost (\w+):", trait, re.MULTILINE)}
+    return {name for name, text in found.items() if set(WORD.findall(text)) & (found.keys() - {name})}
 
 
 def used_fields(text):
@@ -360,14 +409,18 @@ def clauses_of(head):
 
 
 def contracts(sources, words):
-    """The contracts that are asked for: `CRATE PATH [CLAUSE ..]`, with a `+` between two of them."""
-    found, rest = [], list(words)
+    """The contracts that are asked for: `CRATE PATH [CLAUSE ..]` or `CRATE TYPE as TRAIT [MEMBER ..]`, with a `+` between
+    two of them. Each is there once."""
+    found, rest = [], [part for word in words for part in word.split()]
     while rest:
         end = rest.index("+") if "+" in rest else len(rest)
         crate, path, *clauses = rest[:end] if end > 1 else sys.exit(f"a crate and a path are missing: {' '.join(words)}")
-        found.append(sources.contract(crate, path, clauses))
+        if len(clauses) > 1 and clauses[0] == "as":
+            found.append(sources.instance(crate, path, clauses[1], clauses[2:]))
+        else:
+            found.append(sources.contract(crate, path, clauses))
         rest = rest[end + 1 :]
-    return found
+    return list(dict.fromkeys(found))
 
 
 def walk(sources, asked, used):
