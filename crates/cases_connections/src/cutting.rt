@@ -28,6 +28,13 @@ pub fn each(alloc: Global, bytes: &[u8], is_ended: bool) -> io::Result<String> {
 
 fn cut_at(alloc: Global, bytes: &[u8], place: usize, is_ended: bool) -> io::Result<String> {
     let mut script = Script::new(alloc, BOUNDS, 1)?;
+    let told = cut_told(&mut script, bytes, place, is_ended);
+    script.end();
+    told
+}
+
+fn cut_told(script: &mut Script, bytes: &[u8], place: usize, is_ended: bool) -> io::Result<String> {
+    let alloc = script.alloc;
     let Some(slot) = script.connections.accept([10, 0, 0, 1], 0) else {
         return Ok(String::from_str(alloc, "no room")?);
     };

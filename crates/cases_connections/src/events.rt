@@ -2,6 +2,7 @@
 
 use crate::script::Script;
 use crate::words::{bytes, filler_bytes, no_case, number};
+use chpw_connections::TakenMessage;
 use std::io;
 
 impl Script {
@@ -21,7 +22,7 @@ impl Script {
             "remove" => return self.remove(slot),
             "answer" => self.give_reply(slot, rest, now)?,
             "defer" => self.defer_reply(slot, rest, now)?,
-            "unanswered" => self.connections.leave_unanswered(slot, now),
+            "unanswered" => self.leave_unanswered(slot, now),
             "wrote" => self.connections.wrote(slot, number(rest)?, now),
             "end" => self.connections.input_ended(slot),
             "fail" => self.connections.fail(slot),
@@ -75,7 +76,9 @@ impl Script {
     fn give_reply(&mut self, slot: usize, rest: &str, now: u64) -> io::Result<()> {
         let (reply, end) = rest.split_once(' ').unwrap_or((rest, ""));
         let reply = bytes(self.alloc, reply)?;
-        self.connections.answer(slot, reply, end == "last", now);
+        if let Some(taken) = self.taken_from(slot) {
+            self.connections.answer(taken, reply, end == "last", now);
+        }
         Ok(())
     }
 
@@ -84,9 +87,35 @@ impl Script {
         let (reply, rest) = rest.split_once(' ').unwrap_or((rest, ""));
         let (mark, end) = rest.split_once(' ').unwrap_or((rest, ""));
         let reply = bytes(self.alloc, reply)?;
-        self.connections
-            .defer(slot, reply, end == "last", number(mark)?, now);
+        let mark = number(mark)?;
+        if let Some(taken) = self.taken_from(slot) {
+            self.connections
+                .defer(taken, reply, end == "last", mark, now);
+        }
         Ok(())
+    }
+
+    fn leave_unanswered(&mut self, slot: usize, now: u64) {
+        if let Some(taken) = self.taken_from(slot) {
+            self.connections.leave_unanswered(taken, now);
+        }
+    }
+
+    /// Keeps what a worker took until the line that says what it did about it.
+    pub fn keep(&mut self, taken: TakenMessage, now: u64) -> io::Result<()> {
+        match self.taken.push(taken) {
+            Ok(()) => Ok(()),
+            Err(failed) => {
+                self.connections.leave_unanswered(failed.value, now);
+                Err(io::Error::from(io::ErrorKind::OutOfMemory))
+            }
+        }
+    }
+
+    // What a worker took from the connection in a slot, if it did nothing about it yet.
+    fn taken_from(&mut self, slot: usize) -> Option<TakenMessage> {
+        let place = self.taken.iter().position(|taken| taken.slot() == slot)?;
+        Some(self.taken.remove(place))
     }
 
     fn remove(&mut self, slot: usize) -> io::Result<String> {
@@ -104,9 +133,10 @@ impl Script {
             let (_, Some(worker)) = self.read(slot, &[0; 4], now) else {
                 return self.rounds_told(slot, done);
             };
-            let _ = self.connections.take(worker, now);
             let reply = Vec::from_slice(self.alloc, b"*")?;
-            self.connections.answer(slot, reply, false, now);
+            if let Some(taken) = self.connections.take(worker, now) {
+                self.connections.answer(taken, reply, false, now);
+            }
             self.connections.wrote(slot, 1, now);
         }
         self.rounds_told(slot, count)

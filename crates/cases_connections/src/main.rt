@@ -14,7 +14,6 @@ use std::alloc::Global;
 use std::io;
 use support_cases::{Answers, print_answers};
 
-#[derive(Drop)]
 struct Cases {
     script: Option<Script>,
 }
@@ -25,7 +24,10 @@ impl Answers for Cases {
         let (kind, words) = front.split_once(' ').unwrap_or((front, ""));
         match kind {
             "start" => {
-                self.script = Some(Script::of(alloc, words)?);
+                let script = Script::of(alloc, words)?;
+                if let Some(before) = self.script.replace(script) {
+                    before.end();
+                }
                 Ok(String::from_str(alloc, "started")?)
             }
             "cut" => cutting::each(alloc, &bytes(alloc, words)?, false),
@@ -39,5 +41,11 @@ impl Answers for Cases {
 }
 
 fn main(rt: HostRuntime) -> io::Result<()> {
-    print_answers(&rt, &mut Cases { script: None })
+    let mut cases = Cases { script: None };
+    let printed = print_answers(&rt, &mut cases);
+    let Cases { script } = cases;
+    if let Some(script) = script {
+        script.end();
+    }
+    printed
 }

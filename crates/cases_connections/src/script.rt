@@ -2,20 +2,21 @@
 
 use crate::showing::slots_text;
 use crate::words::{no_case, number};
-use chpw_connections::{ConnectionLimits, Connections};
+use chpw_connections::{ConnectionLimits, Connections, TakenMessage};
 use std::alloc::Global;
 use std::io;
 
 /// The most connections and workers in a script.
 const MOST: usize = 100;
 
-#[derive(Drop)]
 pub struct Script {
     pub alloc: Global,
     pub connections: Connections,
     /// The connections allowed; no slot from this number on is shown.
     pub slots: usize,
     pub workers: usize,
+    /// What workers took and did nothing about yet.
+    pub taken: Vec<TakenMessage>,
 }
 
 impl Script {
@@ -45,7 +46,23 @@ impl Script {
             connections: Connections::new(alloc, bounds, workers)?,
             slots: bounds.connections,
             workers,
+            taken: Vec::new(alloc),
         })
+    }
+
+    /// Ends it: the workers have no reply to what they took.
+    pub fn end(self) {
+        let Script {
+            alloc: _,
+            mut connections,
+            slots: _,
+            workers: _,
+            mut taken,
+        } = self;
+        while let Some(message) = taken.pop() {
+            connections.leave_unanswered(message, 0);
+        }
+        taken.destroy_empty();
     }
 
     /// What a line does, and which other connections it ended.

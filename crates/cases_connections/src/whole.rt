@@ -25,7 +25,7 @@ impl Script {
                 Ok(String::from_str(self.alloc, "confirmed")?)
             }
             "overdue" => self.overdue(number(words)?, now),
-            "room" if self.connections.make_room() => {
+            "room" if self.connections.make_room().is_some() => {
                 Ok(String::from_str(self.alloc, "made room")?)
             }
             "room" => Ok(String::from_str(self.alloc, "nobody waits")?),
@@ -45,16 +45,20 @@ impl Script {
     pub fn take(&mut self, worker: usize, now: u64) -> io::Result<String> {
         let waits = self.connections.has_message(worker);
         match self.connections.take(worker, now) {
-            Some(taken) => self.taken_told(&taken),
+            Some(taken) => {
+                let told = self.taken_told(&taken);
+                self.keep(taken, now)?;
+                told
+            }
             None if waits => Ok(String::from_str(self.alloc, "dropped")?),
             None => Ok(String::from_str(self.alloc, "none")?),
         }
     }
 
     fn taken_told(&self, taken: &TakenMessage) -> io::Result<String> {
-        let slot = taken.slot;
-        let peer = peer_text(self.alloc, taken.peer)?;
-        let message = bytes_text(self.alloc, &taken.message)?;
+        let slot = taken.slot();
+        let peer = peer_text(self.alloc, taken.peer())?;
+        let message = bytes_text(self.alloc, taken.message())?;
         Ok(format!(in self.alloc; "slot {slot} from {peer}: {message}")?)
     }
 

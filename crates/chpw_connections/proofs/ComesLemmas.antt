@@ -1,5 +1,5 @@
 -- Events that come to the same.
-use Rattle.std.proofs.Common.{◌≡◌, ℕ, List, take, refl, ◌∙◌, subst, arith, Option, Some, None, IfNone, inl, inr, ◌⊎◌}
+use Rattle.std.proofs.Common.{◌≡◌, ℕ, List, take, refl, ◌∙◌, subst, arith, Option, Some, None, IfSome, IfNone, inl, inr, ◌⊎◌}
 use Rattle.std.proofs.lemmas.List.{take_all, length-take}
 use Rattle.slab.specs.Slab.{Slab, get}
 use Rattle.chpw_connections.specs.Messages.{wanted_after}
@@ -35,7 +35,7 @@ goes_too now c d e f same goes = record {
 room_for : (now : ℕ) (a b : List ℕ) (old : Phase) (j : Incoming) → IsRoomFor now (came a) old j → IsRoomFor now (came b) old j
 room_for now a b (phase.Reading i) j is = is
 room_for now a b (phase.Queued message) j is = is
-room_for now a b phase.Answering j is = is
+room_for now a b (phase.Answering m) j is = is
 room_for now a b (phase.Confirming waiting) j is = is
 room_for now a b (phase.Writing outgoing) j is = is
 room_for now a b phase.Lingering j is = is
@@ -45,7 +45,7 @@ room_for now a b phase.Ended j is = is
 room_same : (now : ℕ) (a b : List ℕ) (old new : Phase) → IsRoomBehind now (came a) old new → IsRoomBehind now (came b) old new
 room_same now a b old (phase.Reading j) is = room_for now a b old j is
 room_same now a b old (phase.Queued message) is = is
-room_same now a b old phase.Answering is = is
+room_same now a b old (phase.Answering m) is = is
 room_same now a b old (phase.Confirming waiting) is = is
 room_same now a b old (phase.Writing outgoing) is = is
 room_same now a b old phase.Lingering is = is
@@ -66,7 +66,7 @@ wanted_same now count since (reading b) more =
       room_too = room_same now (take (wanted_after b) more) more;
     }
 wanted_same now count since (queued m) more = record { stage_too = refl; count_too = refl; since_too = refl; room_too = room_same now (take 0 more) more }
-wanted_same now count since answering more = record { stage_too = refl; count_too = refl; since_too = refl; room_too = room_same now (take 0 more) more }
+wanted_same now count since (answering m) more = record { stage_too = refl; count_too = refl; since_too = refl; room_too = room_same now (take 0 more) more }
 wanted_same now count since (confirming r l m) more =
     record { stage_too = refl; count_too = refl; since_too = refl; room_too = room_same now (take 0 more) more }
 wanted_same now count since (writing w l) more = record { stage_too = refl; count_too = refl; since_too = refl; room_too = room_same now (take 0 more) more }
@@ -96,3 +96,11 @@ read_happens who now old new slot more part (Some worker) same read = read
 read_happens who now old new slot more part None same (inl happens) =
     inl (wanted_happens who now old new slot more (subst (λ (l : List ℕ). HappensWithRoom who now old new slot (came l)) same happens))
 read_happens who now old new slot more part None same (inr fails) = inr fails
+
+pub queued_happens : (who : EvictionRule) (now : ℕ) (old new : Slab Connection) (slot : ℕ) (more part : List ℕ) (r : Option ℕ)
+    → part ≡ wanted_of (get old slot) more
+    → IfSome r (λ worker. HappensWithRoom who now old new slot (came part))
+    → IfSome r (λ worker. HappensWithRoom who now old new slot (came more))
+queued_happens who now old new slot more part None same joins = joins
+queued_happens who now old new slot more part (Some worker) same joins =
+    wanted_happens who now old new slot more (subst (λ (l : List ℕ). HappensWithRoom who now old new slot (came l)) same joins)

@@ -26,7 +26,7 @@ use Rattle.chpw_connections.proofs.NoteLemmas.{notes_none, notes_then, notes_as}
 waits_on : (s : Stage) → waits s ≡ true → (is_ended s ≡ false) × (is_gone s ≡ false)
 waits_on (reading bytes) is = (refl, refl)
 waits_on (queued message) is = absurd cc
-waits_on answering is = absurd cc
+waits_on (answering m) is = absurd cc
 waits_on (confirming reply last mark) is = absurd cc
 waits_on (writing left last) is = (refl, refl)
 waits_on lingering is = (refl, refl)
@@ -147,7 +147,7 @@ reading_fails (Some c) (Some d) is comes = by_stage (stage c) is comes.stage_is
     by_stage : (s : Stage) → is_reading s ≡ true → stage d ≡ after c.answered s failed → is_ended (stage d) ≡ true
     by_stage (reading bytes) t e = ap is_ended e
     by_stage (queued message) t e = absurd cc
-    by_stage answering t e = absurd cc
+    by_stage (answering m) t e = absurd cc
     by_stage (confirming reply last mark) t e = absurd cc
     by_stage (writing left last) t e = absurd cc
     by_stage lingering t e = absurd cc
@@ -166,7 +166,7 @@ reading_goes_on now more (Some c) (Some d) is comes = by_stage (stage c) is come
     by_stage : (s : Stage) → is_reading s ≡ true → stage d ≡ after c.answered s (came more) → is_ended (stage d) ≡ false
     by_stage (reading bytes) t e = ap is_ended e ∙ by_test (bytes ++ received bytes more) (wanted_after (bytes ++ received bytes more) == 0)
     by_stage (queued message) t e = absurd cc
-    by_stage answering t e = absurd cc
+    by_stage (answering m) t e = absurd cc
     by_stage (confirming reply last mark) t e = absurd cc
     by_stage (writing left last) t e = absurd cc
     by_stage lingering t e = absurd cc
@@ -180,7 +180,7 @@ reading_can_fail (Some c) is = by_stage (stage c) is
     by_stage : (s : Stage) → is_reading s ≡ true → is_gone s ≡ false
     by_stage (reading bytes) t = refl
     by_stage (queued message) t = absurd cc
-    by_stage answering t = absurd cc
+    by_stage (answering m) t = absurd cc
     by_stage (confirming reply last mark) t = absurd cc
     by_stage (writing left last) t = absurd cc
     by_stage lingering t = absurd cc

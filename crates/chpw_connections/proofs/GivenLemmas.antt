@@ -106,7 +106,7 @@ gives_held who (Some c) is = (
 ended_empty : (p : Phase) → stage_of p ≡ ended → held_by p ≡ 0
 ended_empty (phase.Reading bytes) e = absurd cc
 ended_empty (phase.Queued message) e = absurd cc
-ended_empty phase.Answering e = refl
+ended_empty (phase.Answering m) e = refl
 ended_empty (phase.Confirming waiting) e = absurd cc
 ended_empty (phase.Writing outgoing) e = absurd cc
 ended_empty phase.Lingering e = refl

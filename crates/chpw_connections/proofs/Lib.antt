@@ -3,6 +3,7 @@ pub mod ConfirmLemmas
 pub mod CountLemmas
 pub mod EndsLemmas
 pub mod ExpiryLemmas
+pub mod FinalLemmas
 pub mod GivenLemmas
 pub mod HeldLemmas
 pub mod HoldsLemmas

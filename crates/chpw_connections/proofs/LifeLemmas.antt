@@ -4,14 +4,14 @@ use Rattle.std.proofs.Common.{ap, subst, refl, arith, Bool, true, false, ◌==�
 use Rattle.std.proofs.Math.Logic.{⊎_elim}
 use Rattle.std.proofs.lemmas.Bool.{cases_lt}
 use Rattle.std.proofs.lemmas.Bool.Decides.{nat_tests}
-use Rattle.std.proofs.lemmas.List.{take-append-drop, length-append, append-nil}
+use Rattle.std.proofs.lemmas.List.{take-append-drop, length-append, length-map, append-nil, map-append}
 use Rattle.std.proofs.lemmas.List.Elements.{All-append, All-cons}
 use Rattle.std.proofs.lemmas.List.{nil_from_length}
 use Rattle.chpw_connections.specs.Messages.{wanted_after, IsPiece}
 use Rattle.chpw_connections.specs.Stages.{Stage, reading, queued, answering, confirming, writing, lingering, abandoned}
 use Rattle.chpw_connections.specs.Stages.{ended, Event, came, taken, replied, deferred, unanswered, released, wrote}
 use Rattle.chpw_connections.specs.Stages.{closed, failed, received, read_to, written_to, is_over, is_last_reply}
-use Rattle.chpw_connections.specs.Lives.{Life, accepted, behind, life, joined, IsOrderly, Orderly, Final}
+use Rattle.chpw_connections.specs.Lives.{Life, accepted, behind, life, joined, messages_of, replies_of, IsOrderly, Orderly}
 use Rattle.chpw_connections.proofs.PieceLemmas.{piece_is_whole}
 
 -- what waits is a whole message, and what is read isn't yet
@@ -32,18 +32,30 @@ IsCounted stage count replies = count ≡ replies
 record Holds (l : Life) : Type 0 where
   orderly : IsOrderly l
   waiting : IsWaiting l.stage
-  counted : IsCounted l.stage l.count (length l.replies)
+  counted : IsCounted l.stage l.count (length l.turns)
   small : l.count ≤ 65535
 
-abbrev made : List ℕ → List (List ℕ) → List (List ℕ) → List ℕ → ℕ → Stage → Life
-made c h r w n s = record { came = c; handed = h; replies = r; written = w; count = n; stage = s }
+abbrev pub made : List ℕ → List (List ℕ) → List (List ℕ × List ℕ) → List ℕ → ℕ → Stage → Life
+made c h r w n s = record { came = c; handed = h; turns = r; written = w; count = n; stage = s }
 
 joined-append : (xs ys : List (List ℕ)) → joined (xs ++ ys) ≡ joined xs ++ joined ys
 joined-append [] ys = refl
 joined-append (x ∷ xs) ys = ap (λ (l : List ℕ). x ++ l) (joined-append xs ys) ∙ sym (append_assoc x (joined xs) (joined ys))
 
+-- as many messages were handed on as were replied to and weren't
+as_many : (h : List (List ℕ)) (r : List (List ℕ × List ℕ)) (u : List (List ℕ)) → h ≡ messages_of r ++ u → length h ≡ length r + length u
+as_many h r u is =
+    ap length is ∙ (length-append (messages_of r) u ∙ ap (λ (k : ℕ). k + length u) (length-map r (λ (t : List ℕ × List ℕ). t.0)))
+
+-- no message, and one, is no more than one
+none_is_few : (u : List (List ℕ)) → u ≡ [] → length u ≤ 1
+none_is_few u is = let none : length u ≡ 0 = ap length is in omega arith
+
+one_is_few : (u : List (List ℕ)) (m : List ℕ) → u ≡ m ∷ [] → length u ≤ 1
+one_is_few u m is = let one : length u ≡ 1 = ap length is in omega arith
+
 -- nothing came of it
-same : (c : List ℕ) (h r : List (List ℕ)) (w : List ℕ) (n : ℕ) (s : Stage) → Holds (made c h r w n s)
+same : (c : List ℕ) (h : List (List ℕ)) (r : List (List ℕ × List ℕ)) (w : List ℕ) (n : ℕ) (s : Stage) → Holds (made c h r w n s)
     → Holds (made (c ++ []) (h ++ []) (r ++ []) (w ++ []) n s)
 same c h r w n s o =
     rw (append-nil c, append-nil h, append-nil r, append-nil w) o
@@ -60,7 +72,7 @@ read_cases P all whole part =
     (cases_lt 0 (wanted_after all))
 
 -- more bytes of a message
-reads : (c : List ℕ) (h r : List (List ℕ)) (w : List ℕ) (n : ℕ) (b more : List ℕ) → Holds (made c h r w n (reading b))
+reads : (c : List ℕ) (h : List (List ℕ)) (r : List (List ℕ × List ℕ)) (w : List ℕ) (n : ℕ) (b more : List ℕ) → Holds (made c h r w n (reading b))
     → Holds (made (c ++ received b more) (h ++ []) (r ++ []) (w ++ []) n (read_to (b ++ received b more)))
 reads c h r w n b more o =
     let part = received b more in
@@ -79,6 +91,8 @@ reads c h r w n b more o =
         left = p.left;
         replies = p.replies;
         unwritten = p.unwritten;
+        unreplied = p.unreplied;
+        turns = p.turns;
         answered = p.answered;
         few = p.few;
       };
@@ -95,6 +109,8 @@ reads c h r w n b more o =
         left = p.left;
         replies = p.replies;
         unwritten = p.unwritten;
+        unreplied = p.unreplied;
+        turns = p.turns;
         answered = p.answered;
         few = p.few;
       };
@@ -105,12 +121,13 @@ reads c h r w n b more o =
     rw (append-nil h, append-nil r, append-nil w) step
 
 -- a message goes to a worker
-takes : (c : List ℕ) (h r : List (List ℕ)) (w : List ℕ) (n : ℕ) (m : List ℕ) → Holds (made c h r w n (queued m))
-    → Holds (made (c ++ []) (h ++ m ∷ []) (r ++ []) (w ++ []) n answering)
+takes : (c : List ℕ) (h : List (List ℕ)) (r : List (List ℕ × List ℕ)) (w : List ℕ) (n : ℕ) (m : List ℕ) → Holds (made c h r w n (queued m))
+    → Holds (made (c ++ []) (h ++ m ∷ []) (r ++ []) (w ++ []) n (answering m))
 takes c h r w n m o =
     let p = o.orderly in
     let len : length (h ++ m ∷ []) ≡ length h + 1 = length-append h (m ∷ []) in
-    let step : Holds (made c (h ++ m ∷ []) r w n answering) = record {
+    let none : length p.unreplied ≡ 0 = ap length p.answered in
+    let step : Holds (made c (h ++ m ∷ []) r w n (answering m)) = record {
       orderly = record {
         rest = [];
         messages = p.messages ∙ (ap (λ (l : List ℕ). joined h ++ l) (p.held ∙ sym (append-nil m))
@@ -120,8 +137,11 @@ takes c h r w n m o =
         left = p.left;
         replies = p.replies;
         unwritten = p.unwritten;
-        answered = len ∙ ap (λ (k : ℕ). k + 1) p.answered;
-        few = (let a = p.answered in let k = o.counted in let l = o.small in omega arith);
+        unreplied = m ∷ [];
+        turns = ap (λ (l : List (List ℕ)). l ++ m ∷ [])
+            (p.turns ∙ (ap (λ (l : List (List ℕ)). messages_of r ++ l) p.answered ∙ append-nil (messages_of r)));
+        answered = refl;
+        few = (let a = as_many h r p.unreplied p.turns in let k = o.counted in let l = o.small in omega arith);
       };
       waiting = tt;
       counted = o.counted;
@@ -140,16 +160,22 @@ below_last n true is = absurd cc
 below_last n false is = grind (arith, nat_tests)
 
 -- a worker replied
-replies_to : (c : List ℕ) (h r : List (List ℕ)) (w : List ℕ) (n : ℕ) (reply : List ℕ) (last : Bool) → Holds (made c h r w n answering)
-    → Holds (made (c ++ []) (h ++ []) (r ++ reply ∷ []) (w ++ [])
+replies_to : (c : List ℕ) (h : List (List ℕ)) (r : List (List ℕ × List ℕ)) (w : List ℕ) (n : ℕ) (m reply : List ℕ) (last : Bool)
+    → Holds (made c h r w n (answering m))
+    → Holds (made (c ++ []) (h ++ []) (r ++ (m, reply) ∷ []) (w ++ [])
     (cond (is_last_reply n last) n (n + 1)) (writing reply (is_last_reply n last)))
-replies_to c h r w n reply last o =
+replies_to c h r w n m reply last o =
     let p = o.orderly in
-    let len : length (r ++ reply ∷ []) ≡ length r + 1 = length-append r (reply ∷ []) in
-    let front : joined r ≡ w = p.replies ∙ (ap (λ (l : List ℕ). w ++ l) p.unwritten ∙ append-nil w) in
-    let replied_is : joined (r ++ reply ∷ []) ≡ w ++ reply =
-    joined-append r (reply ∷ []) ∙ (ap (λ (l : List ℕ). joined r ++ l) (append-nil reply) ∙ ap (λ (l : List ℕ). l ++ reply) front) in
-    let orderly : (flag : Bool) (k : ℕ) → IsOrderly (made c h (r ++ reply ∷ []) w k (writing reply flag)) = λ flag k. record {
+    let turn : List (List ℕ × List ℕ) = (m, reply) ∷ [] in
+    let len : length (r ++ turn) ≡ length r + 1 = length-append r turn in
+    let front : joined (replies_of r) ≡ w = p.replies ∙ (ap (λ (l : List ℕ). w ++ l) p.unwritten ∙ append-nil w) in
+    let replied_is : joined (replies_of (r ++ turn)) ≡ w ++ reply =
+    ap joined (map-append (λ (t : List ℕ × List ℕ). t.1) r turn) ∙ (joined-append (replies_of r) (reply ∷ [])
+    ∙ (ap (λ (l : List ℕ). joined (replies_of r) ++ l) (append-nil reply) ∙ ap (λ (l : List ℕ). l ++ reply) front)) in
+    let turns_are : h ≡ messages_of (r ++ turn) ++ [] =
+    p.turns ∙ (ap (λ (l : List (List ℕ)). messages_of r ++ l) p.answered
+    ∙ (sym (map-append (λ (t : List ℕ × List ℕ). t.0) r turn) ∙ sym (append-nil (messages_of (r ++ turn))))) in
+    let orderly : (flag : Bool) (k : ℕ) → IsOrderly (made c h (r ++ turn) w k (writing reply flag)) = λ flag k. record {
       rest = p.rest;
       messages = p.messages;
       held = p.held;
@@ -157,10 +183,12 @@ replies_to c h r w n reply last o =
       left = reply;
       replies = replied_is;
       unwritten = refl;
-      answered = p.answered ∙ sym len;
+      unreplied = [];
+      turns = turns_are;
+      answered = refl;
       few = p.few;
     } in
-    let P : Bool → Type 0 = λ flag. Holds (made c h (r ++ reply ∷ []) w (cond flag n (n + 1)) (writing reply flag)) in
+    let P : Bool → Type 0 = λ flag. Holds (made c h (r ++ turn) w (cond flag n (n + 1)) (writing reply flag)) in
     let step : P (is_last_reply n last) = bool_cases P (is_last_reply n last)
     (λ is. record { orderly = orderly true n; waiting = tt; counted = (λ not. absurd (cc)); small = o.small })
     (λ is. record {
@@ -172,7 +200,8 @@ replies_to c h r w n reply last o =
     rw (append-nil c, append-nil h, append-nil w) step
 
 -- what is said of a reply that isn't confirmed is said of one of which nothing is written
-waits_as : (c : List ℕ) (h r : List (List ℕ)) (w : List ℕ) (n : ℕ) (reply : List ℕ) (last : Bool) (mark : ℕ) → Holds (made c h r w n (writing reply last))
+waits_as : (c : List ℕ) (h : List (List ℕ)) (r : List (List ℕ × List ℕ)) (w : List ℕ) (n : ℕ) (reply : List ℕ) (last : Bool) (mark : ℕ)
+    → Holds (made c h r w n (writing reply last))
     → Holds (made c h r w n (confirming reply last mark))
 waits_as c h r w n reply last mark o =
     let p = o.orderly in
@@ -185,6 +214,8 @@ waits_as c h r w n reply last mark o =
         left = p.left;
         replies = p.replies;
         unwritten = p.unwritten;
+        unreplied = p.unreplied;
+        turns = p.turns;
         answered = p.answered;
         few = p.few;
       };
@@ -193,7 +224,7 @@ waits_as c h r w n reply last mark o =
       small = o.small;
     }
 
-written_as : (c : List ℕ) (h r : List (List ℕ)) (w : List ℕ) (n : ℕ) (reply : List ℕ) (last : Bool) (mark : ℕ)
+written_as : (c : List ℕ) (h : List (List ℕ)) (r : List (List ℕ × List ℕ)) (w : List ℕ) (n : ℕ) (reply : List ℕ) (last : Bool) (mark : ℕ)
     → Holds (made c h r w n (confirming reply last mark)) → Holds (made c h r w n (writing reply last))
 written_as c h r w n reply last mark o =
     let p = o.orderly in
@@ -206,6 +237,8 @@ written_as c h r w n reply last mark o =
         left = p.left;
         replies = p.replies;
         unwritten = p.unwritten;
+        unreplied = p.unreplied;
+        turns = p.turns;
         answered = p.answered;
         few = p.few;
       };
@@ -215,24 +248,26 @@ written_as c h r w n reply last mark o =
     }
 
 -- a worker's reply is deferred
-defers_to : (c : List ℕ) (h r : List (List ℕ)) (w : List ℕ) (n : ℕ) (reply : List ℕ) (last : Bool) (mark : ℕ) → Holds (made c h r w n answering)
-    → Holds (made (c ++ []) (h ++ []) (r ++ reply ∷ []) (w ++ [])
+defers_to : (c : List ℕ) (h : List (List ℕ)) (r : List (List ℕ × List ℕ)) (w : List ℕ) (n : ℕ) (m reply : List ℕ) (last : Bool) (mark : ℕ)
+    → Holds (made c h r w n (answering m))
+    → Holds (made (c ++ []) (h ++ []) (r ++ (m, reply) ∷ []) (w ++ [])
     (cond (is_last_reply n last) n (n + 1)) (confirming reply (is_last_reply n last) mark))
-defers_to c h r w n reply last mark o =
-    waits_as (c ++ []) (h ++ []) (r ++ reply ∷ []) (w ++ []) (cond (is_last_reply n last) n (n + 1)) reply (is_last_reply n last) mark
-    (replies_to c h r w n reply last o)
+defers_to c h r w n m reply last mark o =
+    waits_as (c ++ []) (h ++ []) (r ++ (m, reply) ∷ []) (w ++ []) (cond (is_last_reply n last) n (n + 1)) reply (is_last_reply n last) mark
+    (replies_to c h r w n m reply last o)
 
 -- and released
-releases : (c : List ℕ) (h r : List (List ℕ)) (w : List ℕ) (n : ℕ) (reply : List ℕ) (last : Bool) (mark : ℕ)
+releases : (c : List ℕ) (h : List (List ℕ)) (r : List (List ℕ × List ℕ)) (w : List ℕ) (n : ℕ) (reply : List ℕ) (last : Bool) (mark : ℕ)
     → Holds (made c h r w n (confirming reply last mark)) → Holds (made (c ++ []) (h ++ []) (r ++ []) (w ++ []) n (writing reply last))
 releases c h r w n reply last mark o = same c h r w n (writing reply last) (written_as c h r w n reply last mark o)
 
 -- bytes of the reply went out
-writes : (c : List ℕ) (h r : List (List ℕ)) (w : List ℕ) (n : ℕ) (left : List ℕ) (last : Bool) (k : ℕ) → Holds (made c h r w n (writing left last))
+writes : (c : List ℕ) (h : List (List ℕ)) (r : List (List ℕ × List ℕ)) (w : List ℕ) (n : ℕ) (left : List ℕ) (last : Bool) (k : ℕ)
+    → Holds (made c h r w n (writing left last))
     → Holds (made (c ++ []) (h ++ []) (r ++ []) (w ++ take k left) n (written_to (drop k left) last))
 writes c h r w n left last k o =
     let p = o.orderly in
-    let out : joined r ≡ (w ++ take k left) ++ drop k left =
+    let out : joined (replies_of r) ≡ (w ++ take k left) ++ drop k left =
     p.replies ∙ (ap (λ (l : List ℕ). w ++ l) (p.unwritten ∙ sym (take-append-drop k left)) ∙ sym (append_assoc w (take k left) (drop k left))) in
     let P : Stage → Type 0 = λ s. Holds (made c h r (w ++ take k left) n s) in
     let whole_out : is_over (drop k left) ≡ true → drop k left ≡ [] = λ is. nil_from_length (drop k left) (grind (arith, nat_tests)) in
@@ -249,7 +284,9 @@ writes c h r w n left last k o =
         left = [];
         replies = out ∙ ap (λ (l : List ℕ). (w ++ take k left) ++ l) (whole_out is);
         unwritten = refl;
-        answered = (let a = p.answered in (omega arith, omega arith));
+        unreplied = p.unreplied;
+        turns = p.turns;
+        answered = none_is_few p.unreplied p.answered;
         few = p.few;
       };
       waiting = tt;
@@ -265,6 +302,8 @@ writes c h r w n left last k o =
         left = [];
         replies = out ∙ ap (λ (l : List ℕ). (w ++ take k left) ++ l) (whole_out is);
         unwritten = refl;
+        unreplied = p.unreplied;
+        turns = p.turns;
         answered = p.answered;
         few = p.few;
       };
@@ -282,6 +321,8 @@ writes c h r w n left last k o =
         left = drop k left;
         replies = out;
         unwritten = refl;
+        unreplied = p.unreplied;
+        turns = p.turns;
         answered = p.answered;
         few = p.few;
       };
@@ -292,10 +333,10 @@ writes c h r w n left last k o =
     rw (append-nil c, append-nil h, append-nil r) step
 
 -- it ends, with what it holds
-ends : (c : List ℕ) (h r : List (List ℕ)) (w : List ℕ) (n : ℕ) (s : Stage) → Holds (made c h r w n s)
-    → (length r ≤ length h) × (length h ≤ length r + 1)
+ends : (c : List ℕ) (h : List (List ℕ)) (r : List (List ℕ × List ℕ)) (w : List ℕ) (n : ℕ) (s : Stage) (o : Holds (made c h r w n s))
+    → length o.orderly.unreplied ≤ 1
     → Holds (made (c ++ []) (h ++ []) (r ++ []) (w ++ []) n ended)
-ends c h r w n s o pair =
+ends c h r w n s o one =
     let p = o.orderly in
     let step : Holds (made c h r w n ended) = record {
       orderly = record {
@@ -306,7 +347,9 @@ ends c h r w n s o pair =
         left = p.left;
         replies = p.replies;
         unwritten = tt;
-        answered = pair;
+        unreplied = p.unreplied;
+        turns = p.turns;
+        answered = one;
         few = p.few;
       };
       waiting = tt;
@@ -316,9 +359,10 @@ ends c h r w n s o pair =
     rw (append-nil c, append-nil h, append-nil r, append-nil w) step
 
 -- it is gone while its message is answered
-leaves : (c : List ℕ) (h r : List (List ℕ)) (w : List ℕ) (n : ℕ) → Holds (made c h r w n answering)
+leaves : (c : List ℕ) (h : List (List ℕ)) (r : List (List ℕ × List ℕ)) (w : List ℕ) (n : ℕ) (m : List ℕ)
+    → Holds (made c h r w n (answering m))
     → Holds (made (c ++ []) (h ++ []) (r ++ []) (w ++ []) n abandoned)
-leaves c h r w n o =
+leaves c h r w n m o =
     let p = o.orderly in
     let step : Holds (made c h r w n abandoned) = record {
       orderly = record {
@@ -329,7 +373,9 @@ leaves c h r w n o =
         left = p.left;
         replies = p.replies;
         unwritten = tt;
-        answered = p.answered;
+        unreplied = p.unreplied;
+        turns = p.turns;
+        answered = ap length p.answered;
         few = p.few;
       };
       waiting = tt;
@@ -339,9 +385,10 @@ leaves c h r w n o =
     rw (append-nil c, append-nil h, append-nil r, append-nil w) step
 
 -- its worker had no reply
-lingers : (c : List ℕ) (h r : List (List ℕ)) (w : List ℕ) (n : ℕ) → Holds (made c h r w n answering)
+lingers : (c : List ℕ) (h : List (List ℕ)) (r : List (List ℕ × List ℕ)) (w : List ℕ) (n : ℕ) (m : List ℕ)
+    → Holds (made c h r w n (answering m))
     → Holds (made (c ++ []) (h ++ []) (r ++ []) (w ++ []) n lingering)
-lingers c h r w n o =
+lingers c h r w n m o =
     let p = o.orderly in
     let step : Holds (made c h r w n lingering) = record {
       orderly = record {
@@ -352,7 +399,9 @@ lingers c h r w n o =
         left = p.left;
         replies = p.replies;
         unwritten = p.unwritten;
-        answered = (let a = p.answered in (omega arith, omega arith));
+        unreplied = p.unreplied;
+        turns = p.turns;
+        answered = one_is_few p.unreplied m p.answered;
         few = p.few;
       };
       waiting = tt;
@@ -362,11 +411,11 @@ lingers c h r w n o =
     rw (append-nil c, append-nil h, append-nil r, append-nil w) step
 
 -- each event keeps it
-keeps_at : (c : List ℕ) (h r : List (List ℕ)) (w : List ℕ) (n : ℕ) (s : Stage) (e : Event) → Holds (made c h r w n s)
+keeps_at : (c : List ℕ) (h : List (List ℕ)) (r : List (List ℕ × List ℕ)) (w : List ℕ) (n : ℕ) (s : Stage) (e : Event) → Holds (made c h r w n s)
     → Holds (behind (made c h r w n s) e)
 keeps_at c h r w n (reading b) (came more) o = reads c h r w n b more o
-keeps_at c h r w n (reading b) closed o = ends c h r w n (reading b) o (let a = o.orderly.answered in (omega arith, omega arith))
-keeps_at c h r w n (reading b) failed o = ends c h r w n (reading b) o (let a = o.orderly.answered in (omega arith, omega arith))
+keeps_at c h r w n (reading b) closed o = ends c h r w n (reading b) o (none_is_few o.orderly.unreplied o.orderly.answered)
+keeps_at c h r w n (reading b) failed o = ends c h r w n (reading b) o (none_is_few o.orderly.unreplied o.orderly.answered)
 keeps_at c h r w n (reading b) taken o = same c h r w n (reading b) o
 keeps_at c h r w n (reading b) (replied reply last) o = same c h r w n (reading b) o
 keeps_at c h r w n (reading b) (deferred reply last mark) o = same c h r w n (reading b) o
@@ -374,7 +423,7 @@ keeps_at c h r w n (reading b) unanswered o = same c h r w n (reading b) o
 keeps_at c h r w n (reading b) released o = same c h r w n (reading b) o
 keeps_at c h r w n (reading b) (wrote k) o = same c h r w n (reading b) o
 keeps_at c h r w n (queued m) taken o = takes c h r w n m o
-keeps_at c h r w n (queued m) failed o = ends c h r w n (queued m) o (let a = o.orderly.answered in (omega arith, omega arith))
+keeps_at c h r w n (queued m) failed o = ends c h r w n (queued m) o (none_is_few o.orderly.unreplied o.orderly.answered)
 keeps_at c h r w n (queued m) (came more) o = same c h r w n (queued m) o
 keeps_at c h r w n (queued m) closed o = same c h r w n (queued m) o
 keeps_at c h r w n (queued m) (replied reply last) o = same c h r w n (queued m) o
@@ -382,18 +431,18 @@ keeps_at c h r w n (queued m) (deferred reply last mark) o = same c h r w n (que
 keeps_at c h r w n (queued m) unanswered o = same c h r w n (queued m) o
 keeps_at c h r w n (queued m) released o = same c h r w n (queued m) o
 keeps_at c h r w n (queued m) (wrote k) o = same c h r w n (queued m) o
-keeps_at c h r w n answering (replied reply last) o = replies_to c h r w n reply last o
-keeps_at c h r w n answering (deferred reply last mark) o = defers_to c h r w n reply last mark o
-keeps_at c h r w n answering unanswered o = lingers c h r w n o
-keeps_at c h r w n answering released o = same c h r w n answering o
-keeps_at c h r w n answering failed o = leaves c h r w n o
-keeps_at c h r w n answering (came more) o = same c h r w n answering o
-keeps_at c h r w n answering closed o = same c h r w n answering o
-keeps_at c h r w n answering taken o = same c h r w n answering o
-keeps_at c h r w n answering (wrote k) o = same c h r w n answering o
+keeps_at c h r w n (answering m) (replied reply last) o = replies_to c h r w n m reply last o
+keeps_at c h r w n (answering m) (deferred reply last mark) o = defers_to c h r w n m reply last mark o
+keeps_at c h r w n (answering m) unanswered o = lingers c h r w n m o
+keeps_at c h r w n (answering m) released o = same c h r w n (answering m) o
+keeps_at c h r w n (answering m) failed o = leaves c h r w n m o
+keeps_at c h r w n (answering m) (came more) o = same c h r w n (answering m) o
+keeps_at c h r w n (answering m) closed o = same c h r w n (answering m) o
+keeps_at c h r w n (answering m) taken o = same c h r w n (answering m) o
+keeps_at c h r w n (answering m) (wrote k) o = same c h r w n (answering m) o
 keeps_at c h r w n (confirming reply last mark) released o = releases c h r w n reply last mark o
 keeps_at c h r w n (confirming reply last mark) failed o =
-    ends c h r w n (confirming reply last mark) o (let a = o.orderly.answered in (omega arith, omega arith))
+    ends c h r w n (confirming reply last mark) o (none_is_few o.orderly.unreplied o.orderly.answered)
 keeps_at c h r w n (confirming reply last mark) (came more) o = same c h r w n (confirming reply last mark) o
 keeps_at c h r w n (confirming reply last mark) closed o = same c h r w n (confirming reply last mark) o
 keeps_at c h r w n (confirming reply last mark) taken o = same c h r w n (confirming reply last mark) o
@@ -402,7 +451,7 @@ keeps_at c h r w n (confirming reply last mark) (deferred reply' last' mark') o 
 keeps_at c h r w n (confirming reply last mark) unanswered o = same c h r w n (confirming reply last mark) o
 keeps_at c h r w n (confirming reply last mark) (wrote k) o = same c h r w n (confirming reply last mark) o
 keeps_at c h r w n (writing left last) (wrote k) o = writes c h r w n left last k o
-keeps_at c h r w n (writing left last) failed o = ends c h r w n (writing left last) o (let a = o.orderly.answered in (omega arith, omega arith))
+keeps_at c h r w n (writing left last) failed o = ends c h r w n (writing left last) o (none_is_few o.orderly.unreplied o.orderly.answered)
 keeps_at c h r w n (writing left last) (came more) o = same c h r w n (writing left last) o
 keeps_at c h r w n (writing left last) closed o = same c h r w n (writing left last) o
 keeps_at c h r w n (writing left last) taken o = same c h r w n (writing left last) o
@@ -419,9 +468,9 @@ keeps_at c h r w n lingering (deferred reply last mark) o = same c h r w n linge
 keeps_at c h r w n lingering unanswered o = same c h r w n lingering o
 keeps_at c h r w n lingering released o = same c h r w n lingering o
 keeps_at c h r w n lingering (wrote k) o = same c h r w n lingering o
-keeps_at c h r w n abandoned (replied reply last) o = ends c h r w n abandoned o (let a = o.orderly.answered in (omega arith, omega arith))
-keeps_at c h r w n abandoned (deferred reply last mark) o = ends c h r w n abandoned o (let a = o.orderly.answered in (omega arith, omega arith))
-keeps_at c h r w n abandoned unanswered o = ends c h r w n abandoned o (let a = o.orderly.answered in (omega arith, omega arith))
+keeps_at c h r w n abandoned (replied reply last) o = ends c h r w n abandoned o (let a = o.orderly.answered in omega arith)
+keeps_at c h r w n abandoned (deferred reply last mark) o = ends c h r w n abandoned o (let a = o.orderly.answered in omega arith)
+keeps_at c h r w n abandoned unanswered o = ends c h r w n abandoned o (let a = o.orderly.answered in omega arith)
 keeps_at c h r w n abandoned released o = same c h r w n abandoned o
 keeps_at c h r w n abandoned (came more) o = same c h r w n abandoned o
 keeps_at c h r w n abandoned closed o = same c h r w n abandoned o
@@ -439,7 +488,7 @@ keeps_at c h r w n ended (wrote k) o = same c h r w n ended o
 keeps_at c h r w n ended failed o = same c h r w n ended o
 
 keeps : (l : Life) (e : Event) → Holds l → Holds (behind l e)
-keeps l e o = keeps_at l.came l.handed l.replies l.written l.count l.stage e o
+keeps l e o = keeps_at l.came l.handed l.turns l.written l.count l.stage e o
 
 holds : (l : Life) (events : List Event) → Holds l → Holds (life l events)
 holds l [] o = o
@@ -455,6 +504,8 @@ begins = record {
     left = [];
     replies = refl;
     unwritten = refl;
+    unreplied = [];
+    turns = refl;
     answered = refl;
     few = omega arith;
   };
@@ -465,27 +516,3 @@ begins = record {
 
 pub orderly : Orderly
 orderly events = (holds accepted events begins).orderly
-
--- behind the end nothing happens
-at_end : (c : List ℕ) (h r : List (List ℕ)) (w : List ℕ) (n : ℕ) (e : Event) → behind (made c h r w n ended) e ≡ made c h r w n ended
-at_end c h r w n (came more) = rw (append-nil c, append-nil h, append-nil r, append-nil w) refl
-at_end c h r w n taken = rw (append-nil c, append-nil h, append-nil r, append-nil w) refl
-at_end c h r w n (replied reply last) = rw (append-nil c, append-nil h, append-nil r, append-nil w) refl
-at_end c h r w n (deferred reply last mark) = rw (append-nil c, append-nil h, append-nil r, append-nil w) refl
-at_end c h r w n unanswered = rw (append-nil c, append-nil h, append-nil r, append-nil w) refl
-at_end c h r w n released = rw (append-nil c, append-nil h, append-nil r, append-nil w) refl
-at_end c h r w n (wrote k) = rw (append-nil c, append-nil h, append-nil r, append-nil w) refl
-at_end c h r w n closed = rw (append-nil c, append-nil h, append-nil r, append-nil w) refl
-at_end c h r w n failed = rw (append-nil c, append-nil h, append-nil r, append-nil w) refl
-
-nothing_at : (c : List ℕ) (h r : List (List ℕ)) (w : List ℕ) (n : ℕ) (s : Stage) (e : Event) → s ≡ ended
-    → behind (made c h r w n s) e ≡ made c h r w n s
-nothing_at c h r w n s e is = subst (λ (t : Stage). behind (made c h r w n t) e ≡ made c h r w n t) (sym is) (at_end c h r w n e)
-
-nothing_more : (l : Life) (e : Event) → l.stage ≡ ended → behind l e ≡ l
-nothing_more l e is = nothing_at l.came l.handed l.replies l.written l.count l.stage e is
-
-pub ends_for_good : Final
-ends_for_good l [] is = refl
-ends_for_good l (e ∷ es) is = let still = nothing_more l e is in
-    ap (λ (k : Life). life k es) still ∙ ends_for_good l es is

@@ -103,7 +103,7 @@ test_noted test n old mid d e here notes =
 late_goes : (b : ConnectionLimits) (s : Stage) (waited : ℕ) → is_late_at (time_of b s) waited ≡ true → is_gone s ≡ false
 late_goes b (reading bytes) waited is = refl
 late_goes b (queued message) waited is = refl
-late_goes b answering waited is = absurd cc
+late_goes b (answering m) waited is = absurd cc
 late_goes b (confirming reply last mark) waited is = absurd cc
 late_goes b (writing left last) waited is = refl
 late_goes b lingering waited is = refl

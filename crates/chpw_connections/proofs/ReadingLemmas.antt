@@ -16,7 +16,7 @@ use Rattle.chpw_connections.specs.declared.connection.Connection.{Connection}
 by_phase : (p : Phase) → is_unfinished p ≡ true → wanted_by (stage_of p) ≡ 0 → is_reading (stage_of p) ≡ false
 by_phase (phase.Reading bytes) is none = absurd (grind (arith, nat_tests))
 by_phase (phase.Queued message) is none = refl
-by_phase phase.Answering is none = refl
+by_phase (phase.Answering m) is none = refl
 by_phase (phase.Confirming waiting) is none = refl
 by_phase (phase.Writing outgoing) is none = refl
 by_phase phase.Lingering is none = refl

@@ -41,7 +41,7 @@ besides_same slots who b k same =
 pub ends_waiting : (count : ℕ) (s : Stage) → waits s ≡ true → after count s failed ≡ ended
 ends_waiting count (reading bytes) is = refl
 ends_waiting count (queued message) is = absurd cc
-ends_waiting count answering is = absurd cc
+ends_waiting count (answering m) is = absurd cc
 ends_waiting count (confirming reply last mark) is = absurd cc
 ends_waiting count (writing left last) is = refl
 ends_waiting count lingering is = refl

@@ -10,7 +10,7 @@ use Rattle.chpw_connections.specs.declared.connection.Connection.{Connection}
 has_time : (b : ConnectionLimits) (s : Stage) → is_timed s ≡ true → (most : ℕ) × (time_of b s ≡ Some most)
 has_time b (reading bytes) is = (b.idle, refl)
 has_time b (queued message) is = (b.wait, refl)
-has_time b answering is = absurd cc
+has_time b (answering m) is = absurd cc
 has_time b (confirming reply last mark) is = absurd cc
 has_time b (writing left last) is = (b.idle, refl)
 has_time b lingering is = (b.linger, refl)
@@ -20,7 +20,7 @@ has_time b ended is = absurd cc
 timed_ends : (count : ℕ) (s : Stage) → is_timed s ≡ true → after count s failed ≡ ended
 timed_ends count (reading bytes) is = refl
 timed_ends count (queued message) is = refl
-timed_ends count answering is = absurd cc
+timed_ends count (answering m) is = absurd cc
 timed_ends count (confirming reply last mark) is = absurd cc
 timed_ends count (writing left last) is = refl
 timed_ends count lingering is = refl
@@ -51,7 +51,7 @@ all_end_in_time b c is = ends_in_time b c is (has_time b (stage c) is).0 (has_ti
 pub all_go_on_by_their_worker : AllGoOnByTheirWorker
 all_go_on_by_their_worker count (reading bytes) is = absurd cc
 all_go_on_by_their_worker count (queued message) is = absurd cc
-all_go_on_by_their_worker count answering is = ((λ reply last. inl refl), (λ reply last mark. inr (inl refl)), inl refl)
+all_go_on_by_their_worker count (answering m) is = ((λ reply last. inl refl), (λ reply last mark. inr (inl refl)), inl refl)
 all_go_on_by_their_worker count (confirming reply last mark) is = absurd cc
 all_go_on_by_their_worker count (writing left last) is = absurd cc
 all_go_on_by_their_worker count lingering is = absurd cc
@@ -61,7 +61,7 @@ all_go_on_by_their_worker count ended is = absurd cc
 pub all_go_on_released : AllGoOnReleased
 all_go_on_released count (reading bytes) is = absurd cc
 all_go_on_released count (queued message) is = absurd cc
-all_go_on_released count answering is = absurd cc
+all_go_on_released count (answering m) is = absurd cc
 all_go_on_released count (confirming reply last mark) is = refl
 all_go_on_released count (writing left last) is = absurd cc
 all_go_on_released count lingering is = absurd cc
@@ -71,7 +71,7 @@ all_go_on_released count ended is = absurd cc
 pub none_stays : NoneStays
 none_stays (reading bytes) = inl refl
 none_stays (queued message) = inl refl
-none_stays answering = inr (inl refl)
+none_stays (answering m) = inr (inl refl)
 none_stays (confirming reply last mark) = inr (inr (inl refl))
 none_stays (writing left last) = inl refl
 none_stays lingering = inl refl

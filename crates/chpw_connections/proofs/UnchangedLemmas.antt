@@ -9,11 +9,11 @@ use Rattle.chpw_connections.specs.Stages.{unanswered, released, wrote, closed, f
 use Rattle.chpw_connections.specs.Lives.{Life, accepted, behind, life}
 use Rattle.chpw_connections.specs.Unchanged.{settled, settle, is_ordinary, ordinary, seen, seen_all, ChangesNoAnswer, SeesOrdinary}
 
-abbrev made : List ℕ → List (List ℕ) → List (List ℕ) → List ℕ → ℕ → Stage → Life
-made c h r w n s = record { came = c; handed = h; replies = r; written = w; count = n; stage = s }
+abbrev made : List ℕ → List (List ℕ) → List (List ℕ × List ℕ) → List ℕ → ℕ → Stage → Life
+made c h r w n s = record { came = c; handed = h; turns = r; written = w; count = n; stage = s }
 
 -- where nothing is seen nothing came of it
-nothing_seen : (c : List ℕ) (h r : List (List ℕ)) (w : List ℕ) (n : ℕ) (s : Stage)
+nothing_seen : (c : List ℕ) (h : List (List ℕ)) (r : List (List ℕ × List ℕ)) (w : List ℕ) (n : ℕ) (s : Stage)
     → made (c ++ []) (h ++ []) (r ++ []) (w ++ []) n s ≡ made c h r w n s
 nothing_seen c h r w n s = rw (append-nil c, append-nil h, append-nil r, append-nil w) refl
 
@@ -29,7 +29,7 @@ settled_written true false left = refl
 settled_written false last left = refl
 
 -- one event
-step : (c : List ℕ) (h r : List (List ℕ)) (w : List ℕ) (n : ℕ) (s : Stage) (e : Event)
+step : (c : List ℕ) (h : List (List ℕ)) (r : List (List ℕ × List ℕ)) (w : List ℕ) (n : ℕ) (s : Stage) (e : Event)
     → settle (behind (made c h r w n s) e) ≡ life (settle (made c h r w n s)) (seen s e)
 step c h r w n (reading b) (came more) =
     ap (made (c ++ received b more) (h ++ []) (r ++ []) (w ++ []) n) (settled_read (wanted_after (b ++ received b more) == 0) (b ++ received b more))
@@ -50,15 +50,15 @@ step c h r w n (queued m) released = nothing_seen c h r w n (queued m)
 step c h r w n (queued m) (wrote k) = refl
 step c h r w n (queued m) closed = refl
 step c h r w n (queued m) failed = refl
-step c h r w n answering (came more) = refl
-step c h r w n answering taken = refl
-step c h r w n answering (replied reply' last') = refl
-step c h r w n answering (deferred reply' last' mark') = refl
-step c h r w n answering unanswered = refl
-step c h r w n answering released = nothing_seen c h r w n answering
-step c h r w n answering (wrote k) = refl
-step c h r w n answering closed = refl
-step c h r w n answering failed = refl
+step c h r w n (answering m) (came more) = refl
+step c h r w n (answering m) taken = refl
+step c h r w n (answering m) (replied reply' last') = refl
+step c h r w n (answering m) (deferred reply' last' mark') = refl
+step c h r w n (answering m) unanswered = refl
+step c h r w n (answering m) released = nothing_seen c h r w n (answering m)
+step c h r w n (answering m) (wrote k) = refl
+step c h r w n (answering m) closed = refl
+step c h r w n (answering m) failed = refl
 step c h r w n (writing left last) (came more) = refl
 step c h r w n (writing left last) taken = refl
 step c h r w n (writing left last) (replied reply' last') = refl
@@ -115,7 +115,7 @@ unchanged_from : (l : Life) (events : List Event) → settle (life l events) ≡
 unchanged_from l [] = refl
 unchanged_from l (e ∷ es) =
     unchanged_from (behind l e) es
-    ∙ ap (λ (k : Life). life k (seen_all (behind l e) es)) (step l.came l.handed l.replies l.written l.count l.stage e)
+    ∙ ap (λ (k : Life). life k (seen_all (behind l e) es)) (step l.came l.handed l.turns l.written l.count l.stage e)
     ∙ sym (life-append (settle l) (seen l.stage e) (seen_all (behind l e) es))
 
 -- and what is seen is ordinary
@@ -142,7 +142,7 @@ ordinary_is failed = one_is failed refl
 seen_is : (s : Stage) (e : Event) → All IsOrdinary (seen s e)
 seen_is (reading b) e = ordinary_is e
 seen_is (queued m) e = ordinary_is e
-seen_is answering e = ordinary_is e
+seen_is (answering m) e = ordinary_is e
 seen_is (writing left last) e = ordinary_is e
 seen_is lingering e = ordinary_is e
 seen_is abandoned e = ordinary_is e

@@ -10,7 +10,7 @@ use Rattle.chpw_connections.specs.declared.counting.Counted.TheVariants as count
 abbrev pub is_counted : Counted → Stage → Bool
 is_counted counted.Reading (reading bytes) = true
 is_counted counted.Waiting (queued message) = true
-is_counted counted.Answering answering = true
+is_counted counted.Answering (answering message) = true
 is_counted counted.Answering abandoned = true
 is_counted counted.Confirming (confirming reply last mark) = true
 is_counted counted.Writing (writing left last) = true

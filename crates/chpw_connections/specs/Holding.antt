@@ -10,8 +10,8 @@ use Rattle.chpw_connections.specs.Messages.{whole_after}
 -- which is dropped once all of it is out
 abbrev pub held_by : Phase → ℕ
 held_by (phase.Reading incoming) = incoming.room
-held_by (phase.Queued message) = length message.items
-held_by phase.Answering = 0
+held_by (phase.Queued message) = length message.bytes.items
+held_by (phase.Answering message) = 0
 held_by (phase.Confirming waiting) = length waiting.reply.items
 held_by (phase.Writing outgoing) = length outgoing.reply.items
 held_by phase.Lingering = 0
@@ -29,8 +29,8 @@ held_in slots = sum_by held_at slots.slots
 -- how many bytes its message has, as far as its length has come, or its reply
 abbrev pub size_by : Phase → ℕ
 size_by (phase.Reading incoming) = whole_after incoming.received.items
-size_by (phase.Queued message) = length message.items
-size_by phase.Answering = 0
+size_by (phase.Queued message) = length message.bytes.items
+size_by (phase.Answering message) = 0
 size_by (phase.Confirming waiting) = length waiting.reply.items
 size_by (phase.Writing outgoing) = length outgoing.reply.items
 size_by phase.Lingering = 0

@@ -14,5 +14,6 @@ pub mod Sets
 pub mod Stages
 pub mod Times
 pub mod Todos
+pub mod Turns
 pub mod Unchanged
 pub mod Waiting

@@ -1,5 +1,5 @@
--- The whole life of a connection: what came, what went to workers, what they replied, what was written.
-use Rattle.std.specs.Prelude.{◌≡◌, ℕ, ◌+◌, ◌≤◌, List, [], ◌∷◌, ◌++◌, length, take, All}
+-- The whole life of a connection: what came, what went to workers, what they replied to which message, what was written.
+use Rattle.std.specs.Prelude.{◌≡◌, ℕ, ◌≤◌, List, [], ◌∷◌, ◌++◌, length, map, take, All}
 use Rattle.chpw_connections.specs.Messages.{IsPiece}
 use Rattle.chpw_connections.specs.Stages.{Stage, reading, queued, answering, confirming, writing}
 use Rattle.chpw_connections.specs.Stages.{lingering, abandoned, ended, Event, came, taken}
@@ -8,7 +8,8 @@ use Rattle.chpw_connections.specs.Stages.{replied, deferred, wrote, received, co
 pub record Life : Type 0 where
   pub came : List ℕ
   pub handed : List (List ℕ)
-  pub replies : List (List ℕ)
+  -- each message that was replied to, and the reply
+  pub turns : List (List ℕ × List ℕ)
   pub written : List ℕ
   -- the replies after which it goes on
   pub count : ℕ
@@ -16,7 +17,7 @@ pub record Life : Type 0 where
 
 -- one that was accepted at this moment
 abbrev pub accepted : Life
-accepted = record { came = []; handed = []; replies = []; written = []; count = 0; stage = reading [] }
+accepted = record { came = []; handed = []; turns = []; written = []; count = 0; stage = reading [] }
 
 -- the bytes that an event brings
 abbrev pub came_by : Stage → Event → List ℕ
@@ -28,11 +29,11 @@ abbrev pub handed_by : Stage → Event → List (List ℕ)
 handed_by (queued message) taken = message ∷ []
 handed_by stage event = []
 
--- the reply that it brings
-abbrev pub replied_by : Stage → Event → List (List ℕ)
-replied_by answering (replied reply last) = reply ∷ []
-replied_by answering (deferred reply last mark) = reply ∷ []
-replied_by stage event = []
+-- the message that is being answered, with the reply that it brings
+abbrev pub turns_by : Stage → Event → List (List ℕ × List ℕ)
+turns_by (answering message) (replied reply last) = (message, reply) ∷ []
+turns_by (answering message) (deferred reply last mark) = (message, reply) ∷ []
+turns_by stage event = []
 
 -- the bytes that go out
 abbrev pub written_by : Stage → Event → List ℕ
@@ -44,7 +45,7 @@ abbrev pub behind : Life → Event → Life
 behind l e = record {
   came = l.came ++ came_by l.stage e;
   handed = l.handed ++ handed_by l.stage e;
-  replies = l.replies ++ replied_by l.stage e;
+  turns = l.turns ++ turns_by l.stage e;
   written = l.written ++ written_by l.stage e;
   count = count_after l.count l.stage e;
   stage = after l.count l.stage e;
@@ -74,13 +75,20 @@ IsLeft abandoned rest = Unit {0}
 IsLeft ended rest = Unit {0}
 IsLeft stage rest = rest ≡ []
 
--- as many replies as messages, except the one that is being answered, or was when the connection ended
-abbrev pub AreAnswered : Stage → ℕ → ℕ → Type 0
-AreAnswered answering handed replies = handed ≡ replies + 1
-AreAnswered abandoned handed replies = handed ≡ replies + 1
-AreAnswered lingering handed replies = (replies ≤ handed) × (handed ≤ replies + 1)
-AreAnswered ended handed replies = (replies ≤ handed) × (handed ≤ replies + 1)
-AreAnswered stage handed replies = handed ≡ replies
+-- the messages that were replied to, and the replies
+abbrev pub messages_of : List (List ℕ × List ℕ) → List (List ℕ)
+messages_of turns = map (λ t. t.0) turns
+
+abbrev pub replies_of : List (List ℕ × List ℕ) → List (List ℕ)
+replies_of turns = map (λ t. t.1) turns
+
+-- what was handed on and wasn't replied to: the message that is being answered, or was when the connection ended
+abbrev pub IsUnreplied : Stage → List (List ℕ) → Type 0
+IsUnreplied (answering message) messages = messages ≡ message ∷ []
+IsUnreplied abandoned messages = length messages ≡ 1
+IsUnreplied lingering messages = length messages ≤ 1
+IsUnreplied ended messages = length messages ≤ 1
+IsUnreplied stage messages = messages ≡ []
 
 -- whatever happened, in whatever order
 pub record IsOrderly (l : Life) : Type 0 where
@@ -88,14 +96,16 @@ pub record IsOrderly (l : Life) : Type 0 where
   pub messages : l.came ≡ joined l.handed ++ rest
   pub held : IsHeld l.stage rest
   pub pieces : All IsPiece l.handed
+  pub unreplied : List (List ℕ)
+  pub turns : l.handed ≡ messages_of l.turns ++ unreplied
+  pub answered : IsUnreplied l.stage unreplied
   pub left : List ℕ
-  pub replies : joined l.replies ≡ l.written ++ left
+  pub replies : joined (replies_of l.turns) ≡ l.written ++ left
   pub unwritten : IsLeft l.stage left
-  pub answered : AreAnswered l.stage (length l.handed) (length l.replies)
   pub few : length l.handed ≤ 65536
 
--- what goes to workers are the messages that came, in order, each once; what is written are their replies, in order,
--- each once
+-- what goes to workers are the messages that came, in order, each once; what is written are the replies to them, each
+-- to its own message, in order, each once
 abbrev pub Orderly : Type 0
 Orderly = (events : List Event) → IsOrderly (life accepted events)
 

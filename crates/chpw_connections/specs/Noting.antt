@@ -1,6 +1,7 @@
 -- Which slots a call notes for the caller.
 use Rattle.std.specs.Prelude.{◌≡◌, ℕ, zero, suc, ◌+◌, ◌<◌, ◌≤◌, ◌==◌, List, [], ◌∷◌, ◌++◌, length, Bool, true, false, not, ◌&&◌, ◌||◌}
 use Rattle.std.specs.Prelude.{Option, Some, None, if◌then◌else◌}
+use Rattle.std.specs.List.{list_any}
 use Rattle.std.specs.VecDeque.{deque_items, deque_len, deque_capacity}
 use Rattle.std.specs.declared.collections.VecDeque.{VecDeque}
 use Rattle.std.specs.declared.alloc.Global.{Global}
@@ -19,6 +20,10 @@ use Rattle.chpw_connections.specs.declared.set.Connections.{Connections}
 -- the queue of the slots that are noted, with its room
 abbrev pub noted_by : Connections → VecDeque ℕ Global
 noted_by c = c.changed
+
+-- this slot is one of them
+abbrev pub is_noted_by : Connections → ℕ → Bool
+is_noted_by c slot = list_any (λ other. other == slot) (deque_items c.changed)
 
 -- for how many slots there is room in it
 abbrev pub room_to_note : Connections → ℕ

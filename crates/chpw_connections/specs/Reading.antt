@@ -8,7 +8,7 @@ use Rattle.chpw_connections.specs.declared.connection.Phase.TheVariants as phase
 abbrev pub is_unfinished : Phase → Bool
 is_unfinished (phase.Reading incoming) = nat_lt 0 (wanted_after incoming.received.items)
 is_unfinished (phase.Queued message) = true
-is_unfinished phase.Answering = true
+is_unfinished (phase.Answering message) = true
 is_unfinished (phase.Confirming waiting) = true
 is_unfinished (phase.Writing outgoing) = true
 is_unfinished phase.Lingering = true
@@ -19,7 +19,7 @@ is_unfinished phase.Ended = true
 abbrev pub is_covered : Phase → Bool
 is_covered (phase.Reading incoming) = nat_le (length incoming.received.items) incoming.room
 is_covered (phase.Queued message) = true
-is_covered phase.Answering = true
+is_covered (phase.Answering message) = true
 is_covered (phase.Confirming waiting) = true
 is_covered (phase.Writing outgoing) = true
 is_covered phase.Lingering = true

@@ -118,7 +118,7 @@ is_reading_in (Some c) = is_reading (stage c)
 
 -- a worker answers its message, and it isn't gone
 abbrev pub is_answering : Stage → Bool
-is_answering answering = true
+is_answering (answering message) = true
 is_answering s = false
 
 abbrev pub is_answering_in : Option Connection → Bool

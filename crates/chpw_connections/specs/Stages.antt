@@ -6,14 +6,14 @@ use Rattle.chpw_connections.specs.declared.connection.Phase.{Phase}
 use Rattle.chpw_connections.specs.declared.connection.Phase.TheVariants as phase
 use Rattle.chpw_connections.specs.declared.connection.Connection.{Connection}
 
--- It reads these bytes of its next message; this message waits for a worker; a worker answers it; this reply, after
--- which the connection ends or not, waits until its change is confirmed, until the KDC has the journal up to this mark;
--- these bytes of its reply are left to write, after which the connection ends or not; its last reply is out; it is gone
--- while a worker still answers; it has ended
+-- It reads these bytes of its next message; this message waits for a worker; a worker answers this message; this reply,
+-- after which the connection ends or not, waits until its change is confirmed, until the KDC has the journal up to this
+-- mark; these bytes of its reply are left to write, after which the connection ends or not; its last reply is out; it is
+-- gone while a worker still answers; it has ended
 pub data Stage : Type 0 where
   reading : List ℕ → Stage
   queued : List ℕ → Stage
-  answering : Stage
+  answering : List ℕ → Stage
   confirming : List ℕ → Bool → ℕ → Stage
   writing : List ℕ → Bool → Stage
   lingering : Stage
@@ -59,12 +59,12 @@ abbrev pub after : ℕ → Stage → Event → Stage
 after count (reading bytes) (came more) = read_to (bytes ++ received bytes more)
 after count (reading bytes) closed = ended
 after count (reading bytes) failed = ended
-after count (queued message) taken = answering
+after count (queued message) taken = answering message
 after count (queued message) failed = ended
-after count answering (replied reply last) = writing reply (is_last_reply count last)
-after count answering (deferred reply last mark) = confirming reply (is_last_reply count last) mark
-after count answering unanswered = lingering
-after count answering failed = abandoned
+after count (answering message) (replied reply last) = writing reply (is_last_reply count last)
+after count (answering message) (deferred reply last mark) = confirming reply (is_last_reply count last) mark
+after count (answering message) unanswered = lingering
+after count (answering message) failed = abandoned
 after count (confirming reply last mark) released = writing reply last
 after count (confirming reply last mark) failed = ended
 after count (writing left last) (wrote n) = written_to (drop n left) last
@@ -88,8 +88,8 @@ left_of stage = []
 
 -- the replies after which it goes on
 abbrev pub count_after : ℕ → Stage → Event → ℕ
-count_after count answering (replied reply last) = if is_last_reply count last then count else count + 1
-count_after count answering (deferred reply last mark) = if is_last_reply count last then count else count + 1
+count_after count (answering message) (replied reply last) = if is_last_reply count last then count else count + 1
+count_after count (answering message) (deferred reply last mark) = if is_last_reply count last then count else count + 1
 count_after count stage event = count
 
 -- since when it waits: a message for its worker from its last byte on, a reply for its confirmation from when it was
@@ -97,17 +97,17 @@ count_after count stage event = count
 abbrev pub since_after : ℕ → ℕ → Stage → Event → ℕ
 since_after now since (reading bytes) (came more) =
     if wanted_after (bytes ++ received bytes more) == 0 then now else since
-since_after now since answering (replied reply last) = now
-since_after now since answering (deferred reply last mark) = now
-since_after now since answering unanswered = now
+since_after now since (answering message) (replied reply last) = now
+since_after now since (answering message) (deferred reply last mark) = now
+since_after now since (answering message) unanswered = now
 since_after now since (confirming reply last mark) released = now
 since_after now since (writing left last) (wrote n) = if is_over (drop n left) then now else since
 since_after now since stage event = since
 
 abbrev pub stage_of : Phase → Stage
 stage_of (phase.Reading incoming) = reading incoming.received.items
-stage_of (phase.Queued message) = queued message.items
-stage_of phase.Answering = answering
+stage_of (phase.Queued message) = queued message.bytes.items
+stage_of (phase.Answering message) = answering message.value.items
 stage_of (phase.Confirming waiting) = confirming waiting.reply.items waiting.is_last waiting.mark
 stage_of (phase.Writing outgoing) = writing (drop outgoing.written outgoing.reply.items) outgoing.is_last
 stage_of phase.Lingering = lingering

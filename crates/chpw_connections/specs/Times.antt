@@ -8,7 +8,7 @@ use Rattle.chpw_connections.specs.declared.connection.Connection.{Connection}
 
 -- the stage is timed: no worker has its message, its reply waits for no confirmation, and it hasn't ended
 abbrev pub is_timed : Stage → Bool
-is_timed answering = false
+is_timed (answering message) = false
 is_timed (confirming reply last mark) = false
 is_timed abandoned = false
 is_timed ended = false
@@ -16,7 +16,7 @@ is_timed s = true
 
 -- a worker has its message, gone or not
 abbrev pub is_with_worker : Stage → Bool
-is_with_worker answering = true
+is_with_worker (answering message) = true
 is_with_worker abandoned = true
 is_with_worker s = false
 

@@ -12,7 +12,7 @@ todo_at (writing left last) = todo.Write
 todo_at lingering = todo.Linger
 todo_at ended = todo.Close
 todo_at (queued message) = todo.Wait
-todo_at answering = todo.Wait
+todo_at (answering message) = todo.Wait
 todo_at (confirming reply last mark) = todo.Wait
 todo_at abandoned = todo.Wait
 

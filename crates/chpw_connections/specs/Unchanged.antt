@@ -9,7 +9,7 @@ settled (confirming reply last mark) = writing reply last
 settled s = s
 
 abbrev pub settle : Life → Life
-settle l = record { came = l.came; handed = l.handed; replies = l.replies; written = l.written; count = l.count; stage = settled l.stage }
+settle l = record { came = l.came; handed = l.handed; turns = l.turns; written = l.written; count = l.count; stage = settled l.stage }
 
 -- no deferred reply, and no release
 abbrev pub is_ordinary : Event → Bool

@@ -1,14 +1,13 @@
 //! Replies that wait until their changes are confirmed.
-ghost use Rattle.std.specs.Prelude.{◌≡◌, ◌≢◌, ◌+◌, ◌≤◌, ◌<◌, ℕ, true, false, IfSome, IfNone, Some, None, ◌⊎◌, length, not, ◌&&◌, ◌∷◌, []};
+ghost use Rattle.std.specs.Prelude.{◌≡◌, ◌≢◌, ◌≤◌, ◌<◌, ℕ, false, IfSome, IfNone, Some, None, ◌∷◌, []};
 ghost use Rattle.slab.specs.Slab.{get};
 ghost use Rattle.chpw_connections.specs.Holding.{held_in};
-ghost use Rattle.chpw_connections.specs.Stages.{deferred, unanswered, released};
-ghost use Rattle.chpw_connections.specs.Sets.{Happens, is_answering_in};
-ghost use Rattle.chpw_connections.specs.Room.{HappensWithRoom, IsNeeded, has_room_besides, for_reply};
+ghost use Rattle.chpw_connections.specs.Stages.{released};
+ghost use Rattle.chpw_connections.specs.Sets.{Happens};
 ghost use Rattle.chpw_connections.specs.Queues.{queues_of};
 ghost use Rattle.chpw_connections.specs.Confirming.{is_confirmed_in, Confirms, overdue_in, ReleasesOverdue, NoneIsOverdue};
 ghost use Rattle.chpw_connections.specs.Held.{slots_of, accepted_by, removed_by, expired_by, bounds_of, Counts};
-ghost use Rattle.chpw_connections.specs.Noting.{noted_by, NotesEach, NotesEnds, IsFirstOverdue, slot_if, slots_where, is_with_worker_in};
+ghost use Rattle.chpw_connections.specs.Noting.{noted_by, NotesEach, IsFirstOverdue, slot_if, slots_where};
 
 use crate::set::Connections;
 
@@ -22,40 +21,6 @@ pub struct Unconfirmed {
 }
 
 impl Connections {
-    /// A worker's reply to the message that it took, to be written once its change is confirmed: once the KDC has
-    /// `mark` bytes of the journal (`confirm`), or the reply has waited too long (`overdue`). After the last reply the
-    /// connection ends. Room is made for it as `answer` does; without room it isn't sent, and the connection ends. For
-    /// a connection that no worker answers, or that is gone, no room is made: the reply is dropped.
-    #[tactic(auto, using(crate::proofs::RoomLemmas::happens_with_room))]
-    pub fn defer(&mut self, slot: usize, reply: Vec<u8>, is_last: bool, mark: u64, now: u64)
-        ensures happens { HappensWithRoom (for_reply now) now (slots_of self.old) (slots_of self.new) slot (deferred reply.items is_last mark)
-            ⊎ HappensWithRoom (for_reply now) now (slots_of self.old) (slots_of self.new) slot unanswered }
-        ensures enough { held_in (slots_of self.old) + length reply.items ≤ (bounds_of self.old).bytes
-            → Happens now (slots_of self.old) (slots_of self.new) slot (deferred reply.items is_last mark) }
-        ensures sent { has_room_besides (bounds_of self.old).bytes (for_reply now) (slots_of self.old) slot (length reply.items) ≡ true
-            → is_answering_in (get (slots_of self.old) slot) ≡ true
-            → HappensWithRoom (for_reply now) now (slots_of self.old) (slots_of self.new) slot (deferred reply.items is_last mark) }
-        ensures too_much { has_room_besides (bounds_of self.old).bytes (for_reply now) (slots_of self.old) slot (length reply.items) ≡ false
-            → Happens now (slots_of self.old) (slots_of self.new) slot unanswered }
-        ensures needed { IsNeeded (bounds_of self.old).bytes (length reply.items) (for_reply now) (slots_of self.old) (slots_of self.new) slot }
-        ensures unwanted { is_answering_in (get (slots_of self.old) slot) ≡ false → Happens now (slots_of self.old) (slots_of self.new) slot unanswered }
-        ensures counts { Counts self.new (accepted_by self.old) (removed_by self.old) }
-        ensures expired { expired_by self.new ≡ expired_by self.old }
-        ensures held { held_in (slots_of self.new) ≤ held_in (slots_of self.old) + length reply.items }
-        ensures bounds { bounds_of self.new ≡ bounds_of self.old }
-        ensures notes { NotesEnds (for_reply now) (slots_of self.old) (slots_of self.new) slot (noted_by self.old) (noted_by self.new)
-            (slot_if (not (is_answering_in (get (slots_of self.old) slot)
-            && has_room_besides (bounds_of self.old).bytes (for_reply now) (slots_of self.old) slot (length reply.items))
-            && is_with_worker_in (get (slots_of self.old) slot)) slot) }
-        ensures queues { queues_of self.new ≡ queues_of self.old }
-    {
-        if self.find_room_to_reply(slot, reply.len(), now) {
-            self.slots.defer(slot, reply, is_last, mark, now);
-        } else {
-            self.leave_unanswered(slot, now);
-        }
-    }
-
     /// The KDC has `mark` bytes of the journal: the replies that need no more are to be written now, and their slots
     /// are noted. The other connections stay unchanged.
     pub fn confirm(&mut self, mark: u64, now: u64)

@@ -1,19 +1,16 @@
 //! What happens to one connection, from its accept to its end.
-ghost use Rattle.std.specs.Prelude.{◌≡◌, ◌==◌, if◌then◌else◌, ◌+◌, ◌≤◌, [], length, IfSome, IfNone, Some, None, IfOk, OnOk, OnErr, take, true, nat_lt};
-ghost use Rattle.chpw_connections.specs.Messages.{wanted_after as wanted_of, whole_after as whole_of};
+ghost use Rattle.std.specs.Prelude.{◌≡◌, ◌==◌, if◌then◌else◌, ◌+◌, ◌≤◌, [], length, IfSome, IfNone, Some, None, IfOk, OnOk, OnErr, true, nat_lt};
 ghost use Rattle.chpw_connections.specs.Reading.{is_unfinished, is_covered};
 
 use crate::limits::ConnectionLimits;
+use crate::message::{WholeMessage, at_most, wanted_after, whole_after};
+use crate::remembered::Remembered;
 use crate::room::EvictionRule;
-use chpw_frame::LONGEST_MESSAGE;
 use std::alloc::{AllocError, Global};
 use std::mem;
 
 /// Messages of one connection, at the most.
 pub const MAX_MESSAGES: u32 = 65_536;
-
-/// The bytes of a message's length.
-const HEADER: usize = 4;
 
 /// The stage of a connection.
 #[derive(Drop)]
@@ -21,9 +18,9 @@ pub(crate) enum Phase {
     /// It reads its next message.
     Reading(Incoming),
     /// This message waits for its worker.
-    Queued(Vec<u8>),
-    /// A worker answers its message.
-    Answering,
+    Queued(WholeMessage),
+    /// A worker answers this message.
+    Answering(Remembered<Vec<u8>>),
     /// This reply is written once its change is confirmed.
     Confirming(Deferred),
     /// This reply is being written.
@@ -139,10 +136,10 @@ impl Connection {
     {
         match &self.phase {
             Phase::Reading(incoming) => incoming.room,
-            Phase::Queued(message) => message.len(),
+            Phase::Queued(message) => message.bytes.len(),
             Phase::Confirming(deferred) => deferred.reply.len(),
             Phase::Writing(outgoing) => outgoing.reply.len(),
-            Phase::Answering | Phase::Lingering | Phase::Abandoned | Phase::Ended => 0,
+            Phase::Answering(_) | Phase::Lingering | Phase::Abandoned | Phase::Ended => 0,
         }
     }
 
@@ -152,10 +149,10 @@ impl Connection {
     {
         match &self.phase {
             Phase::Reading(incoming) => whole_after(&incoming.received),
-            Phase::Queued(message) => message.len(),
+            Phase::Queued(message) => message.bytes.len(),
             Phase::Confirming(deferred) => deferred.reply.len(),
             Phase::Writing(outgoing) => outgoing.reply.len(),
-            Phase::Answering | Phase::Lingering | Phase::Abandoned | Phase::Ended => 0,
+            Phase::Answering(_) | Phase::Lingering | Phase::Abandoned | Phase::Ended => 0,
         }
     }
 
@@ -190,7 +187,7 @@ impl Connection {
                 received.extend_from_slice(fitting)?;
                 if wanted_after(&received) == 0 {
                     self.since = now;
-                    self.phase = Phase::Queued(received);
+                    self.phase = Phase::Queued(WholeMessage { bytes: received });
                     return Ok(true);
                 }
                 self.phase = Phase::Reading(Incoming {
@@ -208,14 +205,17 @@ impl Connection {
     }
 
     /// Its message goes to a worker.
-    pub fn take(&mut self) -> Option<Vec<u8>>
+    pub fn take(&mut self) -> Option<WholeMessage>
         ensures goes { Goes 0 self.old self.new taken }
         ensures held { held_by self.new.phase ≤ held_by self.old.phase }
-        ensures message { IfSome result (λ message. stage self.old ≡ queued message.items) }
+        ensures message { IfSome result (λ message. stage self.old ≡ queued message.bytes.items) }
         ensures none { IfNone result (queued_by (stage self.old) ≡ None) }
     {
-        match mem::replace(&mut self.phase, Phase::Answering) {
-            Phase::Queued(message) => Some(message),
+        match mem::replace(&mut self.phase, Phase::Ended) {
+            Phase::Queued(message) => {
+                self.phase = Phase::Answering(Remembered::of(&message.bytes));
+                Some(message)
+            }
             other => {
                 self.phase = other;
                 None
@@ -229,7 +229,7 @@ impl Connection {
         ensures held { held_by self.new.phase ≤ held_by self.old.phase + length reply.items }
     {
         match self.phase {
-            Phase::Answering => {
+            Phase::Answering(_) => {
                 let is_last = self.count_reply(is_last);
                 self.since = now;
                 self.phase = Phase::Writing(Outgoing {
@@ -250,7 +250,7 @@ impl Connection {
         ensures held { held_by self.new.phase ≤ held_by self.old.phase + length reply.items }
     {
         match self.phase {
-            Phase::Answering => {
+            Phase::Answering(_) => {
                 let is_last = self.count_reply(is_last);
                 self.since = now;
                 self.phase = Phase::Confirming(Deferred {
@@ -326,7 +326,7 @@ impl Connection {
         ensures held { held_by self.new.phase ≤ held_by self.old.phase }
     {
         match self.phase {
-            Phase::Answering => {
+            Phase::Answering(_) => {
                 self.since = now;
                 self.phase = Phase::Lingering;
             }
@@ -381,7 +381,7 @@ impl Connection {
         ensures held { held_by self.new.phase ≤ held_by self.old.phase }
     {
         self.phase = match self.phase {
-            Phase::Answering | Phase::Abandoned => Phase::Abandoned,
+            Phase::Answering(_) | Phase::Abandoned => Phase::Abandoned,
             _ => Phase::Ended,
         };
     }
@@ -395,7 +395,7 @@ impl Connection {
             Phase::Reading(_) | Phase::Writing(_) => waited >= bounds.idle,
             Phase::Lingering => waited >= bounds.linger,
             Phase::Queued(_) => waited >= bounds.wait,
-            Phase::Answering | Phase::Confirming(_) | Phase::Abandoned | Phase::Ended => false,
+            Phase::Answering(_) | Phase::Confirming(_) | Phase::Abandoned | Phase::Ended => false,
         }
     }
 
@@ -416,7 +416,7 @@ impl Connection {
         match &self.phase {
             Phase::Reading(incoming) => incoming.begun,
             Phase::Queued(_)
-            | Phase::Answering
+            | Phase::Answering(_)
             | Phase::Confirming(_)
             | Phase::Writing(_)
             | Phase::Lingering
@@ -440,57 +440,9 @@ impl Connection {
     }
 }
 
-/// As many of these bytes as are wanted, from the front.
-#[tactic(auto, using(crate::proofs::TakeLemmas::taken_whole))]
-pub(crate) fn at_most(bytes: &[u8], wanted: usize) -> &[u8]
-    ensures value { result.now ≡ take wanted bytes.now }
-{
-    if bytes.len() <= wanted {
-        bytes
-    } else {
-        &bytes[..wanted]
-    }
-}
-
 // Since when there is room for this many bytes: from this moment, if there was room for another number before.
 fn begun_with(room: usize, before: usize, begun: u64, now: u64) -> u64
     ensures value { result ≡ (if room == before then begun else now) }
 {
     if room == before { begun } else { now }
-}
-
-// How many bytes are wanted after these of a message: the rest of its length, or of the message. A message that is too
-// long has only its length.
-fn wanted_after(received: &[u8]) -> usize
-    ensures value { result ≡ wanted_of received.now }
-{
-    match received.split_first_chunk::<HEADER>() {
-        None => HEADER - received.len(),
-        Some((header, body)) => {
-            let length = u32::from_be_bytes(*header) as usize;
-            if length > LONGEST_MESSAGE {
-                0
-            } else {
-                length.saturating_sub(body.len())
-            }
-        }
-    }
-}
-
-// How many bytes a message has with its length, as far as that is known.
-fn whole_after(received: &[u8]) -> usize
-    ensures value { result ≡ whole_of received.now }
-    ensures few { result ≤ 65539 }
-{
-    match received.first_chunk::<HEADER>() {
-        None => HEADER,
-        Some(header) => {
-            let length = u32::from_be_bytes(*header) as usize;
-            if length > LONGEST_MESSAGE {
-                HEADER
-            } else {
-                HEADER + length
-            }
-        }
-    }
 }

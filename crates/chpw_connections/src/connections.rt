@@ -1,22 +1,19 @@
 //! A set of connections, within bounds.
-ghost use Rattle.std.specs.Prelude.{MatchBool, ◌≡◌, ◌≢◌, ◌+◌, ◌<◌, ◌≤◌, ◌==◌, ◌&&◌, ℕ, not, nat_lt};
-ghost use Rattle.std.specs.Prelude.{true, false, IfSome, IfNone, IsSome, IfOk, Some, None, ◌⊎◌};
-ghost use Rattle.std.specs.Prelude.{◌∷◌, ◌++◌, [], ◌%◌, length, drop, if◌then◌else◌, is_some};
+ghost use Rattle.std.specs.Prelude.{MatchBool, ◌≡◌, ◌≢◌, ◌+◌, ◌<◌, ◌≤◌, ◌==◌, ℕ, not, nat_lt};
+ghost use Rattle.std.specs.Prelude.{true, false, IfSome, IfNone, IsSome, IfOk, Some, None};
+ghost use Rattle.std.specs.Prelude.{[], if◌then◌else◌, is_some};
 ghost use Rattle.slab.specs.Slab.{get, slab_len, Updates};
-ghost use Rattle.chpw_connections.specs.Holding.{held_in, growth_at};
-ghost use Rattle.chpw_connections.specs.Stages.{came, taken, replied, unanswered, wrote, closed, failed};
+ghost use Rattle.chpw_connections.specs.Holding.{held_in};
+ghost use Rattle.chpw_connections.specs.Stages.{wrote, closed, failed};
 ghost use Rattle.chpw_connections.specs.Sets.{Happens, wanted_at, left_at, queued_at};
 ghost use Rattle.chpw_connections.specs.Sets.{is_late_in, Passes, is_lingering_in, is_ended_in};
-ghost use Rattle.chpw_connections.specs.Sets.{is_reading_in, is_answering_in, wanted_of, IsNew};
-ghost use Rattle.chpw_connections.specs.Room.{HappensWithRoom, IsNeeded, has_room_besides};
-ghost use Rattle.chpw_connections.specs.Room.{has_room_to_read as has_room_to_read_in};
-ghost use Rattle.chpw_connections.specs.Room.{read_within, for_message, for_reply, is_large_in};
+ghost use Rattle.chpw_connections.specs.Sets.{IsNew};
 ghost use Rattle.chpw_connections.specs.Expiry.{one_more, is_dropped_in, dropped_in, and_more};
-ghost use Rattle.chpw_connections.specs.Queues.{queues_of, queue_of, workers_of, DropsLate};
-ghost use Rattle.chpw_connections.specs.Waiting.{waits_for, in_time, Becomes, Leaves};
+ghost use Rattle.chpw_connections.specs.Queues.{queues_of, queue_of, workers_of};
+ghost use Rattle.chpw_connections.specs.Waiting.{in_time, Leaves};
 ghost use Rattle.chpw_connections.specs.Held.{slots_of, accepted_by, removed_by, expired_by, bounds_of, changed_of, Counts};
-ghost use Rattle.chpw_connections.specs.Noting.{noted_by, room_to_note, NotesEach, NotesEnds, slot_if, slots_where};
-ghost use Rattle.chpw_connections.specs.Noting.{is_gone_in, is_with_worker_in, ends_closed_in};
+ghost use Rattle.chpw_connections.specs.Noting.{noted_by, room_to_note, NotesEach, slot_if, slots_where};
+ghost use Rattle.chpw_connections.specs.Noting.{is_gone_in, ends_closed_in};
 
 use crate::connection::{Connection, Phase};
 use crate::limits::ConnectionLimits;
@@ -25,16 +22,6 @@ use crate::slots::Slots;
 use crate::waiting::Queues;
 use std::alloc::{AllocError, Global};
 use std::collections::VecDeque;
-
-/// A message for a worker, and its peer.
-#[derive(Drop)]
-pub struct TakenMessage {
-    pub slot: usize,
-    /// An IPv4 address, high byte first.
-    pub peer: [u8; 4],
-    /// Its length in four bytes, and then its bytes; of one that is too long its length alone.
-    pub message: Vec<u8>,
-}
 
 impl Connections {
     /// No connections yet, for this many workers, but at least one.
@@ -229,107 +216,6 @@ impl Connections {
         true
     }
 
-    /// The message at the front of a worker's queue, which has waited there longest. None if none waits, and if it has
-    /// waited too long: its connection has ended then, and the next one may be taken.
-    pub fn take(&mut self, worker: usize, now: u64) -> Option<TakenMessage>
-        ensures message { IfSome result (λ t. queued_at (get (slots_of self.old) t.slot) ≡ Some t.message.items) }
-        ensures in_time { IfSome result (λ t. is_late_in (bounds_of self.old) now (get (slots_of self.old) t.slot) ≡ false) }
-        ensures happens { IfSome result (λ t. Happens 0 (slots_of self.old) (slots_of self.new) t.slot taken) }
-        ensures peer { IfSome result (λ t. IfSome (get (slots_of self.old) t.slot) (λ c. t.peer ≡ c.peer)) }
-        ensures first { IfSome result (λ t. queue_of self.old worker ≡ t.slot ∷ queue_of self.new worker) }
-        ensures others { (other : ℕ) → other ≢ worker → queue_of self.new other ≡ queue_of self.old other }
-        ensures none { IfNone result (((queue_of self.old worker ≡ []) × (self.new ≡ self.old)) ⊎ DropsLate now self.old self.new worker) }
-        ensures workers { workers_of self.new ≡ workers_of self.old }
-        ensures counts { Counts self.new (accepted_by self.old) (removed_by self.old) }
-        ensures expired { IfSome result (λ t. expired_by self.new ≡ expired_by self.old) }
-        ensures held { held_in (slots_of self.new) ≤ held_in (slots_of self.old) }
-        ensures bounds { bounds_of self.new ≡ bounds_of self.old }
-        ensures notes { IfSome result (λ t. noted_by self.new ≡ noted_by self.old) }
-    {
-        let slot = self.queues.first(worker)?;
-        if self.is_late(slot, now) {
-            self.expired = self.expired.saturating_add(1);
-            self.fail(slot);
-            return None;
-        }
-        self.take_first(worker, slot)
-    }
-
-    // The message in the slot at the front of a worker's queue.
-    fn take_first(&mut self, worker: usize, slot: usize) -> Option<TakenMessage>
-        requires first { queue_of self.old worker ≡ slot ∷ drop 1 (queue_of self.old worker) }
-        ensures some { IsSome result }
-        ensures message { IfSome result (λ t. queued_at (get (slots_of self.old) slot) ≡ Some t.message.items) }
-        ensures happens { IfSome result (λ t. (t.slot ≡ slot) × Happens 0 (slots_of self.old) (slots_of self.new) slot taken) }
-        ensures peer { IfSome result (λ t. IfSome (get (slots_of self.old) slot) (λ c. t.peer ≡ c.peer)) }
-        ensures becomes { Becomes (queues_of self.old) (queues_of self.new) worker (drop 1 (queue_of self.old worker)) }
-        ensures counts { Counts self.new (accepted_by self.old) (removed_by self.old) }
-        ensures expired { expired_by self.new ≡ expired_by self.old }
-        ensures held { held_in (slots_of self.new) ≤ held_in (slots_of self.old) }
-        ensures bounds { bounds_of self.new ≡ bounds_of self.old }
-        ensures notes { noted_by self.new ≡ noted_by self.old }
-    {
-        let peer = self.slots.peer(slot);
-        let taken = self.slots.take(slot);
-        self.queues.drop_first(worker);
-        let message = taken?;
-        Some(TakenMessage {
-            slot,
-            peer,
-            message,
-        })
-    }
-
-    /// A worker's reply to the message that it took, to be written now; after the last reply the connection ends. If
-    /// all together would hold more than allowed, others that hold bytes and wait for their clients are ended to make
-    /// room, longest under way first, but nobody if that isn't enough; without room it isn't sent, and the connection
-    /// ends. For a connection that no worker answers, or that is gone, no room is made: the reply is dropped.
-    #[tactic(auto, using(crate::proofs::RoomLemmas::happens_with_room))]
-    pub fn answer(&mut self, slot: usize, reply: Vec<u8>, is_last: bool, now: u64)
-        ensures happens { HappensWithRoom (for_reply now) now (slots_of self.old) (slots_of self.new) slot (replied reply.items is_last)
-            ⊎ HappensWithRoom (for_reply now) now (slots_of self.old) (slots_of self.new) slot unanswered }
-        ensures enough { held_in (slots_of self.old) + length reply.items ≤ (bounds_of self.old).bytes
-            → Happens now (slots_of self.old) (slots_of self.new) slot (replied reply.items is_last) }
-        ensures sent { has_room_besides (bounds_of self.old).bytes (for_reply now) (slots_of self.old) slot (length reply.items) ≡ true
-            → is_answering_in (get (slots_of self.old) slot) ≡ true
-            → HappensWithRoom (for_reply now) now (slots_of self.old) (slots_of self.new) slot (replied reply.items is_last) }
-        ensures too_much { has_room_besides (bounds_of self.old).bytes (for_reply now) (slots_of self.old) slot (length reply.items) ≡ false
-            → Happens now (slots_of self.old) (slots_of self.new) slot unanswered }
-        ensures needed { IsNeeded (bounds_of self.old).bytes (length reply.items) (for_reply now) (slots_of self.old) (slots_of self.new) slot }
-        ensures unwanted { is_answering_in (get (slots_of self.old) slot) ≡ false → Happens now (slots_of self.old) (slots_of self.new) slot unanswered }
-        ensures counts { Counts self.new (accepted_by self.old) (removed_by self.old) }
-        ensures expired { expired_by self.new ≡ expired_by self.old }
-        ensures held { held_in (slots_of self.new) ≤ held_in (slots_of self.old) + length reply.items }
-        ensures bounds { bounds_of self.new ≡ bounds_of self.old }
-        ensures notes { NotesEnds (for_reply now) (slots_of self.old) (slots_of self.new) slot (noted_by self.old) (noted_by self.new)
-            (slot_if (not (is_answering_in (get (slots_of self.old) slot)
-            && has_room_besides (bounds_of self.old).bytes (for_reply now) (slots_of self.old) slot (length reply.items))
-            && is_with_worker_in (get (slots_of self.old) slot)) slot) }
-        ensures queues { queues_of self.new ≡ queues_of self.old }
-    {
-        if self.find_room_to_reply(slot, reply.len(), now) {
-            self.slots.answer(slot, reply, is_last, now);
-        } else {
-            self.leave_unanswered(slot, now);
-        }
-    }
-
-    /// A worker has no reply to the message that it took. The connection ends.
-    #[tactic(auto, using(crate::proofs::HoldsLemmas::holds_quiet))]
-    pub fn leave_unanswered(&mut self, slot: usize, now: u64)
-        ensures happens { Happens now (slots_of self.old) (slots_of self.new) slot unanswered }
-        ensures counts { Counts self.new (accepted_by self.old) (removed_by self.old) }
-        ensures expired { expired_by self.new ≡ expired_by self.old }
-        ensures held { held_in (slots_of self.new) ≤ held_in (slots_of self.old) }
-        ensures bounds { bounds_of self.new ≡ bounds_of self.old }
-        ensures notes { NotesEach (noted_by self.old) (noted_by self.new) (slot_if (is_with_worker_in (get (slots_of self.old) slot)) slot) }
-        ensures queues { queues_of self.new ≡ queues_of self.old }
-    {
-        let is_with_worker = self.is_with_worker(slot);
-        self.slots.leave_unanswered(slot, now);
-        self.note_where(is_with_worker, slot);
-    }
-
     /// Ends the connections whose time is up; the others stay unchanged, and so does the order of those that wait.
     pub fn pass(&mut self, now: u64)
         ensures passed { (slot : ℕ) → Passes (bounds_of self.old) now (get (slots_of self.old) slot) (get (slots_of self.new) slot) }
@@ -380,7 +266,7 @@ impl Connections {
     }
 
     // Whether the time of a slot's connection is up.
-    fn is_late(&self, slot: usize, now: u64) -> bool
+    pub(crate) fn is_late(&self, slot: usize, now: u64) -> bool
         ensures value { result ≡ is_late_in (bounds_of self.now) now (get (slots_of self.now) slot) }
     {
         match self.slots.get(slot) {

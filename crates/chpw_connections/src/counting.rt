@@ -63,7 +63,7 @@ fn is_counted(phase: &Phase, which: Counted) -> bool
     match phase {
         Phase::Reading(_) => which == Counted::Reading,
         Phase::Queued(_) => which == Counted::Waiting,
-        Phase::Answering | Phase::Abandoned => which == Counted::Answering,
+        Phase::Answering(_) | Phase::Abandoned => which == Counted::Answering,
         Phase::Confirming(_) => which == Counted::Confirming,
         Phase::Writing(_) => which == Counted::Writing,
         Phase::Lingering | Phase::Ended => which == Counted::Ending,

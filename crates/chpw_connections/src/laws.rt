@@ -6,14 +6,14 @@ ghost use Rattle.chpw_connections.specs.Times.{AllEndInTime, AllGoOnByTheirWorke
 ghost use Rattle.chpw_connections.specs.Unchanged.{ChangesNoAnswer, SeesOrdinary};
 
 /// The messages that go to workers are those that came, in order, cut by their lengths, each once; the bytes written
-/// are their replies, in order, each once; no message is handed out after the 65,536th.
+/// are the replies to them, each to its own message, in order, each once; no message is handed out after the 65,536th.
 #[tactic(auto, using(crate::proofs::LifeLemmas::orderly))]
 pub fn in_order()
     ensures { Orderly }
 {}
 
 /// After its end nothing of a connection is handed out or written.
-#[tactic(auto, using(crate::proofs::LifeLemmas::ends_for_good))]
+#[tactic(auto, using(crate::proofs::FinalLemmas::ends_for_good))]
 pub fn at_its_end()
     ensures { Final }
 {}

@@ -25,7 +25,7 @@ impl Connections {
     {
         match self.slots.get(slot) {
             None => false,
-            Some(connection) => matches!(connection.phase, Phase::Answering),
+            Some(connection) => matches!(connection.phase, Phase::Answering(_)),
         }
     }
 
@@ -35,7 +35,9 @@ impl Connections {
     {
         match self.slots.get(slot) {
             None => false,
-            Some(connection) => { matches!(connection.phase, Phase::Answering | Phase::Abandoned) }
+            Some(connection) => {
+                matches!(connection.phase, Phase::Answering(_) | Phase::Abandoned)
+            }
         }
     }
 

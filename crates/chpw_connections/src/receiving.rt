@@ -12,7 +12,7 @@ ghost use Rattle.chpw_connections.specs.Waiting.{waits_for, Becomes, Leaves};
 ghost use Rattle.chpw_connections.specs.Held.{slots_of, accepted_by, removed_by, expired_by, bounds_of, Counts};
 ghost use Rattle.chpw_connections.specs.Noting.{noted_by, NotesEnds, slot_if};
 
-use crate::connection::at_most;
+use crate::message::at_most;
 use crate::set::Connections;
 
 impl Connections {
@@ -22,7 +22,7 @@ impl Connections {
     /// have been under way for the bounds' grace, the longest first: for a large message only other large ones, and
     /// nobody if that isn't enough. Without room or memory for them the connection is ended. Bytes for a free slot, and
     /// for a connection that wants none now, change nothing.
-    #[tactic(auto, using(crate::proofs::ComesLemmas::wanted_happens, crate::proofs::ReadingLemmas::unwanted_unread))]
+    #[tactic(auto, using(crate::proofs::ReadingLemmas::unwanted_unread))]
     pub fn receive(&mut self, slot: usize, bytes: &[u8], now: u64) -> Option<usize>
         ensures queued { IfSome result (λ worker. HappensWithRoom (for_message (bounds_of self.old) now
             (get (slots_of self.old) slot)) now (slots_of self.old) (slots_of self.new) slot (came bytes.now)) }

@@ -1,5 +1,5 @@
 //! How much room there is, and who is ended to make more.
-ghost use Rattle.std.specs.Prelude.{◌≡◌, ◌+◌, ◌≤◌, ◌<◌, ℕ, not, nat_lt, true, false, ◌^◌, ◌&&◌, ◌∷◌, []};
+ghost use Rattle.std.specs.Prelude.{◌≡◌, ◌+◌, ◌≤◌, ◌<◌, ℕ, not, nat_lt, true, false, ◌^◌, ◌&&◌, ◌∷◌, [], IfSome, IfNone};
 ghost use Rattle.chpw_connections.specs.Holding.{held_in, growth_at};
 ghost use Rattle.chpw_connections.specs.Stages.{failed};
 ghost use Rattle.chpw_connections.specs.Sets.{Happens, IsLongest, NobodyWaits, is_answering_in};
@@ -32,29 +32,23 @@ impl Connections {
         self.slots.held
     }
 
-    /// Ends the connection that has waited longest for its client, to make room. Whether there was one.
+    /// Ends the connection that has waited longest for its client, to make room: its slot, if there was one.
     #[tactic(auto, using(crate::proofs::HoldsLemmas::longest_not_queued))]
-    pub fn make_room(&mut self) -> bool
-        ensures ended { result ≡ true → (slot : ℕ) × IsLongest (slots_of self.old) slot
-            × Happens 0 (slots_of self.old) (slots_of self.new) slot failed }
-        ensures nobody { result ≡ false → NobodyWaits (slots_of self.old) × (slots_of self.new ≡ slots_of self.old) }
-        ensures noted { result ≡ true → (slot : ℕ) × IsLongest (slots_of self.old) slot
-            × Happens 0 (slots_of self.old) (slots_of self.new) slot failed
-            × NotesEach (noted_by self.old) (noted_by self.new) (slot ∷ []) }
-        ensures unnoted { result ≡ false → noted_by self.new ≡ noted_by self.old }
+    pub fn make_room(&mut self) -> Option<usize>
+        ensures ended { IfSome result (λ slot. IsLongest (slots_of self.old) slot
+            × Happens 0 (slots_of self.old) (slots_of self.new) slot failed) }
+        ensures nobody { IfNone result (NobodyWaits (slots_of self.old) × (slots_of self.new ≡ slots_of self.old)) }
+        ensures noted { IfSome result (λ slot. NotesEach (noted_by self.old) (noted_by self.new) (slot ∷ [])) }
+        ensures unnoted { IfNone result (noted_by self.new ≡ noted_by self.old) }
         ensures counts { Counts self.new (accepted_by self.old) (removed_by self.old) }
         ensures expired { expired_by self.new ≡ expired_by self.old }
         ensures held { held_in (slots_of self.new) ≤ held_in (slots_of self.old) }
         ensures bounds { bounds_of self.new ≡ bounds_of self.old }
         ensures queues { queues_of self.new ≡ queues_of self.old }
     {
-        match self.slots.longest_waiting() {
-            None => false,
-            Some(slot) => {
-                self.fail(slot);
-                true
-            }
-        }
+        let slot = self.slots.longest_waiting()?;
+        self.fail(slot);
+        Some(slot)
     }
 
     /// Whether there is room to read the next bytes of a connection's message: four bytes for its length, and from its

@@ -8,6 +8,7 @@ ghost use Rattle.chpw_connections.specs.Sets.{Happens, Stands, wanted_at, left_a
 ghost use Rattle.chpw_connections.specs.Waiting.{waits_for, is_newly_queued};
 
 use crate::connection::{Connection, Phase};
+use crate::message::WholeMessage;
 use slab::Slab;
 use std::alloc::{AllocError, Global};
 
@@ -118,9 +119,9 @@ impl Slots {
     }
 
     /// The message in a slot goes to a worker.
-    pub fn take(&mut self, slot: usize) -> Option<Vec<u8>>
+    pub fn take(&mut self, slot: usize) -> Option<WholeMessage>
         ensures happens { Happens 0 self.old.connections self.new.connections slot taken }
-        ensures message { IfSome result (λ message. queued_at (get self.old.connections slot) ≡ Some message.items) }
+        ensures message { IfSome result (λ message. queued_at (get self.old.connections slot) ≡ Some message.bytes.items) }
         ensures none { IfNone result (queued_at (get self.old.connections slot) ≡ None) }
         ensures stands { Stands self.old.connections self.new.connections }
         ensures held { self.new.held ≤ self.old.held }

@@ -35,7 +35,7 @@ impl Connections {
             Phase::Writing(_) => Todo::Write,
             Phase::Lingering => Todo::Linger,
             Phase::Ended => Todo::Close,
-            Phase::Queued(_) | Phase::Answering | Phase::Confirming(_) | Phase::Abandoned => {
+            Phase::Queued(_) | Phase::Answering(_) | Phase::Confirming(_) | Phase::Abandoned => {
                 Todo::Wait
             }
         }

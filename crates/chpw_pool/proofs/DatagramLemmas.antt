@@ -56,7 +56,7 @@ read_ends count bytes false = refl
 ends_after_came : (k l : ℕ) (s : Stage) (bytes : List ℕ) → after k s failed ≡ ended → after l (after k s (came bytes)) failed ≡ ended
 ends_after_came k l (reading had) bytes is = read_ends l (had ++ received had bytes) (wanted_after (had ++ received had bytes) == 0)
 ends_after_came k l (queued message) bytes is = refl
-ends_after_came k l answering bytes is = absurd cc
+ends_after_came k l (answering m) bytes is = absurd cc
 ends_after_came k l (confirming reply last mark) bytes is = refl
 ends_after_came k l (writing left last) bytes is = refl
 ends_after_came k l lingering bytes is = refl

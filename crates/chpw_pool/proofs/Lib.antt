@@ -1,9 +1,11 @@
 pub mod ControlLemmas
 pub mod DatagramLemmas
+pub mod NotedLemmas
 pub mod PlaceLemmas
 pub mod ReplyLemmas
 pub mod RoundLemmas
 pub mod RunLemmas
 pub mod SendLemmas
 pub mod ShareLemmas
+pub mod StepLemmas
 pub mod TransferLemmas

@@ -39,8 +39,8 @@ worker_of progress.Some = 0
 worker_of progress.None = 0
 
 -- a datagram that waits, with the copy of its message at its place
-pub is_queued : (sender : Sender) (message copy : List ℕ) (before after : List (Option Transport)) (b : ConnectionLimits) (now number : ℕ)
-    (old new : Slab Connection) (slot queued worker workers : ℕ) → progress.Queued queued ≡ progress.Queued worker
+pub is_queued : {S : Type 0} → (sender : Sender) (message copy : List ℕ) (before after : List (Option (Transport S)))
+    (b : ConnectionLimits) (now number : ℕ) (old new : Slab Connection) (slot queued worker workers : ℕ) → progress.Queued queued ≡ progress.Queued worker
     → TakesDatagram b now sender.address number message old new slot queued workers → copy ≡ message
     → (slot < length before → IsPlaced after slot sender copy)
     → ((other : ℕ) → (other ≡ slot → ⊥) → slice_get after other ≡ slice_get before other)
@@ -52,8 +52,8 @@ is_queued sender message copy before after b now number old new slot queued work
   others = others;
 }
 
-pub queues : (d : Datagrams) (sender : Sender) (message : List ℕ) (before after : List (Option Transport)) (b : ConnectionLimits) (now number : ℕ)
-    (old new : Slab Connection) (worker workers : ℕ) → IsDecided d before sender message now
+pub queues : {S : Type 0} → (d : Datagrams) (sender : Sender) (message : List ℕ) (before after : List (Option (Transport S)))
+    (b : ConnectionLimits) (now number : ℕ) (old new : Slab Connection) (worker workers : ℕ) → IsDecided d before sender message now
     → IsQueued sender message before after b now number old new worker workers
     → Queues d before after b now number old new worker workers
 queues d sender message before after b now number old new worker workers decided queued =
@@ -68,9 +68,9 @@ pub written_back : {X : Type 0} → (n : ℕ) (xs zs : List X) → length xs ≡
 written_back n xs zs same = subst (λ (n : ℕ). xs ≡ take n (xs ++ zs)) same (front xs zs)
 
 -- the same places, by other names
-pub queues_there : (d : Datagrams) (before there after behind : List (Option Transport)) (b : ConnectionLimits) (now number : ℕ)
+pub queues_there : {S : Type 0} → (d : Datagrams) (before there after behind : List (Option (Transport S))) (b : ConnectionLimits) (now number : ℕ)
     (old new : Slab Connection) (worker workers : ℕ) → before ≡ there → after ≡ behind
     → Queues d before after b now number old new worker workers → Queues d there behind b now number old new worker workers
-queues_there d before there after behind b now number old new worker workers here same queued =
-    subst (λ (places : List (Option Transport)). Queues d there places b now number old new worker workers) same
-    (subst (λ (places : List (Option Transport)). Queues d places after b now number old new worker workers) here queued)
+queues_there {S = S} d before there after behind b now number old new worker workers here same queued =
+    subst (λ (places : List (Option (Transport S))). Queues d there places b now number old new worker workers) same
+    (subst (λ (places : List (Option (Transport S))). Queues d places after b now number old new worker workers) here queued)

@@ -7,7 +7,7 @@ use Rattle.chpw_connections.specs.Stages.{deferred, unanswered}
 use Rattle.chpw_connections.specs.declared.connection.Connection.{Connection}
 use Rattle.chpw_connections.specs.declared.limits.ConnectionLimits.{ConnectionLimits}
 use Rattle.chpw_pool.specs.Steps.{IsAnswered}
-use Rattle.chpw_pool.specs.declared.worker.Reply.{Reply}
+use Rattle.chpw_connections.specs.declared.taking.Reply.{Reply}
 
 by_tests : (t u : Bool) (A B : Type 0) → (t ≡ true → u ≡ true → A) → (t ≡ false → B) → (u ≡ false → B) → MatchBool (t && u) A B
 by_tests true true A B both left right = both refl refl

@@ -7,17 +7,17 @@ use Rattle.chpw_connections.specs.declared.connection.Connection.{Connection}
 use Rattle.chpw_connections.specs.declared.todo.Todo.{Todo}
 use Rattle.chpw_connections.specs.declared.todo.Todo.TheVariants as todo
 use Rattle.chpw_pool.specs.Places.{RemainsAt, StaysAt, is_shut_behind}
-use Rattle.chpw_pool.specs.Steps.{Steps, RunsTo, goes}
+use Rattle.chpw_pool.specs.Steps.{StepsUntold, RunsTo, goes}
 use Rattle.chpw_pool.specs.declared.sockets.Transport.{Transport}
 use Rattle.chpw_pool.specs.declared.sockets.Transport.TheVariants as place
 
 pub runs_on : (b c : ConnectionLimits) (now slot : ℕ) (old mid new : Slab Connection) → c ≡ b → RunsTo b now slot old mid
-    → Steps c now (todo_in (get mid slot)) mid new slot → RunsTo b now slot old new
+    → StepsUntold c now (todo_in (get mid slot)) mid new slot → RunsTo b now slot old new
 runs_on b c now slot old mid new same runs step =
-    goes runs (subst (λ (d : ConnectionLimits). Steps d now (todo_in (get mid slot)) mid new slot) same step)
+    goes runs (subst (λ (d : ConnectionLimits). StepsUntold d now (todo_in (get mid slot)) mid new slot) same step)
 
 -- what is at its place
-pub remains : (at : Option (Option Transport)) → RemainsAt at at
+pub remains : {S : Type 0} → (at : Option (Option (Transport S))) → RemainsAt at at
 remains None = refl
 remains (Some None) = refl
 remains (Some (Some (place.Stream s))) = λ shut. shut
@@ -30,9 +30,9 @@ shut_on todo.Linger was shut = refl
 shut_on todo.Close was shut = shut
 shut_on todo.Wait was shut = shut
 
-pub remains_on : (due : Todo) (old mid new : Option (Option Transport)) → RemainsAt old mid → StaysAt due mid new → RemainsAt old new
-remains_on due None mid new is stays = subst (λ (at : Option (Option Transport)). StaysAt due at new) is stays
-remains_on due (Some None) mid new is stays = subst (λ (at : Option (Option Transport)). StaysAt due at new) is stays
+pub remains_on : {S : Type 0} → (due : Todo) (old mid new : Option (Option (Transport S))) → RemainsAt old mid → StaysAt due mid new → RemainsAt old new
+remains_on {S = S} due None mid new is stays = subst (λ (at : Option (Option (Transport S))). StaysAt due at new) is stays
+remains_on {S = S} due (Some None) mid new is stays = subst (λ (at : Option (Option (Transport S))). StaysAt due at new) is stays
 remains_on due (Some (Some t)) None new is stays = absurd is
 remains_on due (Some (Some t)) (Some None) new is stays = absurd is
 remains_on due (Some (Some t)) (Some (Some u)) None is stays = absurd stays

@@ -20,13 +20,13 @@ use Rattle.chpw_pool.specs.declared.udp.Datagrams.{Datagrams}
 abbrev pub is_same_datagram : Sender → List ℕ → Datagram → Bool
 is_same_datagram sender message d = is_same_sender d.sender sender && bytes_eq d.message.items message
 
-abbrev pub is_at : Sender → List ℕ → Option Transport → Bool
+abbrev pub is_at : {S : Type 0} → Sender → List ℕ → Option (Transport S) → Bool
 is_at sender message None = false
 is_at sender message (Some (place.Stream socket)) = false
 is_at sender message (Some (place.Datagram d)) = is_same_datagram sender message d
 
 -- the same datagram of the same sender is being answered
-abbrev pub is_under_way : List (Option Transport) → Sender → List ℕ → Bool
+abbrev pub is_under_way : {S : Type 0} → List (Option (Transport S)) → Sender → List ℕ → Bool
 is_under_way places sender message = list_any (is_at sender message) places
 
 -- it is answerable, and has no kept reply
@@ -35,30 +35,30 @@ pub record IsUnanswered (d : Datagrams) (sender : Sender) (message : List ℕ) (
   pub unkept : reply_for d.answered sender message now ≡ None
 
 -- it is decided; no other one is
-pub record IsDecided (d : Datagrams) (places : List (Option Transport)) (sender : Sender) (message : List ℕ) (now : ℕ) : Type 0 where
+pub record IsDecided {S : Type 0} (d : Datagrams) (places : List (Option (Transport S))) (sender : Sender) (message : List ℕ) (now : ℕ) : Type 0 where
   pub unanswered : IsUnanswered d sender message now
   pub apart : is_under_way places sender message ≡ false
   pub room : may_place_datagram places ≡ true
 
 -- at this place is a datagram of this sender with this message: its reply goes to that sender
-abbrev pub IsPlaced : List (Option Transport) → ℕ → Sender → List ℕ → Type 0
+abbrev pub IsPlaced : {S : Type 0} → List (Option (Transport S)) → ℕ → Sender → List ℕ → Type 0
 IsPlaced places slot sender message =
     (d : Datagram) × (slice_get places slot ≡ Some (Some (place.Datagram d))) × (d.sender ≡ sender) × (d.message.items ≡ message)
 
 -- at this place is no connection
-abbrev pub IsFree : List (Option Transport) → ℕ → Type 0
-IsFree places slot = (t : Transport) → slice_get places slot ≡ Some (Some t) → ⊥
+abbrev pub IsFree : {S : Type 0} → List (Option (Transport S)) → ℕ → Type 0
+IsFree {S = S} places slot = (t : Transport S) → slice_get places slot ≡ Some (Some t) → ⊥
 
 -- at this place is a stream whose writing side isn't shut
-abbrev pub IsFresh : List (Option Transport) → ℕ → Type 0
-IsFresh places slot = (s : Socket) × (slice_get places slot ≡ Some (Some (place.Stream s))) × (s.is_shut ≡ false)
+abbrev pub IsFresh : {S : Type 0} → List (Option (Transport S)) → ℕ → Type 0
+IsFresh {S = S} places slot = (s : Socket S) × (slice_get places slot ≡ Some (Some (place.Stream s))) × (s.is_shut ≡ false)
 
 -- the other places stay
-abbrev pub AreElsewhere : List (Option Transport) → List (Option Transport) → ℕ → Type 0
+abbrev pub AreElsewhere : {S : Type 0} → List (Option (Transport S)) → List (Option (Transport S)) → ℕ → Type 0
 AreElsewhere before after slot = (other : ℕ) → (other ≡ slot → ⊥) → slice_get after other ≡ slice_get before other
 
 -- a datagram waits for this worker as a connection whose place it has; the other places stay
-pub record IsQueued (sender : Sender) (message : List ℕ) (before after : List (Option Transport)) (b : ConnectionLimits) (now number : ℕ)
+pub record IsQueued {S : Type 0} (sender : Sender) (message : List ℕ) (before after : List (Option (Transport S))) (b : ConnectionLimits) (now number : ℕ)
     (old new : Slab Connection) (worker workers : ℕ) : Type 0 where
   pub slot : ℕ
   pub taken : TakesDatagram b now sender.address number message old new slot worker workers
@@ -66,7 +66,7 @@ pub record IsQueued (sender : Sender) (message : List ℕ) (before after : List 
   pub others : (other : ℕ) → (other ≡ slot → ⊥) → slice_get after other ≡ slice_get before other
 
 -- a datagram that is to be decided waits for this worker
-pub record Queues (d : Datagrams) (before after : List (Option Transport))
+pub record Queues {S : Type 0} (d : Datagrams) (before after : List (Option (Transport S)))
     (b : ConnectionLimits) (now number : ℕ) (old new : Slab Connection) (worker workers : ℕ) : Type 0 where
   pub sender : Sender
   pub message : List ℕ

@@ -5,7 +5,7 @@ use Rattle.chpw_connections.specs.Confirming.{Confirms, ReleasesOverdue, NoneIsO
 use Rattle.chpw_connections.specs.declared.confirming.Unconfirmed.{Unconfirmed}
 use Rattle.chpw_connections.specs.declared.connection.Connection.{Connection}
 use Rattle.chpw_follower.specs.Asks.{State, has_mark, after_want, asks_now}
-use Rattle.chpw_pool.specs.declared.worker.Reply.{Reply}
+use Rattle.chpw_connections.specs.declared.taking.Reply.{Reply}
 
 -- how much of the journal the KDC has to have before the reply to a change is written: none, if there is no change, or
 -- the follower has confirmed as much

@@ -1,5 +1,6 @@
 -- Which sockets the reactor handles, and when.
-use Rattle.std.specs.Prelude.{ℕ, ◌+◌, ◌-◌, Bool, true, false, not, ◌||◌, ◌&&◌, ◌==◌, nat_lt, length, if◌then◌else◌}
+use Rattle.std.specs.Prelude.{◌≡◌, ℕ, ◌+◌, ◌-◌, ◌==◌, nat_lt, List, [], ◌∷◌, ◌++◌, length, Option, Some, None}
+use Rattle.std.specs.Prelude.{Bool, true, false, not, ◌||◌, ◌&&◌, if◌then◌else◌}
 use Rattle.slab.specs.Slab.{slab_len}
 use Rattle.chpw_connections.specs.Held.{slots_of, accepted_by, changed_of}
 use Rattle.chpw_connections.specs.declared.todo.Todo.{Todo}
@@ -57,3 +58,10 @@ milliseconds_to_wait can_accept accepting s =
     else if has_none s && is_waiting accepting then 1000
     else if is_waited_for s.asking then 20
     else 100
+
+-- The first slot that is noted is looked at, and noted no longer; what is noted meanwhile comes behind the others. Nothing
+-- is said where it isn't known what is noted, or where nothing is.
+abbrev pub LooksAtFirst : Option (List ℕ) → Option (List ℕ) → List ℕ → List ℕ → Type 0
+LooksAtFirst (Some (slot ∷ slots)) after seen then_seen = ((more : List ℕ) × (after ≡ Some (slots ++ more))) × (then_seen ≡ seen ++ slot ∷ [])
+LooksAtFirst (Some []) after seen then_seen = Unit {0}
+LooksAtFirst None after seen then_seen = Unit {0}

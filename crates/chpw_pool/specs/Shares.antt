@@ -3,20 +3,20 @@ use Rattle.std.specs.Prelude.{ℕ, ◌-◌, ◌/◌, List, Option, Some, None, B
 use Rattle.chpw_pool.specs.declared.sockets.Transport.{Transport}
 use Rattle.chpw_pool.specs.declared.sockets.Transport.TheVariants.{Datagram, Stream}
 
-abbrev pub one_datagram : Option Transport → ℕ
+abbrev pub one_datagram : {S : Type 0} → Option (Transport S) → ℕ
 one_datagram None = 0
 one_datagram (Some (Datagram d)) = 1
 one_datagram (Some (Stream s)) = 0
 
-abbrev pub one_stream : Option Transport → ℕ
+abbrev pub one_stream : {S : Type 0} → Option (Transport S) → ℕ
 one_stream None = 0
 one_stream (Some (Datagram d)) = 0
 one_stream (Some (Stream s)) = 1
 
-abbrev pub datagrams_in : List (Option Transport) → ℕ
+abbrev pub datagrams_in : {S : Type 0} → List (Option (Transport S)) → ℕ
 datagrams_in places = sum_by one_datagram places
 
-abbrev pub streams_in : List (Option Transport) → ℕ
+abbrev pub streams_in : {S : Type 0} → List (Option (Transport S)) → ℕ
 streams_in places = sum_by one_stream places
 
 -- datagrams hold at most half of so many places, but one may always
@@ -32,9 +32,9 @@ abbrev pub most_streams : Bool → ℕ → ℕ
 most_streams has_datagrams places = if has_datagrams then places - kept_for_datagrams places else places
 
 -- one more datagram may have a place
-abbrev pub may_place_datagram : List (Option Transport) → Bool
+abbrev pub may_place_datagram : {S : Type 0} → List (Option (Transport S)) → Bool
 may_place_datagram places = nat_lt (datagrams_in places) (most_datagrams (length places))
 
 -- one more connection over TCP may
-abbrev pub may_place_stream : Bool → List (Option Transport) → Bool
+abbrev pub may_place_stream : {S : Type 0} → Bool → List (Option (Transport S)) → Bool
 may_place_stream has_datagrams places = nat_lt (streams_in places) (most_streams has_datagrams (length places))

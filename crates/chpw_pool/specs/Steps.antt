@@ -17,7 +17,7 @@ use Rattle.chpw_pool.specs.declared.state.Progress.{Progress}
 use Rattle.chpw_pool.specs.declared.state.Progress.TheVariants as progress
 use Rattle.chpw_pool.specs.declared.state.State.{State}
 use Rattle.chpw_pool.specs.declared.state.Shortage.{Shortage}
-use Rattle.chpw_pool.specs.declared.worker.Reply.{Reply}
+use Rattle.chpw_connections.specs.declared.taking.Reply.{Reply}
 
 -- these bytes were read, no more than were wanted, and came to the connection; without room or memory for them it
 -- ended
@@ -50,29 +50,42 @@ pub record GivesNone (old new : Slab Connection) (slot : ℕ) (before after : Op
   pub kept : Keeps before after
   pub happens : Happens 0 old new slot failed ⊎ (new ≡ old)
 
--- What one call of its socket does for a connection: what is to be done for it, or nothing. To a message that came in a
--- datagram no more bytes come: its other side has ended as soon as its reply is sent.
-abbrev pub Reads : ConnectionLimits → ℕ → Slab Connection → Slab Connection → ℕ → Type 0
-Reads b now old new slot = (before : Option (List ℕ))
-    × ((after : Option (List ℕ)) × (Takes b now old new slot before after ⊎ TakesNone old new slot before after))
+-- What a connection's stream tells of itself: the bytes that it has left to give, and those that it was given, as far as
+-- they are known. A datagram tells nothing.
+pub record Told : Type 0 where
+  pub left : Option (List ℕ)
+  pub given : Option (List ℕ)
 
-abbrev pub Writes : ℕ → Slab Connection → Slab Connection → ℕ → Type 0
-Writes now old new slot = (before : Option (List ℕ)) × ((after : Option (List ℕ)) × (Gives now old new slot before after ⊎ GivesNone old new slot before after))
+abbrev pub untold : Told
+untold = record { left = None; given = None }
 
-abbrev pub Drains : Slab Connection → Slab Connection → ℕ → Type 0
-Drains old new slot = (before : Option (List ℕ)) × ((after : Option (List ℕ)) × (LetsGo old new before after ⊎ TakesNone old new slot before after))
+abbrev pub Reads : ConnectionLimits → ℕ → Told → Told → Slab Connection → Slab Connection → ℕ → Type 0
+Reads b now before after old new slot = Takes b now old new slot before.left after.left ⊎ TakesNone old new slot before.left after.left
 
-abbrev pub Steps : ConnectionLimits → ℕ → Todo → Slab Connection → Slab Connection → ℕ → Type 0
-Steps b now (todo.Read n) old new slot = Reads b now old new slot ⊎ (new ≡ old)
-Steps b now todo.Write old new slot = Writes now old new slot ⊎ (new ≡ old)
-Steps b now todo.Linger old new slot = Drains old new slot ⊎ (new ≡ old)
-Steps b now todo.Close old new slot = Updates old new slot None
-Steps b now todo.Wait old new slot = new ≡ old
+abbrev pub Writes : ℕ → Told → Told → Slab Connection → Slab Connection → ℕ → Type 0
+Writes now before after old new slot = Gives now old new slot before.given after.given ⊎ GivesNone old new slot before.given after.given
+
+abbrev pub Drains : Told → Told → Slab Connection → Slab Connection → ℕ → Type 0
+Drains before after old new slot = LetsGo old new before.left after.left ⊎ TakesNone old new slot before.left after.left
+
+-- What one call of its socket does for a connection: what is to be done for it, or nothing. What came is what its stream
+-- gave, and what is written its stream was given. To a message that came in a datagram no more bytes come: its other
+-- side has ended as soon as its reply is sent.
+abbrev pub Steps : ConnectionLimits → ℕ → Todo → Told → Told → Slab Connection → Slab Connection → ℕ → Type 0
+Steps b now (todo.Read n) before after old new slot = Reads b now before after old new slot
+Steps b now todo.Write before after old new slot = Writes now before after old new slot
+Steps b now todo.Linger before after old new slot = Drains before after old new slot
+Steps b now todo.Close before after old new slot = Updates old new slot None
+Steps b now todo.Wait before after old new slot = (new ≡ old) × (after ≡ before)
+
+-- the same at a stream of the system, of whose bytes nothing is known
+abbrev pub StepsUntold : ConnectionLimits → ℕ → Todo → Slab Connection → Slab Connection → ℕ → Type 0
+StepsUntold b now due old new slot = (before : Told) × ((after : Told) × Steps b now due before after old new slot)
 
 -- one after the other
 pub data RunsTo (b : ConnectionLimits) (now slot : ℕ) : Slab Connection → Slab Connection → Type 0 where
   stays : {s : Slab Connection} → RunsTo b now slot s s
-  goes : {old mid new : Slab Connection} → RunsTo b now slot old mid → Steps b now (todo_in (get mid slot)) mid new slot
+  goes : {old mid new : Slab Connection} → RunsTo b now slot old mid → StepsUntold b now (todo_in (get mid slot)) mid new slot
       → RunsTo b now slot old new
 
 -- A worker's reply is to be written if there is room for it and its connection waits for it; without one, or without

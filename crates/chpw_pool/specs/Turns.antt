@@ -4,7 +4,7 @@ use Rattle.chpw_serve.specs.declared.serving.Ended.{Ended}
 use Rattle.chpw_serve.specs.declared.serving.Ended.TheVariants as end
 use Rattle.chpw_table.specs.declared.history.Receipt.{Receipt}
 use Rattle.chpw_table.specs.History.{is_accepted}
-use Rattle.chpw_pool.specs.declared.worker.Reply.{Reply}
+use Rattle.chpw_connections.specs.declared.taking.Reply.{Reply}
 
 abbrev pub IsReplyWith : List ℕ → Bool → Option Reply → Type 0
 IsReplyWith bytes last reply = IsSomeAnd reply (λ r. (r.bytes.items ≡ bytes) × (r.is_last ≡ last))

@@ -3,35 +3,40 @@ ghost use Rattle.std.specs.Prelude.{◌≡◌, ◌<◌, ◌||◌, if◌then◌el
 ghost use Rattle.std.specs.Prelude.{IfOk, OnOk, OnErr, is_some, Some, None, true, false, Ok};
 ghost use Rattle.chpw_connections.specs.Held.{slots_of, bounds_of};
 ghost use Rattle.chpw_connections.specs.Counting.{count_in};
+ghost use Rattle.chpw_connections.specs.Turns.{slot_of};
 ghost use Rattle.chpw_connections.specs.declared.counting.Counted.TheVariants as counted;
 ghost use Rattle.chpw_follower.specs.Asks.{asked_by, at_start, after_ask, after_bytes, after_loss, confirmed_by};
 ghost use Rattle.chpw_pool.specs.Following.{awaited, asking_after, Releases, ReleasesOne, is_waited_for as is_waited};
 ghost use Rattle.chpw_pool.specs.Steps.{IsAnswered};
 
 use crate::state::State;
-use crate::worker::Reply;
-use chpw_connections::{Counted, Unconfirmed};
+use chpw_connections::{Counted, Reply, Turn, Unconfirmed};
 use chpw_follower::{FollowerDialog, ProtocolFault};
 
 impl State {
-    /// A worker's reply to a connection's message is to be written, or there is none and the connection ends. If it is
-    /// the reply to a change, after which the journal has `change` bytes, it waits until the follower has confirmed
+    /// A worker's reply to the message that it took is to be written, or there is none and the connection ends. If it
+    /// is the reply to a change, after which the journal has `change` bytes, it waits until the follower has confirmed
     /// that the KDC has as many, unless it has already.
-    pub fn answer(&mut self, slot: usize, reply: Option<Reply>, change: Option<u64>, now: u64)
-        ensures answered { IsAnswered (bounds_of self.old.connections) now (awaited self.old.asking change) reply
-            (slots_of self.old.connections) (slots_of self.new.connections) slot }
-        ensures asking { self.new.asking ≡ asking_after (awaited self.old.asking change) reply self.old.asking }
+    pub fn answer(&mut self, turn: Turn, now: u64)
+        ensures answered { IsAnswered (bounds_of self.old.connections) now (awaited self.old.asking turn.change) turn.reply
+            (slots_of self.old.connections) (slots_of self.new.connections) (slot_of turn.taken) }
+        ensures asking { self.new.asking ≡ asking_after (awaited self.old.asking turn.change) turn.reply self.old.asking }
         ensures bounds { bounds_of self.new.connections ≡ bounds_of self.old.connections }
         ensures rest { self.new ≡ record self.old { connections = self.new.connections; asking = self.new.asking } }
     {
+        let Turn {
+            taken,
+            reply,
+            change,
+        } = turn;
         match (reply, self.length_awaited(change)) {
-            (None, _) => self.connections.leave_unanswered(slot, now),
+            (None, _) => self.connections.leave_unanswered(taken, now),
             (Some(Reply { bytes, is_last }), None) => {
-                self.connections.answer(slot, bytes, is_last, now);
+                self.connections.answer(taken, bytes, is_last, now);
             }
             (Some(Reply { bytes, is_last }), Some(mark)) => {
                 self.asking.want(mark);
-                self.connections.defer(slot, bytes, is_last, mark, now);
+                self.connections.defer(taken, bytes, is_last, mark, now);
             }
         }
     }

@@ -12,8 +12,7 @@ use crate::options::AcceptLimit;
 use crate::pool::{Pool, PoolFault};
 use crate::sockets::Selector;
 use crate::udp::DatagramSocket;
-use crate::worker::Reply;
-use chpw_connections::{ConnectionLimits, TakenMessage};
+use chpw_connections::{ConnectionLimits, TakenMessage, Turn};
 use chpw_control::Command;
 use chpw_serve::WorkerWords;
 use mio::Waker;
@@ -141,16 +140,10 @@ impl<G> Engine<G> {
     /// The reply to a worker's message is to be written, or there is none and the connection ends. If it is the reply
     /// to a change, after which the journal has `change` bytes, it may wait for the follower. The reactor is woken only
     /// if something is left for it.
-    pub(crate) fn answer<R: Wait + Clock>(
-        &self,
-        rt: &R,
-        slot: usize,
-        reply: Option<Reply>,
-        change: Option<u64>,
-    ) {
+    pub(crate) fn answer<R: Wait + Clock>(&self, rt: &R, turn: Turn) {
         let now = milliseconds(rt);
         let mut hub = self.hub.lock(rt);
-        hub.answer(slot, reply, change, now);
+        hub.answer(turn, now);
         let is_left = hub.state.wants_reactor();
         MutexGuard::unlock(hub);
         if is_left {

@@ -1,14 +1,15 @@
 //! The connections with their sockets, which reactor and workers share under one lock.
 ghost use Rattle.slab.specs.Slab.{get, slab_len};
 ghost use Rattle.std.specs.Prelude.{◌≡◌, ◌≢◌, ◌<◌, ◌==◌, ◌⊎◌, ℕ, nat_lt, length, slice_get, if◌then◌else◌};
-ghost use Rattle.std.specs.Prelude.{IfSome, IfOk, IfErr, Err, is_err, is_some, false, true};
+ghost use Rattle.std.specs.Prelude.{IfSome, IfOk, IfErr, Err, None, is_err, is_some, false, true};
 ghost use Rattle.chpw_connections.specs.Held.{slots_of, bounds_of, accepted_by};
 ghost use Rattle.chpw_connections.specs.Queues.{workers_of};
 ghost use Rattle.chpw_connections.specs.Todos.{todo_in};
 ghost use Rattle.chpw_connections.specs.declared.todo.Todo.TheVariants as todo;
 ghost use Rattle.chpw_connections.specs.Sets.{Happens, IsLongest, NobodyWaits};
 ghost use Rattle.chpw_connections.specs.Stages.{failed};
-ghost use Rattle.chpw_pool.specs.Steps.{IsCalled, Steps, RunsTo, Answers};
+ghost use Rattle.chpw_connections.specs.Turns.{slot_of};
+ghost use Rattle.chpw_pool.specs.Steps.{IsCalled, StepsUntold, RunsTo, Answers};
 ghost use Rattle.chpw_pool.specs.Datagrams.{DropsDatagram};
 ghost use Rattle.chpw_pool.specs.Deciding.{AreElsewhere, IsFree, IsFresh, Queues};
 ghost use Rattle.chpw_pool.specs.Following.{awaited};
@@ -24,8 +25,8 @@ use crate::pool::PoolFault;
 use crate::sockets::Selector;
 use crate::state::{Progress, State};
 use crate::udp::DatagramSocket;
-use crate::worker::{Reply, peer_of};
-use chpw_connections::{ConnectionLimits, Connections, Todo};
+use crate::worker::peer_of;
+use chpw_connections::{ConnectionLimits, Connections, Todo, Turn};
 use std::alloc::Global;
 use std::net::TcpStream;
 
@@ -36,7 +37,7 @@ pub(crate) const STEPS: u32 = 64;
 #[derive(Drop)]
 pub(crate) struct Hub {
     pub state: State,
-    pub sockets: Sockets,
+    pub sockets: Sockets<mio::net::TcpStream>,
 }
 
 impl Hub {
@@ -93,8 +94,9 @@ impl Hub {
     }
 
     /// Does what is to be done for a connection, in one call of its socket.
+    #[tactic(auto, using(crate::proofs::StepLemmas::untold_step))]
     pub fn step(&mut self, slot: usize, now: u64) -> Progress
-        ensures steps { Steps (bounds_of self.old.state.connections) now
+        ensures steps { StepsUntold (bounds_of self.old.state.connections) now
             (todo_in (get (slots_of self.old.state.connections) slot))
             (slots_of self.old.state.connections) (slots_of self.new.state.connections) slot }
         ensures others { AreElsewhere self.old.sockets.by_slot.items self.new.sockets.by_slot.items slot }
@@ -112,15 +114,15 @@ impl Hub {
     }
 
     /// If there are as many connections as allowed, in all or over TCP, ends the one that has waited longest for its
-    /// client; whether one ended.
-    pub fn make_room(&mut self) -> bool
+    /// client: its slot, if one ended.
+    pub fn make_room(&mut self) -> Option<usize>
         ensures needed { may_place_stream (is_some self.old.sockets.datagrams) self.old.sockets.by_slot.items ≡ true
             → nat_lt (slab_len (slots_of self.old.state.connections)) (bounds_of self.old.state.connections).connections ≡ true
-            → (result ≡ false) × (self.new.state ≡ self.old.state) }
-        ensures ended { result ≡ true → (slot : ℕ) × IsLongest (slots_of self.old.state.connections) slot
-            × Happens 0 (slots_of self.old.state.connections) (slots_of self.new.state.connections) slot failed }
+            → (result ≡ None) × (self.new.state ≡ self.old.state) }
+        ensures ended { IfSome result (λ slot. IsLongest (slots_of self.old.state.connections) slot
+            × Happens 0 (slots_of self.old.state.connections) (slots_of self.new.state.connections) slot failed) }
         ensures nobody { may_place_stream (is_some self.old.sockets.datagrams) self.old.sockets.by_slot.items ≡ false
-            → result ≡ false → NobodyWaits (slots_of self.old.state.connections) }
+            → result ≡ None → NobodyWaits (slots_of self.old.state.connections) }
         ensures sockets { self.new.sockets ≡ self.old.sockets }
     {
         let may_put = self.sockets.may_put();
@@ -167,16 +169,18 @@ impl Hub {
         }
     }
 
-    /// A worker's reply to a connection's message, or the word that there is none. Unless it waits for the follower, as
-    /// much of the reply is written as the socket takes, and after it as much of the next message is read as has come:
-    /// it waits for the same worker, which checks its queue next.
-    pub fn answer(&mut self, slot: usize, reply: Option<Reply>, change: Option<u64>, now: u64)
-        ensures answers { Answers (bounds_of self.old.state.connections) now (awaited self.old.state.asking change)
-            reply (slots_of self.old.state.connections) (slots_of self.new.state.connections) slot }
-        ensures others { AreElsewhere self.old.sockets.by_slot.items self.new.sockets.by_slot.items slot }
-        ensures kept { RemainsAt (slice_get self.old.sockets.by_slot.items slot) (slice_get self.new.sockets.by_slot.items slot) }
+    /// A worker's reply to the message that it took, or the word that there is none, for the connection that the message
+    /// came from. Unless it waits for the follower, as much of the reply is written as the socket takes, and after it as
+    /// much of the next message is read as has come: it waits for the same worker, which checks its queue next.
+    pub fn answer(&mut self, turn: Turn, now: u64)
+        ensures answers { Answers (bounds_of self.old.state.connections) now (awaited self.old.state.asking turn.change)
+            turn.reply (slots_of self.old.state.connections) (slots_of self.new.state.connections) (slot_of turn.taken) }
+        ensures others { AreElsewhere self.old.sockets.by_slot.items self.new.sockets.by_slot.items (slot_of turn.taken) }
+        ensures kept { RemainsAt (slice_get self.old.sockets.by_slot.items (slot_of turn.taken))
+            (slice_get self.new.sockets.by_slot.items (slot_of turn.taken)) }
     {
-        self.state.answer(slot, reply, change, now);
+        let slot = turn.taken.slot();
+        self.state.answer(turn, now);
         self.run(slot, now);
     }
 
@@ -196,6 +200,6 @@ impl Hub {
                 Progress::Queued(_) | Progress::None => return,
             }
         }
-        self.state.connections.look_again(slot);
+        self.state.look_again(slot);
     }
 }

@@ -4,10 +4,12 @@
 
 mod accepting;
 mod attending;
+mod channel;
 mod clock;
 mod confirming;
 mod control;
 mod datagrams;
+mod deciding;
 mod engine;
 mod entrance;
 mod follower;

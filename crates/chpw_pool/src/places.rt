@@ -6,11 +6,11 @@ use crate::sockets::Transport;
 use crate::udp::Datagrams;
 use mio::Registry;
 
-/// The sockets by their connections' slots, and what watches them.
+/// The sockets by their connections' slots, with streams of this kind, and what watches them.
 #[derive(Drop)]
-pub(crate) struct Sockets {
+pub(crate) struct Sockets<S> {
     pub registry: Registry,
-    pub by_slot: Vec<Option<Transport>>,
+    pub by_slot: Vec<Option<Transport<S>>>,
     pub buffer: Vec<u8>,
     pub datagrams: Option<Datagrams>,
     /// The bytes of a datagram.

@@ -1,7 +1,7 @@
 //! The reactor: one thread that has the listener and waits for all sockets, and never for one of them alone. The
 //! sockets are under the lock that it shares with the workers.
 
-ghost use Rattle.std.specs.Prelude.{◌≡◌, ◌&&◌, ◌||◌, is_some, true, false, Some};
+ghost use Rattle.std.specs.Prelude.{◌≡◌, ◌&&◌, ◌||◌, [], is_some, true, false, Some, None};
 ghost use Rattle.chpw_pool.specs.Accepting.{is_ready};
 ghost use Rattle.chpw_pool.specs.Bounded.{allows_more};
 ghost use Rattle.chpw_pool.specs.Reports.{is_control, is_datagrams, is_follower, reported_at, source_of};
@@ -13,7 +13,7 @@ use crate::follower::Follower;
 use crate::following::FollowerLink;
 use crate::hub::STEPS;
 use crate::options::AcceptLimit;
-use crate::rounds::{is_round_due, slot_at_turn};
+use crate::rounds::{Noting, is_round_due, look_at_noted, slot_at_turn};
 use crate::sockets::Selector;
 use crate::state::{Progress, Shortage};
 use crate::status_reporter::StatusReporter;
@@ -123,7 +123,7 @@ impl<
             self.follow(poll.registry());
             self.attend(poll.registry());
             self.end_idle_where_stopping();
-            self.look_at_changed();
+            look_at_noted(self);
             self.accept();
             self.take_datagrams();
             self.look_for_late(poll.registry());
@@ -195,23 +195,6 @@ impl<
         }
     }
 
-    // Handles the connections that ended, and those for which more is to be done.
-    fn look_at_changed(&self) {
-        for _ in 0..self.clients {
-            let changed = self
-                .engine
-                .hub
-                .lock(self.rt)
-                .state
-                .connections
-                .take_changed();
-            match changed {
-                None => return,
-                Some(slot) => self.drive(slot),
-            }
-        }
-    }
-
     // Ends the connections whose time is up, once a tick.
     fn look_for_late(&mut self, registry: &Registry) {
         let now = milliseconds(self.rt);
@@ -268,12 +251,7 @@ impl<
                 return;
             }
         }
-        self.engine
-            .hub
-            .lock(self.rt)
-            .state
-            .connections
-            .look_again(slot);
+        self.engine.hub.lock(self.rt).state.look_again(slot);
     }
 
     // One step of it.
@@ -328,8 +306,8 @@ impl<
         ensures kept { result ≡ false → self.new.entrance ≡ record self.old.entrance { pending = Some newcomer } }
         ensures admitted { result ≡ true → self.new.entrance ≡ self.old.entrance }
     {
-        if self.make_room() {
-            self.look_at_changed();
+        if let Some(ended) = self.make_room() {
+            self.drive(ended);
         }
         let now = milliseconds(self.rt);
         let admitted = self.engine.hub.lock(self.rt).admit(newcomer, now);
@@ -342,7 +320,42 @@ impl<
         }
     }
 
-    fn make_room(&self) -> bool {
+    fn make_room(&self) -> Option<usize> {
         self.engine.hub.lock(self.rt).make_room()
+    }
+}
+
+impl<
+    'a,
+    R: Wait + Clock,
+    L: OpenListener<Stream = TcpStream> + AsRawFd,
+    G,
+    F: Follower + StatusReporter + Drop,
+> Noting for Reactor<'a, R, L, G, F> {
+    // They are under the lock, where others note slots too.
+    ghost noted = { λ reactor. None };
+
+    ghost looked_at = { λ reactor. [] };
+
+    fn count(&self) -> usize {
+        self.engine
+            .hub
+            .lock(self.rt)
+            .state
+            .connections
+            .changed_count()
+    }
+
+    fn look_at_first(&mut self) {
+        let first = self
+            .engine
+            .hub
+            .lock(self.rt)
+            .state
+            .connections
+            .take_changed();
+        if let Some(slot) = first {
+            self.drive(slot);
+        }
     }
 }

@@ -1,10 +1,38 @@
-//! The rounds of the reactor over all slots: when one is due, and in which order it goes.
-ghost use Rattle.std.specs.Prelude.{◌≡◌, ◌<◌, ◌-◌, ℕ, nat_le};
-ghost use Rattle.chpw_pool.specs.Rounds.{comes_at};
+//! The rounds of the reactor: over the slots that are noted, and over all slots, when one is due, and in which order it
+//! goes.
+ghost use Rattle.std.specs.Prelude.{◌≡◌, ◌<◌, ◌-◌, ◌++◌, ℕ, List, Option, IfSome, length, nat_le};
+ghost use Rattle.chpw_pool.specs.Rounds.{comes_at, LooksAtFirst};
 
 use crate::state::TICK;
 
-/// Whether a round is due, if the last one was at the first of these moments.
+/// What looks at slots that are noted for it.
+pub(crate) trait Noting {
+    /// The slots that are noted, the first first, if they are known.
+    ghost noted: { Self → Option (List ℕ) };
+
+    /// Those that were looked at, the first first.
+    ghost looked_at: { Self → List ℕ };
+
+    /// How many are noted.
+    fn count(&self) -> usize
+        ensures count { IfSome (noted self.now) (λ slots. result ≡ length slots) };
+
+    /// Looks at the first that is noted, which isn't noted any longer. More may be noted meanwhile, behind the others.
+    fn look_at_first(&mut self)
+        ensures first { LooksAtFirst (noted self.old) (noted self.new) (looked_at self.old) (looked_at self.new) };
+}
+
+/// Looks at each slot that is noted when the round begins, in order, and at no other: what is noted meanwhile waits for
+/// the next round.
+pub(crate) fn look_at_noted<N: Noting>(noting: &mut N)
+    ensures each { IfSome (N.noted noting.old) (λ slots. N.looked_at noting.new ≡ N.looked_at noting.old ++ slots) }
+{
+    for _ in 0..noting.count() {
+        noting.look_at_first();
+    }
+}
+
+/// Whether a round over all is due, if the last one was at the first of these moments.
 pub(crate) fn is_round_due(last: u64, now: u64) -> bool
     ensures value { result ≡ nat_le 100 (now - last) }
 {

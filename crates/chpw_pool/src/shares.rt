@@ -7,7 +7,7 @@ ghost use Rattle.chpw_pool.specs.Shares.{may_place_datagram as may_datagram, may
 use crate::sockets::Transport;
 
 /// Whether one more datagram may have one of these places: datagrams hold at most half of them, but one may always.
-pub(crate) fn may_place_datagram(places: &[Option<Transport>]) -> bool
+pub(crate) fn may_place_datagram<S>(places: &[Option<Transport<S>>]) -> bool
     ensures value { result ≡ may_datagram places.now }
 {
     datagrams_in(places) < most_datagrams(places.len())
@@ -15,7 +15,7 @@ pub(crate) fn may_place_datagram(places: &[Option<Transport>]) -> bool
 
 /// Whether one more connection over TCP may have one of these places: with a socket for datagrams some are kept for
 /// those.
-pub(crate) fn may_place_stream(has_datagrams: bool, places: &[Option<Transport>]) -> bool
+pub(crate) fn may_place_stream<S>(has_datagrams: bool, places: &[Option<Transport<S>>]) -> bool
     ensures value { result ≡ may_stream has_datagrams places.now }
 {
     streams_in(places) < most_streams(has_datagrams, places.len())
@@ -47,7 +47,7 @@ fn most_streams(has_datagrams: bool, places: usize) -> usize
 }
 
 // How many datagrams have one of these places.
-fn datagrams_in(places: &[Option<Transport>]) -> usize
+fn datagrams_in<S>(places: &[Option<Transport<S>>]) -> usize
     ensures value { result ≡ datagrams places.now }
 {
     let mut count = 0;
@@ -58,7 +58,7 @@ fn datagrams_in(places: &[Option<Transport>]) -> usize
 }
 
 // How many connections over TCP do.
-fn streams_in(places: &[Option<Transport>]) -> usize
+fn streams_in<S>(places: &[Option<Transport<S>>]) -> usize
     ensures value { result ≡ streams places.now }
 {
     let mut count = 0;
@@ -68,7 +68,7 @@ fn streams_in(places: &[Option<Transport>]) -> usize
     count
 }
 
-fn one_datagram(place: &Option<Transport>) -> usize
+fn one_datagram<S>(place: &Option<Transport<S>>) -> usize
     ensures value { result ≡ one_datagram place.now }
     ensures few { result ≤ 1 }
 {
@@ -78,7 +78,7 @@ fn one_datagram(place: &Option<Transport>) -> usize
     }
 }
 
-fn one_stream(place: &Option<Transport>) -> usize
+fn one_stream<S>(place: &Option<Transport<S>>) -> usize
     ensures value { result ≡ one_stream place.now }
     ensures few { result ≤ 1 }
 {

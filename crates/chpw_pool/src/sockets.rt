@@ -8,30 +8,33 @@ ghost use Rattle.chpw_connections.specs.Sets.{Happens};
 ghost use Rattle.chpw_connections.specs.Stages.{closed};
 ghost use Rattle.chpw_connections.specs.Todos.{todo_in};
 ghost use Rattle.chpw_connections.specs.declared.todo.Todo.TheVariants as todo;
+ghost use Rattle.chpw_datagrams.specs.declared.sender.Sender.{Sender};
 ghost use Rattle.chpw_pool.specs.Datagrams.{BeginsAndDrops, DropsDatagram};
-ghost use Rattle.chpw_pool.specs.Deciding.{AreElsewhere, IsDecided, IsFree, IsFresh, Queues, IsQueued, IsPlaced, is_at, is_under_way};
+ghost use Rattle.chpw_pool.specs.Deciding.{AreElsewhere, IsFree, IsFresh, Queues};
 ghost use Rattle.chpw_pool.specs.Pools.{IsUnmade};
 ghost use Rattle.chpw_pool.specs.Places.{IsStream, KeepsSizes, Stays, StaysAt};
 ghost use Rattle.chpw_pool.specs.Places.{has_pending, is_datagram, is_datagram_at, is_shut_behind, reads_on};
+ghost use Rattle.chpw_pool.specs.Places.{told_of, told_by, told_at};
 ghost use Rattle.chpw_pool.specs.Shares.{datagrams_in, streams_in, most_datagrams, most_streams};
-ghost use Rattle.chpw_pool.specs.Shares.{may_place_datagram as may_datagram, may_place_stream as may_stream};
+ghost use Rattle.chpw_pool.specs.Shares.{may_place_stream as may_stream};
 ghost use Rattle.chpw_pool.specs.Steps.{IsCalled, Steps, Drains};
 ghost use Rattle.chpw_pool.specs.declared.state.Progress.TheVariants as progress;
 
+use crate::channel::Channel;
+use crate::deciding::decide;
 use crate::places::Sockets;
 use crate::pool::PoolFault;
-use crate::shares::{may_place_datagram, may_place_stream};
+use crate::shares::may_place_stream;
 use crate::state::{Progress, State};
 use crate::tokens::WAKER;
 use crate::transfer::Transfer;
 use crate::udp::{Datagram, DatagramSocket, Datagrams, LONGEST};
 use chpw_connections::Todo;
-use chpw_datagrams::Sender;
 use mio::net::TcpStream;
 use mio::{Events, Interest, Poll, Registry, Token, Waker};
 use std::alloc::{AllocError, Global};
 use std::io::{self, Error, ErrorKind};
-use std::net::{self, Net, Shutdown};
+use std::net::{self, Net};
 
 /// How many events are taken at once. Between two takes the control socket is checked.
 const EVENTS: usize = 64;
@@ -41,12 +44,12 @@ const BUFFER: usize = 16_384;
 
 /// How a connection came: with a socket of its own, or as a datagram.
 #[derive(Drop)]
-pub(crate) enum Transport {
-    Stream(Socket),
+pub(crate) enum Transport<S> {
+    Stream(Socket<S>),
     Datagram(Datagram),
 }
 
-impl Transport {
+impl<S: Channel> Transport<S> {
     // Does what is to be done for the connection, in one call of its socket.
     fn step(
         &mut self,
@@ -58,6 +61,7 @@ impl Transport {
         now: u64,
     ) -> Progress
         ensures steps { due ≢ todo.Close → Steps (bounds_of state.old.connections) now due
+            (told_by S.remaining S.contents self.old) (told_by S.remaining S.contents self.new)
             (slots_of state.old.connections) (slots_of state.new.connections) slot }
         ensures stays { Stays due self.old self.new }
         ensures ended { is_datagram self.old ≡ true → reads_on due ≡ true → (result ≡ progress.Some)
@@ -77,20 +81,21 @@ impl Transport {
 
 /// A connection's socket.
 #[derive(Drop)]
-pub(crate) struct Socket {
-    pub stream: TcpStream,
+pub(crate) struct Socket<S> {
+    pub stream: S,
     /// Whether the writing side is shut.
     pub is_shut: bool,
 }
 
-impl Socket {
+impl<S: Channel> Socket<S> {
     // Shuts the writing side, the first time.
     fn shut(&mut self)
         ensures shut { self.new.is_shut ≡ true }
+        ensures left { S.remaining self.new.stream ≡ S.remaining self.old.stream }
     {
         if !self.is_shut {
             self.is_shut = true;
-            let _ = self.stream.shutdown(Shutdown::Write);
+            self.stream.shut();
         }
     }
 
@@ -104,6 +109,7 @@ impl Socket {
         now: u64,
     ) -> Progress
         ensures steps { due ≢ todo.Close → Steps (bounds_of state.old.connections) now due
+            (told_of S.remaining S.contents self.old) (told_of S.remaining S.contents self.new)
             (slots_of state.old.connections) (slots_of state.new.connections) slot }
         ensures shut { self.new.is_shut ≡ is_shut_behind due self.old.is_shut }
         ensures idle { result ≡ progress.None → slots_of state.new.connections ≡ slots_of state.old.connections }
@@ -120,8 +126,10 @@ impl Socket {
     }
 
     // Shuts the writing side, and discards what still comes.
+    #[tactic(auto, using(crate::proofs::StepLemmas::drained))]
     fn linger(&mut self, state: &mut State, slot: usize, buffer: &mut [u8]) -> Progress
-        ensures drained { Drains (slots_of state.old.connections) (slots_of state.new.connections) slot }
+        ensures drained { Drains (told_of S.remaining S.contents self.old) (told_of S.remaining S.contents self.new)
+            (slots_of state.old.connections) (slots_of state.new.connections) slot }
         ensures idle { result ≡ progress.None → state.new ≡ state.old }
         ensures queued { IsCalled (workers_of state.old.connections) (get (slots_of state.new.connections) slot) result }
         ensures bounds { bounds_of state.new.connections ≡ bounds_of state.old.connections }
@@ -157,14 +165,14 @@ impl Selector {
     }
 }
 
-impl Sockets {
+impl<S: Channel + Drop> Sockets<S> {
     /// None yet, for this many connections, and possibly one for datagrams.
     pub fn new(
         alloc: Global,
         selector: &Selector,
         connections: usize,
         datagrams: Option<DatagramSocket>,
-    ) -> Result<Sockets, PoolFault>
+    ) -> Result<Sockets<S>, PoolFault>
         ensures fault { IfErr result IsUnmade }
         ensures places { IfOk result (λ s. length s.by_slot.items ≡ connections) }
         ensures buffer { IfOk result (λ s. length s.buffer.items ≡ 16384) }
@@ -200,40 +208,23 @@ impl Sockets {
         may_place_stream(self.datagrams.is_some(), self.by_slot.as_slice())
     }
 
-    /// Stores the socket of a connection that was just accepted, and makes it non-blocking; whether it is watched.
-    pub fn put(&mut self, slot: usize, stream: net::TcpStream) -> bool
-        requires room { may_stream (is_some self.old.datagrams) self.old.by_slot.items ≡ true }
-        ensures placed { slot < length self.old.by_slot.items → IsFresh self.new.by_slot.items slot }
-        ensures past { length self.old.by_slot.items ≤ slot → result ≡ false }
-        ensures others { AreElsewhere self.old.by_slot.items self.new.by_slot.items slot }
-        ensures sizes { KeepsSizes self.old self.new }
-    {
-        let is_set = stream.set_nonblocking(true).is_ok();
-        let _ = stream.set_nodelay(true);
-        let mut stream = TcpStream::from_std(stream);
-        let both = Interest::READABLE | Interest::WRITABLE;
-        let is_watched = self
-            .registry
-            .register(&mut stream, Token(slot), both)
-            .is_ok();
-        put_stream(&mut self.by_slot, slot, stream) && is_set && is_watched
-    }
-
     /// Whether the socket of a connection has failed.
     pub fn has_failed(&self, slot: usize) -> bool
         ensures stream { result ≡ true → IsStream (slice_get self.now.by_slot.items slot) }
     {
         match self.by_slot.get(slot) {
-            Some(Some(Transport::Stream(socket))) => has_pending(socket.stream.take_error()),
+            Some(Some(Transport::Stream(socket))) => has_pending(socket.stream.pending_error()),
             _ => false,
         }
     }
 
     /// Does what is to be done for a connection, in one call of its socket.
-    #[tactic(auto, using(crate::proofs::PlaceLemmas::elsewhere))]
+    #[tactic(auto, using(crate::proofs::PlaceLemmas::elsewhere, crate::proofs::StepLemmas::still))]
     pub fn step(&mut self, state: &mut State, slot: usize, now: u64) -> Progress
         ensures steps { Steps (bounds_of state.old.connections) now
             (todo_in (get (slots_of state.old.connections) slot))
+            (told_at S.remaining S.contents (slice_get self.old.by_slot.items slot))
+            (told_at S.remaining S.contents (slice_get self.new.by_slot.items slot))
             (slots_of state.old.connections) (slots_of state.new.connections) slot }
         ensures others { AreElsewhere self.old.by_slot.items self.new.by_slot.items slot }
         ensures closed { todo_in (get (slots_of state.old.connections) slot) ≡ todo.Close → IsFree self.new.by_slot.items slot }
@@ -319,6 +310,27 @@ impl Sockets {
     }
 }
 
+impl Sockets<TcpStream> {
+    /// Stores the socket of a connection that was just accepted, and makes it non-blocking; whether it is watched.
+    pub fn put(&mut self, slot: usize, stream: net::TcpStream) -> bool
+        requires room { may_stream (is_some self.old.datagrams) self.old.by_slot.items ≡ true }
+        ensures placed { slot < length self.old.by_slot.items → IsFresh self.new.by_slot.items slot }
+        ensures past { length self.old.by_slot.items ≤ slot → result ≡ false }
+        ensures others { AreElsewhere self.old.by_slot.items self.new.by_slot.items slot }
+        ensures sizes { KeepsSizes self.old self.new }
+    {
+        let is_set = stream.set_nonblocking(true).is_ok();
+        let _ = stream.set_nodelay(true);
+        let mut stream = TcpStream::from_std(stream);
+        let both = Interest::READABLE | Interest::WRITABLE;
+        let is_watched = self
+            .registry
+            .register(&mut stream, Token(slot), both)
+            .is_ok();
+        put_stream(&mut self.by_slot, slot, stream) && is_set && is_watched
+    }
+}
+
 // Whether a socket has an error: this is its last one, or it can't be asked for it.
 fn has_pending(asked: io::Result<Option<Error>>) -> bool
     ensures value { result ≡ has_pending asked }
@@ -337,102 +349,9 @@ fn untaken(kind: ErrorKind) -> Progress
     }
 }
 
-// Handles a datagram that came.
-#[tactic(auto, using(crate::proofs::PlaceLemmas::queues))]
-fn decide(
-    by_slot: &mut [Option<Transport>],
-    datagrams: &Datagrams,
-    state: &mut State,
-    sender: Sender,
-    message: &[u8],
-    now: u64,
-) -> Progress
-    ensures queued { (worker : ℕ) → result ≡ progress.Queued worker
-        → Queues datagrams.now by_slot.old by_slot.new (bounds_of state.old.connections) now (accepted_by state.old.connections)
-        (slots_of state.old.connections) (slots_of state.new.connections) worker (workers_of state.old.connections) }
-    ensures ignored { ¬ (IsDecided datagrams.now by_slot.old sender message.now now) → (state.new ≡ state.old) × (by_slot.new ≡ by_slot.old) }
-    ensures few { datagrams_in by_slot.old ≤ most_datagrams (length by_slot.old) → datagrams_in by_slot.new ≤ most_datagrams (length by_slot.new) }
-    ensures streams { streams_in by_slot.new ≤ streams_in by_slot.old }
-    ensures places { length by_slot.new ≡ length by_slot.old }
-    ensures some { (result ≡ progress.None) → ⊥ }
-    ensures bounds { bounds_of state.new.connections ≡ bounds_of state.old.connections }
-    ensures dropped { result ≡ progress.Some → DropsDatagram (slots_of state.old.connections) (slots_of state.new.connections) }
-    ensures in_turn { result ≡ progress.Some → (state.new ≡ state.old)
-        ⊎ BeginsAndDrops (bounds_of state.old.connections) now sender.address (accepted_by state.old.connections) message.now
-        (slots_of state.old.connections) (slots_of state.new.connections) }
-    ensures kept { result ≡ progress.Some → by_slot.new ≡ by_slot.old }
-{
-    match datagrams.is_to_be_decided(sender, message, now) {
-        Ok(true) if may_be_queued(by_slot, sender, message) => {
-            queue(datagrams.alloc, by_slot, state, sender, message, now)
-        }
-        _ => Progress::Some,
-    }
-}
-
-// Whether a datagram isn't being answered, and one more may have a place.
-fn may_be_queued(by_slot: &[Option<Transport>], sender: Sender, message: &[u8]) -> bool
-    ensures apart { result ≡ true → is_under_way by_slot.now sender message.now ≡ false }
-    ensures room { result ≡ true → may_datagram by_slot.now ≡ true }
-    ensures not { result ≡ false → is_under_way by_slot.now sender message.now ≡ false → may_datagram by_slot.now ≡ false }
-{
-    !is_under_way(by_slot, sender, message) && may_place_datagram(by_slot)
-}
-
-// Whether the same datagram of the same sender is being answered.
-fn is_under_way(by_slot: &[Option<Transport>], sender: Sender, message: &[u8]) -> bool
-    ensures value { result ≡ is_under_way by_slot.now sender message.now }
-{
-    by_slot.iter().any(|place| is_at(place, sender, message))
-}
-
-fn is_at(place: &Option<Transport>, sender: Sender, message: &[u8]) -> bool
-    ensures value { result ≡ is_at sender message.now place.now }
-{
-    match place {
-        Some(Transport::Datagram(other)) => other.is(sender, message),
-        Some(Transport::Stream(_)) | None => false,
-    }
-}
-
-// Lets a datagram wait for its worker, if it can.
-fn queue(
-    alloc: Global,
-    by_slot: &mut [Option<Transport>],
-    state: &mut State,
-    sender: Sender,
-    message: &[u8],
-    now: u64,
-) -> Progress
-    ensures queued { (worker : ℕ) → result ≡ progress.Queued worker
-        → IsQueued sender message.now by_slot.old by_slot.new (bounds_of state.old.connections) now (accepted_by state.old.connections)
-        (slots_of state.old.connections) (slots_of state.new.connections) worker (workers_of state.old.connections) }
-    ensures some { (result ≡ progress.None) → ⊥ }
-    ensures bounds { bounds_of state.new.connections ≡ bounds_of state.old.connections }
-    ensures dropped { result ≡ progress.Some → DropsDatagram (slots_of state.old.connections) (slots_of state.new.connections) }
-    ensures in_turn { result ≡ progress.Some → (state.new ≡ state.old)
-        ⊎ BeginsAndDrops (bounds_of state.old.connections) now sender.address (accepted_by state.old.connections) message.now
-        (slots_of state.old.connections) (slots_of state.new.connections) }
-    ensures kept { result ≡ progress.Some → by_slot.new ≡ by_slot.old }
-    ensures one_more { datagrams_in by_slot.new ≤ datagrams_in by_slot.old + 1 }
-    ensures streams { streams_in by_slot.new ≤ streams_in by_slot.old }
-    ensures places { length by_slot.new ≡ length by_slot.old }
-{
-    let Ok(copy) = Vec::from_slice(alloc, message) else {
-        return Progress::Some;
-    };
-    match state.take_datagram(sender.address, message, now) {
-        None => Progress::Some,
-        Some((slot, worker)) => {
-            put_datagram(by_slot, slot, sender, copy);
-            Progress::Queued(worker)
-        }
-    }
-}
-
 // Stores the socket of a connection, if there is such a slot; whether there is.
 #[tactic(auto, using(crate::proofs::PlaceLemmas::elsewhere, crate::proofs::ShareLemmas::sum_set))]
-fn put_stream(by_slot: &mut [Option<Transport>], slot: usize, stream: TcpStream) -> bool
+fn put_stream<S: Drop>(by_slot: &mut [Option<Transport<S>>], slot: usize, stream: S) -> bool
     ensures placed { slot < length by_slot.old → IsFresh by_slot.new slot }
     ensures past { length by_slot.old ≤ slot → result ≡ false }
     ensures others { AreElsewhere by_slot.old by_slot.new slot }
@@ -447,20 +366,6 @@ fn put_stream(by_slot: &mut [Option<Transport>], slot: usize, stream: TcpStream)
         true
     } else {
         false
-    }
-}
-
-// Stores the datagram that a connection came as.
-#[tactic(auto, using(crate::proofs::PlaceLemmas::elsewhere, crate::proofs::ShareLemmas::sum_set))]
-fn put_datagram(by_slot: &mut [Option<Transport>], slot: usize, sender: Sender, message: Vec<u8>)
-    ensures placed { slot < length by_slot.old → IsPlaced by_slot.new slot sender message.items }
-    ensures others { (other : ℕ) → (other ≡ slot → ⊥) → slice_get by_slot.new other ≡ slice_get by_slot.old other }
-    ensures one_more { datagrams_in by_slot.new ≤ datagrams_in by_slot.old + 1 }
-    ensures streams { streams_in by_slot.new ≤ streams_in by_slot.old }
-    ensures places { length by_slot.new ≡ length by_slot.old }
-{
-    if slot < by_slot.len() {
-        by_slot[slot] = Some(Transport::Datagram(Datagram { sender, message }));
     }
 }
 
@@ -486,7 +391,7 @@ fn longest_of(has_socket: bool) -> usize
     if has_socket { LONGEST } else { 0 }
 }
 
-fn no_sockets(alloc: Global, count: usize) -> Result<Vec<Option<Transport>>, AllocError>
+fn no_sockets<S: Drop>(alloc: Global, count: usize) -> Result<Vec<Option<Transport<S>>>, AllocError>
     ensures count { IfOk result (λ places. length places.items ≡ count) }
     ensures none { IfOk result (λ places. (datagrams_in places.items ≡ 0) × (streams_in places.items ≡ 0)) }
 {

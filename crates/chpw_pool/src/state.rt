@@ -3,10 +3,12 @@ ghost use Rattle.std.specs.Prelude.{◌≡◌, ◌≢◌, ◌<◌, ◌⊎◌, �
 ghost use Rattle.std.specs.Prelude.{IfSome, IfNone, is_none, Some, None, true, false};
 ghost use Rattle.slab.specs.Slab.{get, slab_len};
 ghost use Rattle.chpw_connections.specs.Held.{accepted_by, slots_of, bounds_of};
+ghost use Rattle.chpw_connections.specs.Noting.{noted_by, is_noted_by, NotesEach};
 ghost use Rattle.chpw_connections.specs.Queues.{queue_of, DropsLate};
 ghost use Rattle.chpw_connections.specs.Todos.{todo_in};
 ghost use Rattle.chpw_connections.specs.Sets.{Happens, IsLongest, IsNew, NobodyWaits, Passes, queued_at, is_late_in};
 ghost use Rattle.chpw_connections.specs.Stages.{taken, failed};
+ghost use Rattle.chpw_connections.specs.Turns.{slot_of, message_of, peer_of};
 ghost use Rattle.chpw_follower.specs.Asks.{at_start};
 ghost use Rattle.chpw_pool.specs.Following.{is_waited_for as is_waited};
 ghost use Rattle.chpw_pool.specs.Steps.{is_short_for, short_of};
@@ -156,19 +158,37 @@ impl State {
     }
 
     /// If no place may be given to one more connection, or there are as many as allowed, ends the one that has waited
-    /// longest for its client; whether one ended.
-    pub fn make_room(&mut self, has_place: bool) -> bool
+    /// longest for its client: its slot, if one ended.
+    pub fn make_room(&mut self, has_place: bool) -> Option<usize>
         ensures needed { has_place ≡ true → nat_lt (slab_len (slots_of self.old.connections)) (bounds_of self.old.connections).connections ≡ true
-            → (result ≡ false) × (self.new ≡ self.old) }
-        ensures ended { result ≡ true → (slot : ℕ) × IsLongest (slots_of self.old.connections) slot
-            × Happens 0 (slots_of self.old.connections) (slots_of self.new.connections) slot failed }
+            → (result ≡ None) × (self.new ≡ self.old) }
+        ensures ended { IfSome result (λ slot. IsLongest (slots_of self.old.connections) slot
+            × Happens 0 (slots_of self.old.connections) (slots_of self.new.connections) slot failed) }
         ensures nobody { nat_lt (slab_len (slots_of self.old.connections)) (bounds_of self.old.connections).connections ≡ false
-            → result ≡ false → NobodyWaits (slots_of self.old.connections) }
-        ensures nobody_placed { has_place ≡ false → result ≡ false → NobodyWaits (slots_of self.old.connections) }
-        ensures unchanged { result ≡ false → slots_of self.new.connections ≡ slots_of self.old.connections }
+            → result ≡ None → NobodyWaits (slots_of self.old.connections) }
+        ensures nobody_placed { has_place ≡ false → result ≡ None → NobodyWaits (slots_of self.old.connections) }
+        ensures unchanged { result ≡ None → slots_of self.new.connections ≡ slots_of self.old.connections }
         ensures rest { self.new ≡ record self.old { connections = self.new.connections } }
     {
-        (!has_place || self.connections.is_full()) && self.connections.make_room()
+        if has_place && !self.connections.is_full() {
+            return None;
+        }
+        self.connections.make_room()
+    }
+
+    /// Notes a slot for whose connection more is to be done than was done for now, unless it is noted: in a round it
+    /// gets one turn for that.
+    pub fn look_again(&mut self, slot: usize)
+        ensures noted { is_noted_by self.old.connections slot ≡ true → self.new ≡ self.old }
+        ensures notes { is_noted_by self.old.connections slot ≡ false
+            → NotesEach (noted_by self.old.connections) (noted_by self.new.connections) (slot ∷ []) }
+        ensures slots { slots_of self.new.connections ≡ slots_of self.old.connections }
+        ensures bounds { bounds_of self.new.connections ≡ bounds_of self.old.connections }
+        ensures rest { self.new ≡ record self.old { connections = self.new.connections } }
+    {
+        if !self.connections.is_noted(slot) {
+            self.connections.look_again(slot);
+        }
     }
 
     /// Time passes for all connections, and a round begins: the shortage of room in the last one.
@@ -188,11 +208,11 @@ impl State {
     /// The next message for a worker; none if it is to take none, or the next one waited too long.
     pub fn take(&mut self, worker: usize, now: u64) -> Option<TakenMessage>
         ensures stopped { self.old.is_stopped ≡ true → (result ≡ None) × (self.new ≡ self.old) }
-        ensures message { IfSome result (λ t. queued_at (get (slots_of self.old.connections) t.slot) ≡ Some t.message.items) }
-        ensures in_time { IfSome result (λ t. is_late_in (bounds_of self.old.connections) now (get (slots_of self.old.connections) t.slot) ≡ false) }
-        ensures happens { IfSome result (λ t. Happens 0 (slots_of self.old.connections) (slots_of self.new.connections) t.slot taken) }
-        ensures peer { IfSome result (λ t. IfSome (get (slots_of self.old.connections) t.slot) (λ c. t.peer ≡ c.peer)) }
-        ensures first { IfSome result (λ t. queue_of self.old.connections worker ≡ t.slot ∷ queue_of self.new.connections worker) }
+        ensures message { IfSome result (λ t. queued_at (get (slots_of self.old.connections) (slot_of t)) ≡ Some (message_of t)) }
+        ensures in_time { IfSome result (λ t. is_late_in (bounds_of self.old.connections) now (get (slots_of self.old.connections) (slot_of t)) ≡ false) }
+        ensures happens { IfSome result (λ t. Happens 0 (slots_of self.old.connections) (slots_of self.new.connections) (slot_of t) taken) }
+        ensures peer { IfSome result (λ t. IfSome (get (slots_of self.old.connections) (slot_of t)) (λ c. peer_of t ≡ c.peer)) }
+        ensures first { IfSome result (λ t. queue_of self.old.connections worker ≡ slot_of t ∷ queue_of self.new.connections worker) }
         ensures others { (other : ℕ) → other ≢ worker → queue_of self.new.connections other ≡ queue_of self.old.connections other }
         ensures none { self.old.is_stopped ≡ false → IfNone result
             (((queue_of self.old.connections worker ≡ []) × (self.new ≡ self.old))

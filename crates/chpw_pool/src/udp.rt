@@ -11,7 +11,7 @@ ghost use Rattle.chpw_pool.specs.Datagrams.{in_datagram};
 ghost use Rattle.chpw_pool.specs.Deciding.{is_same_datagram, IsUnanswered, KeepsReply};
 ghost use Rattle.chpw_pool.specs.Places.{reads_on};
 ghost use Rattle.chpw_pool.specs.Pools.{IsUnmade};
-ghost use Rattle.chpw_pool.specs.Steps.{IsCalled, Steps, Writes};
+ghost use Rattle.chpw_pool.specs.Steps.{IsCalled, Steps, Writes, untold};
 ghost use Rattle.chpw_pool.specs.Transfers.{is_sent, ComesOfSend};
 ghost use Rattle.chpw_pool.specs.declared.state.Progress.TheVariants as progress;
 
@@ -59,7 +59,7 @@ impl Datagram {
         due: Todo,
         now: u64,
     ) -> Progress
-        ensures steps { due ≢ todo.Close → Steps (bounds_of state.old.connections) now due
+        ensures steps { due ≢ todo.Close → Steps (bounds_of state.old.connections) now due untold untold
             (slots_of state.old.connections) (slots_of state.new.connections) slot }
         ensures ended { reads_on due ≡ true → (result ≡ progress.Some)
             × Happens 0 (slots_of state.old.connections) (slots_of state.new.connections) slot closed }
@@ -175,7 +175,7 @@ impl Datagrams {
         datagram: &mut Datagram,
         now: u64,
     ) -> Progress
-        ensures written { Writes now (slots_of state.old.connections) (slots_of state.new.connections) slot }
+        ensures written { Writes now untold untold (slots_of state.old.connections) (slots_of state.new.connections) slot }
         ensures kept { KeepsReply self.old.answered self.new.answered datagram.old.sender datagram.old.message.items
             (left_at (get (slots_of state.old.connections) slot)) now }
         ensures blocked { result ≡ progress.None → (self.new ≡ self.old) × (slots_of state.new.connections ≡ slots_of state.old.connections) }

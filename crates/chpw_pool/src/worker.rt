@@ -3,12 +3,13 @@ ghost use Rattle.std.specs.Prelude.{◌≡◌, ℕ, List, Option, Some, [], leng
 ghost use Rattle.chpw_serve.specs.Answering.{Answering, Unanswered};
 ghost use Rattle.chpw_serve.specs.Serving.{stream_state, message_too_long, IsServed};
 ghost use Rattle.chpw_serve.specs.declared.serving.Ended.{Ended};
+ghost use Rattle.chpw_connections.specs.Turns.{message_of, peer_of as peer_of_taken};
 ghost use Rattle.chpw_pool.specs.Pools.{peer_in};
 ghost use Rattle.chpw_pool.specs.Turns.{IsChangeBehind, IsReplyBehind, fills_at, has_changed_after};
 
 use crate::engine::Engine;
 use crate::follower::JournalEnd;
-use chpw_connections::TakenMessage;
+use chpw_connections::{Reply, TakenMessage, Turn};
 use chpw_decider::Decider;
 use chpw_serve::{Clock, Ended, Gate, Messages, Observer, Words, serve_stream};
 use chpw_table::Receipt;
@@ -29,18 +30,10 @@ pub(crate) struct Worker<'a, M, K: Decider, G: Gate + Observer, C: Clock, X: Wor
     pub words: X,
 }
 
-/// A reply as it is sent, with its length before it; and whether the connection ends after it.
-#[derive(Drop)]
-pub(crate) struct Reply {
-    pub bytes: Vec<u8>,
-    pub is_last: bool,
-}
-
 /// What a worker does after a message: it hands back the reply, and if that is the reply to a change, the end of the
 /// journal that it may wait for.
 #[derive(Drop)]
-struct Turn {
-    slot: usize,
+struct Outcome {
     reply: Option<Reply>,
     change: Option<u64>,
     /// Whether it stops all workers, since the history has no room for another entry.
@@ -72,8 +65,7 @@ pub(crate) fn work<
         let Some(taken) = engine.next(rt, number) else {
             return;
         };
-        let Turn {
-            slot,
+        let Outcome {
             reply,
             change,
             is_full,
@@ -81,7 +73,14 @@ pub(crate) fn work<
         if is_full {
             engine.stop(rt);
         }
-        engine.answer(rt, slot, reply, change);
+        engine.answer(
+            rt,
+            Turn {
+                taken,
+                reply,
+                change,
+            },
+        );
     }
 }
 
@@ -91,28 +90,26 @@ fn take_turn<M: Messages, K: Decider, G: Gate + Observer, C: Clock, X: Words, J:
     room: Option<u32>,
     journal: &J,
     worker: &mut Worker<'_, M, K, G, C, X>,
-) -> Turn
-    ensures slot { result.slot ≡ taken.now.slot }
+) -> Outcome
     ensures change { IsChangeBehind J.ends journal.now (length (K.gathered worker.old.decider))
         (K.gathered worker.new.decider) result.change }
     ensures full { result.is_full ≡ fills_at (K.gathered worker.new.decider) room }
     ensures replied { (ended : Ended) × (bytes : List ℕ) × (left : Option (List ℕ))
         × IsServed (Answering (M.error_frame worker.old.service.now)
         (M.private_frame worker.old.service.now) K.may_be_full K.gathered K.follows K.made G.passes G.hears
-        (M.opens worker.old.service.now taken.now.peer) taken.now.peer)
-        (Unanswered K.gathered K.follows K.made G.passes G.hears (M.opens worker.old.service.now taken.now.peer) taken.now.peer)
+        (M.opens worker.old.service.now (peer_of_taken taken.now)) (peer_of_taken taken.now))
+        (Unanswered K.gathered K.follows K.made G.passes G.hears (M.opens worker.old.service.now (peer_of_taken taken.now)) (peer_of_taken taken.now))
         (λ now. M.error_frame worker.old.service.now message_too_long now)
-        C.gives X.gives G.passes G.hears taken.now.peer ended
-        (stream_state (Some taken.now.message.items) worker.old.decider (Some [])
+        C.gives X.gives G.passes G.hears (peer_of_taken taken.now) ended
+        (stream_state (Some (message_of taken.now)) worker.old.decider (Some [])
         worker.old.clock worker.old.words worker.old.gate.now)
         (stream_state left worker.new.decider (Some bytes) worker.new.clock worker.new.words worker.new.gate.now)
         × IsReplyBehind ended bytes result.reply }
 {
     let before = worker.decider.receipts().len();
-    let reply = reply_to(taken.peer, taken.message.as_slice(), worker);
+    let reply = reply_to(taken.peer(), taken.message(), worker);
     let receipts = worker.decider.receipts();
-    Turn {
-        slot: taken.slot,
+    Outcome {
         reply,
         change: change_behind(receipts, before, journal),
         is_full: fills(receipts, room),

@@ -3,7 +3,7 @@ use Rattle.chpw_pool.specs.Shares.{datagrams_in, streams_in}
 use Rattle.chpw_pool.proofs.sockets.no_sockets.Given as goal
 
 abbrev pub invariant-loop : goal.invariant-loop
-invariant-loop l = record {
+invariant-loop g l = record {
   count : length l.sockets.items ≡ l.counter;
   datagrams : datagrams_in l.sockets.items ≡ 0;
   streams : streams_in l.sockets.items ≡ 0;

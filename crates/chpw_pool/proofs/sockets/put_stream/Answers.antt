@@ -4,7 +4,7 @@ use Rattle.chpw_pool.proofs.PlaceLemmas.{written}
 use Rattle.chpw_pool.proofs.sockets.put_stream.Goals as goal
 
 pub returns-then-slot-by_slot-clause-placed : goal.returns-then-slot-by_slot-clause-placed
-returns-then-slot-by_slot-clause-placed c within = (
+returns-then-slot-by_slot-clause-placed g c within = (
   record { stream = c.args.stream; is_shut = false },
   written c.args.by_slot.now c.args.slot (Some (place.Stream (record { stream = c.args.stream; is_shut = false }))) within,
   refl,

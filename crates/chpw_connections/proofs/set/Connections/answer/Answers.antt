@@ -15,40 +15,40 @@ use Rattle.chpw_connections.proofs.set.Connections.answer.Goals as goal
 pub invariant_of-self-clause-waiting : goal.invariant_of-self-clause-waiting
 invariant_of-self-clause-waiting c =
     let old = c.find_room_to_reply.new.self in
-    holds_quiet (lists_of old.queues) c.args.now old.slots.connections c.answer.new.self.connections c.args.slot
+    holds_quiet (lists_of old.queues) c.args.now old.slots.connections c.answer.new.self.connections c.args.taken.slot
     (replied c.args.reply.items c.args.is_last) refl c.answer.ensures.happens old.waiting
 
 pub returns-then-find_room_to_reply-clause-happens : goal.returns-then-find_room_to_reply-clause-happens
 returns-then-find_room_to_reply-clause-happens c =
     inl (happens_with_room (for_reply c.args.now) c.args.now (slots_of c.args.self.now) (slots_of c.find_room_to_reply.new.self)
-    c.answer.new.self.connections c.args.slot (replied c.args.reply.items c.args.is_last)
+    c.answer.new.self.connections c.args.taken.slot (replied c.args.reply.items c.args.is_last)
     c.find_room_to_reply.ensures.makes_room c.answer.ensures.happens)
 
 pub returns-then-find_room_to_reply-clause-sent : goal.returns-then-find_room_to_reply-clause-sent
 returns-then-find_room_to_reply-clause-sent c room wanted =
     happens_with_room (for_reply c.args.now) c.args.now (slots_of c.args.self.now) (slots_of c.find_room_to_reply.new.self)
-    c.answer.new.self.connections c.args.slot (replied c.args.reply.items c.args.is_last)
+    c.answer.new.self.connections c.args.taken.slot (replied c.args.reply.items c.args.is_last)
     c.find_room_to_reply.ensures.makes_room c.answer.ensures.happens
 
 pub returns-then-find_room_to_reply-clause-needed : goal.returns-then-find_room_to_reply-clause-needed
 returns-then-find_room_to_reply-clause-needed c =
     let long : c.len.result ≡ length c.args.reply.items = omega (arith, c.len.ensures, c.args.reply.ok.0) in
     needed_still (bounds_of c.args.self.now).bytes (length c.args.reply.items) c.args.now (for_reply c.args.now) (slots_of c.args.self.now)
-    (slots_of c.find_room_to_reply.new.self) c.answer.new.self.connections c.args.slot (replied c.args.reply.items c.args.is_last)
+    (slots_of c.find_room_to_reply.new.self) c.answer.new.self.connections c.args.taken.slot (replied c.args.reply.items c.args.is_last)
     (subst (λ (n : ℕ). IsNeeded (bounds_of c.args.self.now).bytes n (for_reply c.args.now) (slots_of c.args.self.now)
-    (slots_of c.find_room_to_reply.new.self) c.args.slot) long c.find_room_to_reply.ensures.needed) c.answer.ensures.happens
+    (slots_of c.find_room_to_reply.new.self) c.args.taken.slot) long c.find_room_to_reply.ensures.needed) c.answer.ensures.happens
 
 pub returns-else-find_room_to_reply-clause-notes : goal.returns-else-find_room_to_reply-clause-notes
 returns-else-find_room_to_reply-clause-notes c =
     let old = slots_of c.args.self.now in
     let long : c.len.result ≡ length c.args.reply.items = omega (arith, c.len.ensures, c.args.reply.ok.0) in
-    let sent = is_answering_in (get old c.args.slot)
-    && has_room_besides (bounds_of c.args.self.now).bytes (for_reply c.args.now) old c.args.slot (length c.args.reply.items) in
+    let sent = is_answering_in (get old c.args.taken.slot)
+    && has_room_besides (bounds_of c.args.self.now).bytes (for_reply c.args.now) old c.args.taken.slot (length c.args.reply.items) in
     let unsent : sent ≡ false =
-    sym (ap (λ (n : ℕ). is_answering_in (get old c.args.slot)
-    && has_room_besides (bounds_of c.args.self.now).bytes (for_reply c.args.now) old c.args.slot n) long)
+    sym (ap (λ (n : ℕ). is_answering_in (get old c.args.taken.slot)
+    && has_room_besides (bounds_of c.args.self.now).bytes (for_reply c.args.now) old c.args.taken.slot n) long)
     ∙ sym c.find_room_to_reply.ensures.value ∙ c.if-find_room_to_reply.false in
-    unsent_noted (for_reply c.args.now) c.args.now old (slots_of c.find_room_to_reply.new.self) (slots_of c.leave_unanswered.new.self) c.args.slot
-    unanswered (noted_by c.args.self.now) (noted_by c.find_room_to_reply.new.self) (noted_by c.leave_unanswered.new.self) sent unsent
-    (c.find_room_to_reply.ensures.none c.if-find_room_to_reply.false) c.find_room_to_reply.ensures.notes c.leave_unanswered.ensures.happens
-    c.leave_unanswered.ensures.notes
+    unsent_noted (for_reply c.args.now) c.args.now old (slots_of c.find_room_to_reply.new.self) (slots_of c.end_unanswered.new.self) c.args.taken.slot
+    unanswered (noted_by c.args.self.now) (noted_by c.find_room_to_reply.new.self) (noted_by c.end_unanswered.new.self) sent unsent
+    (c.find_room_to_reply.ensures.none c.if-find_room_to_reply.false) c.find_room_to_reply.ensures.notes c.end_unanswered.ensures.happens
+    c.end_unanswered.ensures.notes

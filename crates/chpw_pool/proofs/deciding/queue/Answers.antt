@@ -1,10 +1,10 @@
 use Rattle.chpw_connections.specs.Held.{slots_of, bounds_of, accepted_by}
 use Rattle.chpw_connections.specs.Queues.{workers_of}
 use Rattle.chpw_pool.proofs.PlaceLemmas.{is_queued}
-use Rattle.chpw_pool.proofs.sockets.queue.Goals as goal
+use Rattle.chpw_pool.proofs.deciding.queue.Goals as goal
 
 pub returns-in-Some-clause-queued : goal.returns-in-Some-clause-queued
-returns-in-Some-clause-queued c worker is =
+returns-in-Some-clause-queued g c worker is =
     is_queued c.args.sender c.args.message.now c.in-Ok.copy.items c.args.by_slot.now c.put_datagram.new.by_slot
     (bounds_of c.args.state.now.connections) c.args.now (accepted_by c.args.state.now.connections)
     (slots_of c.args.state.now.connections) (slots_of c.take_datagram.new.self.connections)
