@@ -1,0 +1,6 @@
+mod TurnLemmas
+mod ChainLemmas
+pub mod ShiftLemmas
+pub mod DeskLemmas
+mod FollowLemmas
+mod SendLemmas

@@ -1,0 +1,31 @@
+use Rattle.std.proofs.Common.{Some, [], refl}
+use Rattle.chpw_serve.specs.Serving.{stream_state}
+use Rattle.chpw_connections.specs.Turns.{message_of, peer_of}
+use Rattle.chpw_workers.proofs.TurnLemmas.{comes}
+use Rattle.chpw_workers.proofs.FollowLemmas.{follows_on}
+use Rattle.chpw_workers.proofs.worker.take_turn.Goals as goal
+
+pub returns-clause-comes : goal.returns-clause-comes
+returns-clause-comes g c =
+    let service = c.args.context.now.service.now in
+    let old = c.args.worker.now in
+    let new = c.reply_to-reply.new.worker in
+    let r = c.reply_to-reply.ensures.replied in
+    comes (g.M.Messages.error_frame service) (g.M.Messages.private_frame service) g.K.Decider.may_be_full g.K.Decider.gathered
+    g.K.Decider.follows g.K.Decider.made g.G.Gate.passes g.G.Observer.hears (g.M.Messages.opens service) g.C.Clock.gives g.X.Words.gives
+    (record { taken = c.args.taken; reply = c.reply_to-reply.result; change = c.change_behind-change.result })
+    (message_of c.args.taken) r.1 refl c.reply_to-reply.ensures.piece r.0
+    (stream_state (Some (message_of c.args.taken)) c.args.decider.now (Some []) old.clock old.words old.gate)
+    (stream_state r.2 c.reply_to-reply.new.decider (Some r.1) new.clock new.words new.gate) refl refl refl r.3 r.4
+
+pub returns-clause-follows : goal.returns-clause-follows
+returns-clause-follows g c =
+    let service = c.args.context.now.service.now in
+    let old = c.args.worker.now in
+    let new = c.reply_to-reply.new.worker in
+    let r = c.reply_to-reply.ensures.replied in
+    follows_on (g.M.Messages.error_frame service) (g.M.Messages.private_frame service) g.K.Decider.may_be_full g.K.Decider.gathered
+    g.K.Decider.follows g.K.Decider.made g.G.Gate.passes g.G.Observer.hears (g.M.Messages.opens service (peer_of c.args.taken))
+    g.C.Clock.gives g.X.Words.gives (peer_of c.args.taken) g.met.K.Decider.stays g.met.K.Decider.goes_on r.0
+    (stream_state (Some (message_of c.args.taken)) c.args.decider.now (Some []) old.clock old.words old.gate)
+    (stream_state r.2 c.reply_to-reply.new.decider (Some r.1) new.clock new.words new.gate) r.3

@@ -1,0 +1,5 @@
+pub mod Clocks
+pub mod Replies
+pub mod Turns
+pub mod Shifts
+pub mod Desks

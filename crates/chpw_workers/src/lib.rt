@@ -1,0 +1,19 @@
+//! The workers of a service: each answers the messages of its inbox at a desk, one after the other, in a thread of its own. When all
+//! have ended, the desk's history has in it what each of them answered.
+#![tactic(auto)]
+
+mod clock;
+mod context;
+mod desk;
+mod inbox;
+mod journal_end;
+mod shift;
+mod worker;
+
+pub use clock::{MachineClock, machine_moment};
+pub use context::Context;
+pub use desk::{AfterDesk, close_desk, serve_desk};
+pub use inbox::{Crew, Inbox};
+pub use journal_end::{JournalEnd, NoJournal};
+pub use shift::{BackgroundTask, NotStarted, Shift, Staff, run_shift, serve_at};
+pub use worker::Worker;
