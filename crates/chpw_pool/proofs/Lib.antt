@@ -9,3 +9,4 @@ pub mod SendLemmas
 pub mod ShareLemmas
 pub mod StepLemmas
 pub mod TransferLemmas
+pub mod WorkerLemmas

@@ -1,7 +1,6 @@
 pub mod Accepting
 pub mod Addresses
 pub mod Bounded
-pub mod Clocks
 pub mod Controlling
 pub mod Datagrams
 pub mod Deciding
@@ -9,6 +8,7 @@ pub mod Engines
 pub mod Following
 pub mod Newcomers
 pub mod Places
+pub mod PoolWorkers
 pub mod Pools
 pub mod Reports
 pub mod Rounds
@@ -16,4 +16,3 @@ pub mod Shares
 pub mod Steps
 pub mod Tokens
 pub mod Transfers
-pub mod Turns

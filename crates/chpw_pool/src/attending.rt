@@ -74,9 +74,8 @@ impl<
     'a,
     R: Wait + Clock,
     L: OpenListener<Stream = TcpStream> + AsRawFd,
-    G,
     F: Follower + StatusReporter + Drop,
-> Reactor<'a, R, L, G, F> {
+> Reactor<'a, R, L, F> {
     /// Callers at the control socket are accepted, read and answered, as far as their sockets allow without blocking;
     /// the thread for orders is woken. New ones are asked for only if the socket was reported, once a tick, and behind
     /// connections for which something was done: a report may come after those of many connections.

@@ -19,9 +19,8 @@ impl<
     'a,
     R: Wait + Clock,
     L: OpenListener<Stream = TcpStream> + AsRawFd,
-    G,
     F: Follower + StatusReporter + Drop,
-> Reactor<'a, R, L, G, F> {
+> Reactor<'a, R, L, F> {
     /// Reads the datagrams that have come. Each that waits for a worker is a connection, and no more are read than
     /// connections are to be accepted.
     pub fn take_datagrams(&mut self) {

@@ -14,7 +14,6 @@ use crate::sockets::Selector;
 use crate::udp::DatagramSocket;
 use chpw_connections::{ConnectionLimits, TakenMessage, Turn};
 use chpw_control::Command;
-use chpw_serve::WorkerWords;
 use mio::Waker;
 use std::alloc::{AllocError, Global};
 use std::net::Net;
@@ -25,22 +24,13 @@ use std::time::{Clock, Duration};
 /// Milliseconds between two checks of what waits for the follower.
 const PAUSE: u64 = 5;
 
-/// Where a worker waits for its messages, with its gate and its words. The words go on from one desk to the next, so
-/// that the worker draws each once; before the first desk there are none.
-#[derive(Drop)]
-pub(crate) struct WorkerSlot<G> {
-    came: Condvar,
-    pub gate: Mutex<G>,
-    pub words: Mutex<Option<WorkerWords>>,
-}
-
 /// The connections of a service, the queues of its workers, and the sockets. It outlives a desk: messages that wait
 /// when a desk is closed are answered at the next one.
 #[derive(Drop)]
-pub struct Engine<G> {
+pub struct Engine {
     pub(crate) alloc: Global,
-    pub(crate) workers: Vec<WorkerSlot<G>>,
-    pub(crate) seed: [u8; 32],
+    /// Where each worker waits for its messages.
+    came: Vec<Condvar>,
     pub(crate) hub: Mutex<Hub>,
     pub(crate) selector: Mutex<Selector>,
     waker: Waker,
@@ -49,36 +39,32 @@ pub struct Engine<G> {
     ordered: Condvar,
 }
 
-impl<G: Drop> Engine<G> {
-    /// An engine with a queue for the worker of each of these gates, of which there is at least one; the words of each
-    /// worker are the seed's stream of its number. With a socket for them, messages come over UDP too. `Accept` if the
-    /// system has no file for it, or can't watch that socket, `Memory` if a growth is refused.
+impl Engine {
+    /// An engine with a queue for each of this many workers, of which there is at least one. With a socket for them,
+    /// messages come over UDP too. `Accept` if the system has no file for it, or can't watch that socket, `Memory` if a
+    /// growth is refused.
     pub fn of<R: Net>(
         rt: &R,
         alloc: Global,
-        seed: [u8; 32],
         bounds: ConnectionLimits,
-        gates: Vec<G>,
+        workers: usize,
         datagrams: Option<DatagramSocket>,
-    ) -> Result<Engine<G>, PoolFault>
-        requires gates { 0 < vec_len gates }
-        ensures workers { IfOk result (λ engine. workers_at engine ≡ vec_len gates) }
-        ensures seed { IfOk result (λ engine. engine.seed ≡ seed) }
+    ) -> Result<Engine, PoolFault>
+        requires workers { 0 < workers }
+        ensures workers { IfOk result (λ engine. workers_at engine ≡ workers) }
         ensures fault { IfErr result IsUnmade }
     {
-        let count = gates.len();
-        let Ok(workers) = worker_slots(alloc, gates) else {
+        let Ok(came) = places_to_wait(alloc, workers) else {
             return Err(PoolFault::Memory);
         };
         let Ok(control) = Control::new(alloc) else {
             return Err(PoolFault::Memory);
         };
         let (selector, waker) = Selector::new(rt, alloc)?;
-        let hub = Hub::new(alloc, &selector, bounds, count, datagrams)?;
+        let hub = Hub::new(alloc, &selector, bounds, workers, datagrams)?;
         Ok(Engine {
             alloc,
-            workers,
-            seed,
+            came,
             hub: Mutex::new(hub),
             selector: Mutex::new(selector),
             waker,
@@ -88,18 +74,15 @@ impl<G: Drop> Engine<G> {
     }
 }
 
-fn worker_slots<G: Drop>(alloc: Global, gates: Vec<G>) -> Result<Vec<WorkerSlot<G>>, AllocError>
-    ensures { IfOk result (λ v. vec_len v ≡ vec_len gates) }
+// Where each of this many workers waits.
+fn places_to_wait(alloc: Global, workers: usize) -> Result<Vec<Condvar>, AllocError>
+    ensures { IfOk result (λ v. vec_len v ≡ workers) }
 {
-    let mut slots = Vec::with_capacity(alloc, gates.len())?;
-    for gate in gates {
-        slots.push(WorkerSlot {
-            came: Condvar::new(),
-            gate: Mutex::new(gate),
-            words: Mutex::new(None),
-        })?;
+    let mut places = Vec::with_capacity(alloc, workers)?;
+    for _ in 0..workers {
+        places.push(Condvar::new())?;
     }
-    Ok(slots)
+    Ok(places)
 }
 
 /// The moment of the machine's clock that doesn't go back, in milliseconds.
@@ -117,15 +100,13 @@ fn whole_milliseconds(since: Duration) -> u64
     u64::try_from(since.as_millis()).unwrap_or(u64::MAX)
 }
 
-impl<G> Engine<G> {
+impl Engine {
     /// The next message of a worker, as soon as there is one; none if none will come any more, or the worker is to take
     /// none for now.
     pub(crate) fn next<R: Wait + Clock>(&self, rt: &R, worker: usize) -> Option<TakenMessage> {
-        let slot = self.workers.get(worker)?;
+        let came = self.came.get(worker)?;
         for _ in rt.forever() {
-            let mut hub = slot
-                .came
-                .wait_while(rt, self.hub.lock(rt), |hub| hub.state.is_idle(worker));
+            let mut hub = came.wait_while(rt, self.hub.lock(rt), |hub| hub.state.is_idle(worker));
             if let Some(taken) = hub.state.take(worker, milliseconds(rt)) {
                 return Some(taken);
             }
@@ -158,15 +139,15 @@ impl<G> Engine<G> {
 
     /// Wakes a worker that has a message.
     pub(crate) fn call(&self, worker: usize) {
-        if let Some(slot) = self.workers.get(worker) {
-            slot.came.notify_one();
+        if let Some(came) = self.came.get(worker) {
+            came.notify_one();
         }
     }
 
     // Wakes all workers.
     fn call_all(&self) {
-        for slot in &self.workers {
-            slot.came.notify_one();
+        for came in &self.came {
+            came.notify_one();
         }
     }
 

@@ -1,5 +1,4 @@
 //! The follower, which carries changes into the KDC's database and confirms them.
-ghost use Rattle.std.specs.Prelude.{ℕ, Option, ⊤};
 
 use chpw_connections::Unconfirmed;
 use mio::net::UnixStream;
@@ -22,16 +21,6 @@ pub trait Follower {
     fn unconfirmed(&mut self, change: Unconfirmed);
 }
 
-/// How long the journal is.
-pub trait JournalEnd {
-    /// This may be its end.
-    ghost ends: { Self → Option ℕ → Type 0 } = { λ _ _. ⊤ };
-
-    /// In bytes, after all that was written to it; none if no reply waits for a follower.
-    fn journal_end(&self) -> Option<u64>
-        ensures end { ends self.now result };
-}
-
 /// No follower: no reply waits.
 #[derive(Clone, Copy, PartialEq, Eq, Debug, Drop)]
 pub struct NoFollower;
@@ -52,14 +41,4 @@ impl Follower for NoFollower {
     }
 
     fn unconfirmed(&mut self, _change: Unconfirmed) {}
-}
-
-impl JournalEnd for NoFollower {
-    ghost use Rattle.std.specs.Prelude.{◌≡◌, None};
-
-    ghost ends = { λ _ end. end ≡ None };
-
-    fn journal_end(&self) -> Option<u64> {
-        None
-    }
 }

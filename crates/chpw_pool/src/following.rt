@@ -79,9 +79,8 @@ impl<
     'a,
     R: Wait + Clock,
     L: OpenListener<Stream = TcpStream> + AsRawFd,
-    G,
     F: Follower + Drop,
-> Reactor<'a, R, L, G, F> {
+> Reactor<'a, R, L, F> {
     /// Reads what the follower sent, asks what is to be asked, and releases the replies that have waited long enough.
     pub fn follow(&mut self, registry: &Registry) {
         if self.link.is_reported {

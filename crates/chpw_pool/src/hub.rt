@@ -19,13 +19,13 @@ ghost use Rattle.chpw_pool.specs.Pools.{IsUnmade, peer_in};
 ghost use Rattle.chpw_pool.specs.Shares.{may_place_stream};
 ghost use Rattle.chpw_pool.specs.declared.state.Progress.TheVariants as progress;
 
+use crate::addresses::peer_of;
 use crate::entrance::Newcomer;
 use crate::places::Sockets;
 use crate::pool::PoolFault;
 use crate::sockets::Selector;
 use crate::state::{Progress, State};
 use crate::udp::DatagramSocket;
-use crate::worker::peer_of;
 use chpw_connections::{ConnectionLimits, Connections, Todo, Turn};
 use std::alloc::Global;
 use std::net::TcpStream;

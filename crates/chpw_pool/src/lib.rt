@@ -3,9 +3,9 @@
 #![tactic(auto)]
 
 mod accepting;
+mod addresses;
 mod attending;
 mod channel;
-mod clock;
 mod confirming;
 mod control;
 mod datagrams;
@@ -22,6 +22,7 @@ mod places;
 mod pool;
 mod reactor;
 mod rounds;
+mod seat;
 mod shares;
 mod sockets;
 mod state;
@@ -29,16 +30,13 @@ mod status_reporter;
 mod tokens;
 mod transfer;
 mod udp;
-mod worker;
 
 pub use chpw_connections::{ConnectionLimits, Unconfirmed};
-pub use clock::{MachineClock, machine_moment};
+pub use chpw_workers::{MachineClock, machine_moment};
 pub use engine::Engine;
-pub use follower::{Follower, JournalEnd, NoFollower};
+pub use follower::{Follower, NoFollower};
 pub use options::{AcceptLimit, PoolOptions};
-pub use pool::{
-    BackgroundTask, NotStarted, Pool, PoolFault, no_gates, run_pool, run_pool_by, run_pool_with,
-    run_shift,
-};
+pub use pool::{Pool, PoolFault, no_gates, run_pool, run_pool_by, run_pool_with};
+pub use seat::{EngineCrew, Seat};
 pub use status_reporter::{ConnectionCounts, StatusReporter};
 pub use udp::DatagramSocket;

@@ -1,24 +1,27 @@
 //! Workers at one desk.
 ghost use Rattle.std.specs.Prelude.{◌≡◌, ◌≢◌, ◌<◌, length, vec_len, IfOk, None, Some};
+ghost use denote.Param.Send.{IsSend, IsSync};
 ghost use Rattle.rand_chacha.specs.ChaCha.{key_of};
 ghost use Rattle.chpw_serve.specs.WordStreams.{GivesFromTheFirst, stream_start};
-ghost use Rattle.chpw_pool.specs.Engines.{workers_at};
 ghost use Rattle.chpw_pool.specs.Pools.{Ends};
+ghost use Rattle.chpw_pool.specs.PoolWorkers.{AreWorkersOf};
 ghost use Rattle.chpw_pool.specs.declared.options.AcceptLimit.TheVariants as limit;
 
-use crate::clock::MachineClock;
 use crate::engine::{Engine, outcome_of};
-use crate::follower::{JournalEnd, NoFollower};
+use crate::follower::NoFollower;
 use crate::options::{AcceptLimit, PoolOptions};
-use crate::worker::{Worker, work};
-use chpw_book::{AtDesk, Desk, DeskName, Pass};
+use crate::seat::{EngineCrew, Seat};
+use chpw_book::{Desk, DeskName, Pass};
 use chpw_serve::{Gate, Messages, NoGate, Observer, WorkerWords};
 use chpw_table::JournalSink;
+use chpw_workers::{
+    BackgroundTask, Context, Crew, MachineClock, NoJournal, NotStarted, Worker, serve_at,
+};
 use std::alloc::{AllocError, Global};
 use std::net::{Net, OpenListener, TcpListener, TcpStream};
 use std::os::fd::AsRawFd;
 use std::sync::Wait;
-use std::thread::Threads;
+use std::thread::{Scope, Threads};
 use std::{thread, time};
 
 /// Why a pool ended early.
@@ -40,16 +43,19 @@ pub struct Pool {
     pub fault: Option<PoolFault>,
 }
 
+/// A worker of a pool: its place at the engine, its gate, the machine's clock, and its words.
+type PoolWorker<'a, R, T, G> = Worker<Seat<'a, R>, G, MachineClock<'a, T>, WorkerWords>;
+
+/// What all workers of a pool answer with.
+type PoolContext<'a, R, M> = Context<'a, M, NoJournal, EngineCrew<'a, R>>;
+
 /// What all workers share: the clock, the service and the desk.
 #[derive(Drop)]
-struct Shared<'a, T: time::Clock, M, D: DeskName, S: JournalSink, J> {
+struct Shared<'a, T: time::Clock, M, D: DeskName, S: JournalSink> {
     alloc: Global,
     time: &'a T,
     service: &'a M,
     desk: &'a Desk<D, S>,
-    journal: &'a J,
-    // How many entries the history has room for; none if no other desk follows it.
-    room: Option<u32>,
 }
 
 /// Serves this many connections at a desk, the messages of connection i (from 0) by worker i modulo their number, one
@@ -106,8 +112,6 @@ pub fn run_pool_with<
         time: rt,
         service,
         desk,
-        journal: &NoFollower,
-        room: None,
     };
     let terms = PoolOptions::usual(seed, connections);
     run_gated(rt, &shared, listener, passes, terms, gates)
@@ -139,8 +143,6 @@ pub fn run_pool_by<
         time,
         service,
         desk,
-        journal: &NoFollower,
-        room: None,
     };
     match no_gates(alloc, passes.len()) {
         Err(_) => failed_pool(PoolFault::Memory, terms.connections),
@@ -171,6 +173,7 @@ pub fn no_gates(alloc: Global, count: usize) -> Result<Vec<NoGate>, AllocError>
 
 // A gate for each worker.
 fn run_gated<
+    'a,
     R: Threads + Wait + Net + time::Clock + Sync,
     T: time::Clock + Sync,
     L: OpenListener<Stream = TcpStream> + AsRawFd,
@@ -178,11 +181,10 @@ fn run_gated<
     D: DeskName + Send + Sync,
     S: JournalSink + Send,
     G: Gate + Observer + Send + Drop,
-    J: JournalEnd + Sync,
 >(
-    rt: &R,
-    shared: &Shared<'_, T, M, D, S, J>,
-    listener: &L,
+    rt: &'a R,
+    shared: &'a Shared<'a, T, M, D, S>,
+    listener: &'a L,
     passes: &mut [Pass<D>],
     terms: PoolOptions,
     gates: Vec<G>,
@@ -192,46 +194,46 @@ fn run_gated<
     ensures ends { Ends terms.connections result }
 {
     let connections = terms.connections;
-    match Engine::of(rt, shared.alloc, terms.seed, terms.bounds(), gates, None) {
-        Err(fault) => failed_pool(fault, connections),
-        Ok(engine) => {
-            let reacting = Reacting {
-                rt,
-                engine: &engine,
-                listener,
-                connections,
-            };
-            match run_workers(rt, shared, &engine, passes, reacting) {
-                Err(NotStarted) => failed_pool(PoolFault::Start, connections),
-                Ok(()) => engine.outcome(rt, connections),
-            }
-        }
+    let engine = match Engine::of(rt, shared.alloc, terms.bounds(), passes.len(), None) {
+        Err(fault) => return failed_pool(fault, connections),
+        Ok(engine) => engine,
+    };
+    let Ok(workers) = workers_of(&*rt, &engine, &*shared, terms.seed, passes, gates) else {
+        return failed_pool(PoolFault::Memory, connections);
+    };
+    let reacting = Reacting {
+        rt: &*rt,
+        engine: &engine,
+        listener: &*listener,
+        connections,
+    };
+    let context = Context {
+        alloc: shared.alloc,
+        service: &*shared.service,
+        journal: &NoJournal,
+        crew: &EngineCrew {
+            rt: &*rt,
+            engine: &engine,
+        },
+        room: None,
+    };
+    match run_workers(&*rt, &context, &*shared.desk, passes, workers, reacting) {
+        Err(NotStarted) => failed_pool(PoolFault::Start, connections),
+        Ok(()) => engine.outcome(rt, connections),
     }
-}
-
-/// What the thread that runs a shift does while the workers answer messages.
-pub trait BackgroundTask {
-    /// Its result.
-    type Done;
-
-    /// Does it, and returns once there is no more to do until the workers end.
-    fn run(self) -> Self::Done;
 }
 
 // The reactor, for this many connections of a listener, without a follower.
 #[derive(Drop)]
-struct Reacting<'a, R, L, G> {
+struct Reacting<'a, R, L> {
     rt: &'a R,
-    engine: &'a Engine<G>,
+    engine: &'a Engine,
     listener: &'a L,
     connections: AcceptLimit,
 }
 
-impl<
-    R: Wait + Net + time::Clock,
-    L: OpenListener<Stream = TcpStream> + AsRawFd,
-    G: Drop,
-> BackgroundTask for Reacting<'_, R, L, G> {
+impl<R: Wait + Net + time::Clock, L: OpenListener<Stream = TcpStream> + AsRawFd> BackgroundTask
+    for Reacting<'_, R, L> {
     type Done = ();
 
     fn run(self) {
@@ -240,83 +242,30 @@ impl<
     }
 }
 
-/// A worker's thread could not be started.
-#[derive(Clone, Copy, PartialEq, Eq, Debug, Drop)]
-pub struct NotStarted;
-
-/// Answers the messages of an engine's connections at a desk, until none will come any more, the workers are to take
-/// none (`Engine::stop`), or the desk's history, which has room for `room` entries, is full. They take messages only
-/// once `Engine::start` was called after a stop. The workers then finish the messages that they have, and the others
-/// wait for the next desk. The reply to a change waits for the follower if `journal` says how long the journal is. This
-/// thread runs `meanwhile`, and returns its result. After `NotStarted` the workers that had started may have answered
-/// some.
-pub fn run_shift<
-    R: Threads + Wait + time::Clock + Sync,
-    T: time::Clock + Sync,
-    M: Messages + Sync,
-    D: DeskName + Send + Sync,
-    S: JournalSink + Send,
-    G: Gate + Observer + Send + Drop,
-    J: JournalEnd + Sync,
-    W: BackgroundTask + Drop,
->(
-    rt: &R,
-    alloc: Global,
-    time: &T,
-    engine: &Engine<G>,
-    service: &M,
-    desk: &Desk<D, S>,
-    passes: &mut [Pass<D>],
-    room: u32,
-    journal: &J,
-    meanwhile: W,
-) -> Result<W::Done, NotStarted>
-    requires workers { workers_at engine.now ≡ length passes.old }
+// The worker of each pass, with the gate at the same place.
+#[tactic(auto, using(crate::proofs::WorkerLemmas::workers_more))]
+fn workers_of<'a, R, T: time::Clock, M, D: DeskName, S: JournalSink, G: Drop>(
+    rt: &'a R,
+    engine: &'a Engine,
+    shared: &Shared<'a, T, M, D, S>,
+    seed: [u8; 32],
+    passes: &[Pass<D>],
+    gates: Vec<G>,
+) -> Result<Vec<PoolWorker<'a, R, T, G>>, AllocError>
+    requires gates { length gates.items ≡ length passes.now }
+    ensures each { IfOk result (λ v. AreWorkersOf (key_of seed) passes.now gates.items v.items) }
 {
-    let shared = Shared {
-        alloc,
-        time,
-        service,
-        desk,
-        journal,
-        room: Some(room),
-    };
-    run_workers(rt, &shared, engine, passes, meanwhile)
-}
-
-// A thread for each worker, while this one runs `meanwhile`. It returns once they have ended.
-fn run_workers<
-    R: Threads + Wait + time::Clock + Sync,
-    T: time::Clock + Sync,
-    M: Messages + Sync,
-    D: DeskName + Send + Sync,
-    S: JournalSink + Send,
-    G: Gate + Observer + Send + Drop,
-    J: JournalEnd + Sync,
-    W: BackgroundTask + Drop,
->(
-    rt: &R,
-    shared: &Shared<'_, T, M, D, S, J>,
-    engine: &Engine<G>,
-    passes: &mut [Pass<D>],
-    meanwhile: W,
-) -> Result<W::Done, NotStarted> {
-    thread::scope(
-        thread::scope_env(),
-        rt,
-        move |scope| -> Result<W::Done, NotStarted> {
-            for (number, pass) in passes.iter_mut().enumerate() {
-                if scope
-                    .spawn(move || begin(rt, shared, engine, number, pass))
-                    .is_err()
-                {
-                    engine.stop(rt);
-                    return Err(NotStarted);
-                }
-            }
-            Ok(meanwhile.run())
-        },
-    )
+    let mut workers = Vec::with_capacity(shared.alloc, gates.len())?;
+    for gate in gates {
+        let number = workers.len();
+        workers.push(Worker {
+            inbox: Seat::new(rt, engine, number),
+            gate,
+            clock: MachineClock::new(shared.time),
+            words: words_of(seed, &passes[number]),
+        })?;
+    }
+    Ok(workers)
 }
 
 // The words of a pass's worker: the stream of its number.
@@ -327,43 +276,102 @@ fn words_of<D: DeskName>(seed: [u8; 32], pass: &Pass<D>) -> WorkerWords
     WorkerWords::new(seed, u64::from(pass.worker()))
 }
 
-// The worker of a pass, with the queue, the gate and the words of this number.
-fn begin<
+// A thread for each pass and its worker, while this one runs `meanwhile`. It returns once they have ended.
+fn run_workers<
+    'a,
+    R: Threads + Wait + time::Clock + Sync,
+    T: time::Clock + Sync,
+    M: Messages + Sync,
+    D: DeskName + Send + Sync,
+    S: JournalSink + Send,
+    G: Gate + Observer + Send + Drop,
+    W: BackgroundTask + Drop,
+>(
+    rt: &'a R,
+    context: &'a PoolContext<'a, R, M>,
+    desk: &'a Desk<D, S>,
+    passes: &'a mut [Pass<D>],
+    workers: Vec<PoolWorker<'a, R, T, G>>,
+    meanwhile: W,
+) -> Result<W::Done, NotStarted> {
+    thread::scope(
+        thread::scope_env(),
+        rt,
+        |scope| -> Result<W::Done, NotStarted>
+            requires { IsSend D.row × IsSync D.row × IsSend S.row × IsSend G.row × IsSync R.row × IsSync T.row × IsSync M.row }
+        {
+            start_all(scope, rt, context, desk, passes, workers)?;
+            Ok(meanwhile.run())
+        },
+    )
+}
+
+// Starts a thread for each pass and its worker. If one can't be started, all are to stop.
+fn start_all<
+    's,
+    'e,
+    R: Threads + Wait + time::Clock + Sync + 's,
+    T: time::Clock + Sync + 's,
+    M: Messages + Sync + 's,
+    D: DeskName + Send + Sync + 's,
+    S: JournalSink + Send + 's,
+    G: Gate + Observer + Send + Drop + 's,
+>(
+    scope: &Scope<'s, &'e ()>,
+    rt: &'s R,
+    context: &'s PoolContext<'s, R, M>,
+    desk: &'s Desk<D, S>,
+    passes: &'s mut [Pass<D>],
+    workers: Vec<PoolWorker<'s, R, T, G>>,
+) -> Result<(), NotStarted> {
+    for (pass, worker) in passes.iter_mut().zip(workers) {
+        start(scope, rt, context, desk, pass, worker)?;
+    }
+    Ok(())
+}
+
+// Starts a worker's thread.
+fn start<
+    's,
+    'e,
+    R: Threads + Wait + time::Clock + Sync + 's,
+    T: time::Clock + Sync + 's,
+    M: Messages + Sync + 's,
+    D: DeskName + Send + Sync + 's,
+    S: JournalSink + Send + 's,
+    G: Gate + Observer + Send + Drop + 's,
+>(
+    scope: &Scope<'s, &'e ()>,
+    rt: &'s R,
+    context: &'s PoolContext<'s, R, M>,
+    desk: &'s Desk<D, S>,
+    pass: &'s mut Pass<D>,
+    worker: PoolWorker<'s, R, T, G>,
+) -> Result<(), NotStarted> {
+    match scope.spawn(move || serve(rt, context, desk, pass, worker)) {
+        Ok(_) => Ok(()),
+        Err(_) => {
+            context.crew.stop();
+            Err(NotStarted)
+        }
+    }
+}
+
+// A worker at a pool's desk, which ends with the pool.
+fn serve<
     'a,
     R: Wait + time::Clock,
     T: time::Clock,
     M: Messages,
     D: DeskName,
     S: JournalSink,
-    G: Gate + Observer,
-    J: JournalEnd,
+    G: Gate + Observer + Drop,
 >(
     rt: &'a R,
-    shared: &'a Shared<'a, T, M, D, S, J>,
-    engine: &'a Engine<G>,
-    number: usize,
+    context: &'a PoolContext<'a, R, M>,
+    desk: &'a Desk<D, S>,
     pass: &'a mut Pass<D>,
+    mut worker: PoolWorker<'a, R, T, G>,
 ) {
-    let Some(slot) = engine.workers.get(number) else {
-        return;
-    };
-    let mut gate = slot.gate.lock(rt);
-    let words = match slot.words.lock(rt).take() {
-        Some(words) => words,
-        None => words_of(engine.seed, pass),
-    };
-    let mut worker = Worker {
-        alloc: shared.alloc,
-        service: shared.service,
-        decider: AtDesk {
-            rt,
-            desk: shared.desk,
-            pass,
-        },
-        gate: &mut *gate,
-        clock: MachineClock::new(shared.time),
-        words,
-    };
-    work(rt, engine, number, shared.room, shared.journal, &mut worker);
-    *slot.words.lock(rt) = Some(worker.words);
+    serve_at(rt, context, desk, pass, &mut worker);
 }

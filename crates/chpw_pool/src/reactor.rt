@@ -34,9 +34,9 @@ const BETWEEN: usize = 64;
 
 /// Reports to the connections what happens at the sockets, and does what they ask for.
 #[derive(Drop)]
-pub(crate) struct Reactor<'a, R, L, G, F> {
+pub(crate) struct Reactor<'a, R, L, F> {
     pub rt: &'a R,
-    pub engine: &'a Engine<G>,
+    pub engine: &'a Engine,
     listener: &'a L,
     pub link: FollowerLink<F>,
     /// How many there may be at a time: the slots are the numbers below.
@@ -53,7 +53,7 @@ pub(crate) struct Reactor<'a, R, L, G, F> {
     pub is_stopping: bool,
 }
 
-impl<G> Engine<G> {
+impl Engine {
     /// Accepts so many connections, or as many as the listener can; reads their messages and passes them to the
     /// workers, connection i (from 0) to worker i modulo their number; and writes the replies. It returns once each
     /// connection has ended, or the engine is deserted. Then no message will come any more. Replies to changes wait for
@@ -92,9 +92,8 @@ impl<
     'a,
     R: Wait + Clock,
     L: OpenListener<Stream = TcpStream> + AsRawFd,
-    G,
     F: Follower + StatusReporter + Drop,
-> Reactor<'a, R, L, G, F> {
+> Reactor<'a, R, L, F> {
     // Registers the listener.
     fn listen(&mut self, registry: &Registry) {
         let descriptor = self.listener.as_raw_fd();
@@ -329,9 +328,8 @@ impl<
     'a,
     R: Wait + Clock,
     L: OpenListener<Stream = TcpStream> + AsRawFd,
-    G,
     F: Follower + StatusReporter + Drop,
-> Noting for Reactor<'a, R, L, G, F> {
+> Noting for Reactor<'a, R, L, F> {
     // They are under the lock, where others note slots too.
     ghost noted = { λ reactor. None };
 

@@ -15,12 +15,12 @@ ghost use Rattle.chpw_pool.specs.Steps.{IsCalled, Steps, Writes, untold};
 ghost use Rattle.chpw_pool.specs.Transfers.{is_sent, ComesOfSend};
 ghost use Rattle.chpw_pool.specs.declared.state.Progress.TheVariants as progress;
 
+use crate::addresses::peer_of;
 use crate::one_message::reply_of_datagram;
 use crate::pool::PoolFault;
 use crate::state::{Progress, State};
 use crate::tokens::DATAGRAMS;
 use crate::transfer::Transfer;
-use crate::worker::peer_of;
 use chpw_connections::Todo;
 use chpw_datagrams::{Answered, Sender, is_answerable};
 use mio::net::UdpSocket;

@@ -1,2 +1,3 @@
 pub mod AskingLemmas
 pub mod CheckLemmas
+pub mod RunningLemmas

@@ -5,4 +5,5 @@ pub mod Endings
 pub mod NewPasswords
 pub mod Patience
 pub mod Reasons
+pub mod Running
 pub mod Seeds

@@ -1,5 +1,5 @@
 //! The words of the command line.
-ghost use Rattle.std.specs.Prelude.{◌≡◌, ◌≢◌};
+ghost use Rattle.std.specs.Prelude.{◌≡◌, ◌≢◌, ◌⊎◌, IfErr};
 ghost use Rattle.std.specs.IoError.{error_kind};
 
 use crate::ending::Ending;
@@ -9,7 +9,9 @@ use std::rt::Env;
 use std::{env, io};
 
 /// The words, the program's name first.
-pub fn words<'a>(rt: &(impl Env + AllocGlobal)) -> Result<Vec<String>, Ending<'a>> {
+pub fn words<'a>(rt: &(impl Env + AllocGlobal)) -> Result<Vec<String>, Ending<'a>>
+    ensures none { IfErr result (λ ending. (ending ≡ Ending.NotText) ⊎ (ending ≡ Ending.Early DrillFault.Memory)) }
+{
     match copy_words(rt) {
         Ok(words) => Ok(words),
         Err(error) => Err(without_words(&error)),
@@ -29,6 +31,7 @@ fn without_words<'a>(error: &io::Error) -> Ending<'a>
     ensures memory { error_kind error.now ≡ ErrorKind.OutOfMemory
         → result ≡ Ending.Early DrillFault.Memory }
     ensures text { error_kind error.now ≢ ErrorKind.OutOfMemory → result ≡ Ending.NotText }
+    ensures one { (result ≡ Ending.NotText) ⊎ (result ≡ Ending.Early DrillFault.Memory) }
 {
     match error.kind() {
         ErrorKind::OutOfMemory => Ending::Early(DrillFault::Memory),

@@ -1,8 +1,9 @@
 //! The commands, each with its ending.
-ghost use Rattle.std.specs.Prelude.{◌≡◌, ◌≢◌};
+ghost use Rattle.std.specs.Prelude.{◌≡◌, ◌≢◌, map, string_bytes};
 ghost use Rattle.clap.specs.Values.{kind_of};
 ghost use Rattle.chpw_program.specs.Checking.{HasChecked, IsChecked, PrintsCheck};
 ghost use Rattle.chpw_program.specs.Endings.{ending_brought, ending_drilled, ending_served};
+ghost use Rattle.chpw_program.specs.Running.{IsRunBy};
 
 use crate::client::ask;
 use crate::control::send_command;
@@ -24,6 +25,7 @@ use std::thread::Threads;
 use std::time::Clock;
 
 /// Runs the command of these words; if they ask for none, clap's text is an error.
+#[tactic(auto, using(crate::proofs::RunningLemmas::run_by, crate::proofs::RunningLemmas::run_by_none, crate::proofs::RunningLemmas::has_served))]
 pub fn run<'a, R, W: Write>(rt: &R, errors: &mut W, words: &'a [String]) -> Ending<'a>
 where
     R: Files<File = File>
@@ -37,6 +39,7 @@ where
         + Eprint
         + AllocGlobal
         + Sync,
+    ensures runs { IsRunBy R (map string_bytes words.entry.now) result }
 {
     match command_of(rt.alloc(), words) {
         Err(error) => explain_misuse(errors, error),

@@ -1,8 +1,10 @@
 //! A run of the program, from its words to its status.
-ghost use Rattle.std.specs.Prelude.{◌≡◌, ◌≤◌, OnOk};
+ghost use Rattle.std.specs.Prelude.{◌≡◌, ◌≤◌, ℕ, List, OnOk};
 ghost use Rattle.std.specs.Io.KnownBytes.{Appends};
 ghost use Rattle.chpw_program.specs.Reasons.{told_of};
 ghost use Rattle.chpw_program.specs.Endings.{status_of};
+ghost use Rattle.chpw_program.specs.Running.{IsRunBy};
+ghost use Rattle.chpw_program.specs.declared.ending.Ending.{Ending};
 
 use crate::command_line::words;
 use crate::commands::run;
@@ -34,6 +36,7 @@ where
         + AllocGlobal
         + Sync,
     ensures few { result ≤ 2 }
+    ensures runs { result ≡ 0 → (words : List (List ℕ)) × ((ending : Ending) × (status_of ending ≡ 0) × IsRunBy R words ending) }
 {
     if hold_standard(rt).is_err() {
         return end(errors, &Ending::Unread(NOTHING));

@@ -1,5 +1,9 @@
 pub mod AnswerLemmas
 pub mod OpeningLemmas
+pub mod OrderLemmas
 pub mod FaultLemmas
+pub mod RaisedLemmas
+pub mod RunningLemmas
 pub mod ServiceRunLemmas
-pub mod NumberLemmas
+pub mod StaffLemmas
+pub mod WholeRunLemmas

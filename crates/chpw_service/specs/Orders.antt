@@ -12,6 +12,7 @@ use Rattle.chpw_service.specs.Rereading.{IsBase, IsNotBegun, IsNotReadAnew, IsRe
 use Rattle.chpw_service.specs.declared.compacting.CompactFault.{CompactFault}
 use Rattle.chpw_service.specs.declared.fault.ServeFault.{ServeFault}
 use Rattle.chpw_service.specs.declared.ownership.Exposure.{Exposure}
+use Rattle.chpw_service.specs.declared.orders.AfterClose.{AfterClose}
 use Rattle.chpw_service.specs.declared.orders.AfterClose.TheVariants.{Reload, Compact}
 use Rattle.chpw_service.specs.declared.orders.Carried.{Carried}
 use Rattle.chpw_service.specs.declared.orders.Carried.TheVariants.{Answered, AfterClose as Later}
@@ -39,6 +40,11 @@ BeginsCompaction o in_force copy (Later (Reload anew)) = ⊥
 BeginsCompaction o in_force copy (Later (Compact compaction)) = IsBase in_force compaction.base × (compaction.copy ≡ copy)
 BeginsCompaction o in_force copy (Answered text) =
     (fault : CompactFault) × IsNotBegun o in_force copy fault × Refuses (compact_words fault) text.items
+
+-- what is due after a desk: a configuration that was read anew, or a compact journal
+abbrev pub IsDueBy : ServeOptions → AfterClose → Type 0
+IsDueBy o (Reload anew) = IsReadAnew o anew
+IsDueBy o (Compact compaction) = Unit {0}
 
 -- the log was reopened, or can't be, or isn't
 abbrev pub IsExposedLog : ServeOptions → Option (Bor (List ℕ)) → List ℕ → Type 0

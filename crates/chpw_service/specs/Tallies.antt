@@ -1,18 +1,14 @@
 -- What a service's last line counts, and what follows where it isn't printed.
-use Rattle.std.specs.Prelude.{◌≡◌, ℕ, ◌<◌, List, ◌++◌, Bool, false, codes, length, count_by, if◌then◌else◌}
+use Rattle.std.specs.Prelude.{◌≡◌, ℕ, List, ◌++◌, Bool, false, codes, length, count_by, if◌then◌else◌}
 use Rattle.std.specs.Fmt.{decimal}
 use Rattle.chpw_table.specs.State.{State}
-use Rattle.chpw_table.specs.Agreement.{Held, Agrees}
-use Rattle.chpw_table.specs.History.{IsLegal, outcome}
 use Rattle.chpw_table.specs.Verdicts.{is_done}
 use Rattle.chpw_table.specs.declared.history.Entry.{Entry}
 use Rattle.chpw_table.specs.declared.history.Event.{Event}
 use Rattle.chpw_table.specs.declared.history.Event.TheVariants.{Ask, Raise}
-use Rattle.chpw_journal.specs.Runs.{AreWhole}
-use Rattle.chpw_book.specs.Receipts.{IsNumbered}
 use Rattle.chpw_book.specs.Passes.{PassView}
 use Rattle.chpw_book.specs.Recorded.{RecordedView, IsLinearized}
-use Rattle.chpw_book.specs.Closing.{HasCalls, IsRefusal, is_full}
+use Rattle.chpw_book.specs.Closing.{IsRefusal, is_full}
 use Rattle.chpw_book.specs.declared.closing.CloseFault.{CloseFault}
 use Rattle.chpw_service.specs.declared.closing.Tally.{Tally}
 use Rattle.chpw_service.specs.declared.histories.AfterPrint.{AfterPrint}
@@ -38,15 +34,8 @@ changes_a_password (Raise count verdict) = false
 abbrev pub password_changes : List Entry → ℕ
 password_changes history = count_by (λ (e : Entry). changes_a_password e.event) history
 
--- the entries and changes of a history that the one-thread machine replays from the opening to this table, in which
--- what the accepted entries add is well-formed, and each worker's calls are the receipts of its pass
-pub record IsTally (opening : State) (workers : ℕ) (passes : List PassView) (tally : Tally) (table : Held) : Type 0 where
-  pub history : List Entry
-  pub legal : IsLegal opening history
-  pub whole : AreWhole opening history
-  pub state : Agrees table.state (outcome opening history)
-  pub numbered : IsNumbered history
-  pub calls : (w : ℕ) → w < workers → HasCalls history passes w
+-- how many entries a history has, and how many of them are changes of passwords
+pub record IsTally (history : List Entry) (tally : Tally) : Type 0 where
   pub entries : tally.entries ≡ length history
   pub changes : tally.changes ≡ password_changes history
 

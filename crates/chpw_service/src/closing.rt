@@ -1,11 +1,10 @@
 //! Closing a service's desk.
-ghost use Rattle.std.specs.Prelude.{◌≡◌, ◌<◌, ◌-◌, ◌^◌, IfOk, IfErr, false};
-ghost use Rattle.chpw_changelog.specs.Pens.{opening_state};
-ghost use Rattle.chpw_service.specs.Tallies.{IsTally, IsMismatch, changes_a_password, password_changes};
+ghost use Rattle.std.specs.Prelude.{◌≡◌, ◌<◌, ◌-◌, ◌^◌, false};
+ghost use Rattle.chpw_service.specs.Tallies.{IsTally, changes_a_password, password_changes};
 ghost use Rattle.chpw_service.specs.declared.fault.ServeFault.TheVariants.{CannotClose};
 
 use crate::fault::ServeFault;
-use chpw_book::{CloseRefused, Closed, Desk, DeskName, Pass};
+use chpw_book::{CloseRefused, Closed, DeskName};
 use chpw_table::{Entry, Event, JournalSink, Table, Verdict};
 use std::fmt;
 use std::sync::Wait;
@@ -38,42 +37,41 @@ pub(crate) struct Left<S: JournalSink> {
     ghost room: { table.state.broken ≡ false → S.failed sink < 2 ^ 64 - 1 },
 }
 
-/// Closes a desk, and counts its history. A desk that can't be closed is abandoned.
-pub(crate) fn close_desk<'a, D: DeskName, S: JournalSink + Drop, R: Wait>(
-    rt: &R,
-    desk: Desk<D, S>,
-    passes: Vec<Pass<D>>,
-) -> Result<Left<S>, ServeFault<'a>>
-    ensures tally { IfOk result (λ left.
-        IsTally (opening_state D.root) D.workers passes.items left.tally left.table) }
-    ensures refusal { IfErr result (λ fault. (fault ≡ CannotClose)
-        × IsMismatch (opening_state D.root) D.workers passes.items) }
+/// What a closed desk leaves, with its history counted.
+pub(crate) fn left_by<S: JournalSink>(closed: Closed<S>) -> Left<S>
+    ensures tally { IsTally closed.history.items result.tally }
+    ensures table { result.table ≡ closed.table }
+    ensures sink { result.sink ≡ closed.sink }
 {
-    match desk.close(rt, passes) {
-        Ok(
-            Closed {
-                history,
-                table,
-                sink,
-            },
-        ) => Ok(Left {
-            tally: Tally {
-                entries: history.len(),
-                changes: changes(history.as_slice()),
-            },
-            table,
-            sink,
-        }),
-        Err(refused) => {
-            let CloseRefused {
-                fault: _,
-                desk,
-                passes: _,
-            } = refused;
-            desk.abandon(rt);
-            Err(ServeFault::CannotClose)
-        }
+    let Closed {
+        history,
+        table,
+        sink,
+    } = closed;
+    Left {
+        tally: Tally {
+            entries: history.len(),
+            changes: changes(history.as_slice()),
+        },
+        table,
+        sink,
     }
+}
+
+/// A desk that refused to be closed is abandoned.
+pub(crate) fn abandon_refused<'a, D: DeskName, S: JournalSink + Drop, R: Wait>(
+    rt: &R,
+    refused: CloseRefused<D, S>,
+) -> ServeFault<'a>
+    ensures value { result ≡ CannotClose }
+{
+    let CloseRefused {
+        fault: _,
+        desk,
+        passes: _,
+    } = refused;
+    desk.abandon(rt);
+    ServeFault::CannotClose
 }
 
 // How many of the entries are changes of passwords.

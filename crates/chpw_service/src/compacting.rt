@@ -22,10 +22,10 @@ use chpw_invocation::{ServeOptions, TableForm};
 use chpw_journal::{
     FileSink, Replacement, compact_journal, remove_unfinished, replace_journal, write_new,
 };
-use chpw_pool::MachineClock;
 use chpw_reload::goes_with;
 use chpw_serve::Clock as _;
 use chpw_table::{JournalSink, Table};
+use chpw_workers::MachineClock;
 use std::alloc::{AllocError, Global};
 use std::fs::{self, File, Files};
 use std::io;

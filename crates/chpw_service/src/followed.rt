@@ -12,11 +12,10 @@ use crate::status::{Readings, answer_with, status_of};
 use chpw_control::Time;
 use chpw_invocation::VERSION;
 use chpw_journal::FileSink;
-use chpw_pool::{
-    ConnectionCounts, Follower, JournalEnd, MachineClock, StatusReporter, Unconfirmed,
-};
+use chpw_pool::{ConnectionCounts, Follower, StatusReporter, Unconfirmed};
 use chpw_serve::Clock as _;
 use chpw_table::JournalSink;
+use chpw_workers::{JournalEnd, MachineClock};
 use mio::net::{UnixListener, UnixStream};
 use std::alloc::Global;
 use std::fs::File;
@@ -57,6 +56,10 @@ impl JournalLength {
 }
 
 impl JournalEnd for JournalLength {
+    ghost use Rattle.chpw_service.specs.Journals.{tells_end};
+
+    ghost ends = { tells_end };
+
     fn journal_end(&self) -> Option<u64>
         ensures follower { is_some result ≡ self.now.has_follower }
     {

@@ -1,17 +1,21 @@
 //! One history after the other.
 ghost use Rattle.std.specs.Prelude.{◌≡◌, ◌≤◌, ◌<◌, ◌-◌, ◌^◌, ◌||◌, not, max, IfOk, IfErr, Ok, OnOk, OnErr, false, true};
-ghost use Rattle.std.specs.Prelude.{length};
+ghost use Rattle.std.specs.Prelude.{List, IfSome, length, vec_len};
 ghost use Rattle.chpw_changelog.specs.Pens.{opening_state, opening_table};
 ghost use Rattle.chpw_book.specs.Starting.{IsNamed, table_of, workers_of};
 ghost use Rattle.chpw_pool.specs.Engines.{workers_at};
 ghost use Rattle.chpw_service.specs.Faults.{IsLate};
 ghost use Rattle.chpw_service.specs.Following.{DoesWhatIsDue, reopened};
-ghost use Rattle.chpw_reload.specs.ReloadRuns.{GoesOn, IsHistory, IsServiceRun};
+ghost use Rattle.chpw_reload.specs.ReloadRuns.{GoesOn, IsServiceRun};
+ghost use Rattle.chpw_service.specs.Orders.{IsDueBy};
+ghost use Rattle.chpw_service.specs.ServiceRuns.{GoesOnBy, IsServed, RunsTo, new_passes};
+ghost use Rattle.chpw_table.specs.declared.history.Entry.{Entry};
+ghost use Rattle.chpw_workers.specs.Desks.{AreInOrder};
 ghost use Rattle.chpw_service.specs.Serving.{is_full_with};
-ghost use Rattle.chpw_service.specs.Tallies.{after_print};
+ghost use Rattle.chpw_service.specs.Tallies.{IsMismatch, after_print};
 ghost use Rattle.chpw_service.specs.declared.fault.ServeFault.TheVariants.{CannotPrint, Memory};
 
-use crate::closing::{Left, Tally, close_desk};
+use crate::closing::{Left, Tally, abandon_refused, left_by};
 use crate::compacting::compact;
 use crate::fault::ServeFault;
 use crate::followed::{FollowerTerms, JournalLength};
@@ -21,12 +25,16 @@ use crate::observers::Logging;
 use crate::orders::{AfterClose, Orders};
 use crate::reloading::reload;
 use crate::rules::Rules;
+use crate::staff::ServiceWorker;
 use chpw_book::{Desk, DeskName, Pass, StartFault, UnnamedDesk};
 use chpw_invocation::ServeOptions;
 use chpw_journal::FileSink;
-use chpw_pool::{Engine, MachineClock, NotStarted, run_shift};
-use chpw_serve::Clock as _;
+use chpw_pool::{Engine, EngineCrew, Seat};
+use chpw_serve::{Clock as _, WorkerWords};
 use chpw_table::{JournalSink, Table};
+use chpw_workers::{
+    AfterDesk, Context, MachineClock, NotStarted, Staff, close_desk, serve_desk as run_desk,
+};
 use std::fs::{File, Files};
 use std::marker::Brand;
 use std::net::Net;
@@ -37,7 +45,7 @@ use std::time::Clock;
 /// What all desks are served with.
 #[derive(Drop)]
 pub struct ServiceContext<'l, R: Wait + Eprint> {
-    pub engine: Engine<Logging<LogLines<'l, R>>>,
+    pub engine: Engine,
     pub workers: u8,
     pub log: &'l Log<'l, R>,
     /// How long the journal is, if replies wait for a follower.
@@ -72,42 +80,61 @@ pub(crate) fn first_opening(table: Table, sink: FileSink<File>, workers: u8) -> 
 
 /// Answers the messages of the engine's connections at this desk, and then at one after the other, until none will come
 /// any more. When a history is full, its desk is closed and the next one opens with the closed table; when the
-/// configuration was reloaded, with the reload of it. The table of the last desk is returned.
-#[tactic(auto, using(crate::proofs::ServiceRunLemmas::first_history, crate::proofs::ServiceRunLemmas::next_history))]
+/// configuration was reloaded, with the reload of it. The workers go from each desk to the next. The table of the last desk is
+/// returned.
+#[tactic(auto, using(crate::proofs::ServiceRunLemmas::run_begins, crate::proofs::ServiceRunLemmas::run_leads))]
 pub fn serve_histories<
     'a,
+    'h,
     'l,
+    't,
     D: DeskName + Send + Sync,
     R: Files<File = File> + Net + Threads + Wait + Clock + Print + Eprint + AllocGlobal + Sync,
     T: Clock + Sync,
 >(
-    rt: &R,
-    time: &T,
-    hall: &ServiceContext<'l, R>,
+    rt: &'h R,
+    time: &'t T,
+    hall: &'h ServiceContext<'l, R>,
     mut rules: Rules,
+    workers: Vec<ServiceWorker<'h, 'l, 't, R, T>>,
     first: Opened<D>,
 ) -> Result<Table, ServeFault<'a>>
     requires passes { length first.passes.items ≡ hall.now.workers }
-    ensures served { IfOk result (λ table. IsServiceRun (opening_state D.root) table) }
+    requires workers { length workers.items ≡ hall.now.workers }
+    ensures served { IfOk result (RunsTo hall.now.journal hall.now.options.now (opening_table D.root) first.passes.items rules workers.entry.items) }
+    ensures histories { IfOk result (λ table. IsServiceRun (opening_state D.root) table) }
     ensures fault { IfErr result IsLate }
 {
     let mut reported = Reported {
         is_lost: false,
         expired: 0,
     };
-    let mut served = serve_desk(rt, time, hall, &rules, first, &mut reported)?;
+    let Attended {
+        mut served,
+        workers: mut staff,
+    } = serve_desk(rt, time, hall, &rules, workers, first, &mut reported)?;
     for _ in rt.forever() {
         if served.is_over {
             return Ok(served.into_table());
         }
         let opening = further_opening(rt, time, hall, &mut rules, served)?;
-        served = serve_history::<Brand, R, T>(rt, time, hall, &rules, opening, &mut reported)?;
+        let next = serve_history::<Brand, R, T>(
+            rt,
+            time,
+            hall,
+            &rules,
+            staff,
+            opening,
+            &mut reported,
+        )?;
+        served = next.served;
+        staff = next.workers;
     }
     Ok(served.into_table())
 }
 
 // What the next desk opens with: the closed table, or a reload of it when the configuration was reloaded.
-#[tactic(auto, using(crate::proofs::ServiceRunLemmas::goes_on_itself))]
+#[tactic(auto, using(crate::proofs::ServiceRunLemmas::goes_on_itself, crate::proofs::ServiceRunLemmas::goes_on_by))]
 fn further_opening<'a, 'l, R: Files<File = File> + Wait + Clock + Eprint + AllocGlobal, T: Clock>(
     rt: &R,
     time: &T,
@@ -117,6 +144,8 @@ fn further_opening<'a, 'l, R: Files<File = File> + Wait + Clock + Eprint + Alloc
 ) -> Result<Opening, ServeFault<'a>>
     ensures goes_on { IfOk result (λ next. GoesOn served.table.state (table_of next.unnamed).state) }
     ensures due { IfOk result (λ next. DoesWhatIsDue served.due served.table rules.old rules.new (table_of next.unnamed)) }
+    ensures goes_on_by { IfSome served.due (IsDueBy hall.now.options.now)
+        → IfOk result (λ next. GoesOnBy hall.now.options.now served.table rules.old (table_of next.unnamed) rules.new) }
     ensures workers { IfOk result (λ next. workers_of next.unnamed ≡ hall.now.workers) }
     ensures fault { IfErr result (λ fault. fault ≡ Memory) }
 {
@@ -168,55 +197,90 @@ struct Reported {
     expired: u32,
 }
 
+/// What is left of a service's desk.
+type ServedDesk<'h, 'l, 't, D, R, T> = AfterDesk<
+    D,
+    FileSink<File>,
+    Seat<'h, R>,
+    Logging<LogLines<'l, R>>,
+    MachineClock<'t, T>,
+    WorkerWords,
+>;
+
+// What a closed desk left, and the workers that were there.
+#[derive(Drop)]
+struct Attended<'h, 'l, 't, R: Wait + Eprint, T: Clock> {
+    served: Served,
+    workers: Vec<ServiceWorker<'h, 'l, 't, R, T>>,
+}
+
 // Serves at a desk of this name, with what it opens with.
 fn serve_history<
     'a,
+    'h,
     'l,
+    't,
     D: DeskName + Send + Sync,
     R: Files<File = File> + Net + Threads + Wait + Clock + Print + Eprint + AllocGlobal + Sync,
     T: Clock + Sync,
 >(
-    rt: &R,
-    time: &T,
-    hall: &ServiceContext<'l, R>,
+    rt: &'h R,
+    time: &'t T,
+    hall: &'h ServiceContext<'l, R>,
     rules: &Rules,
+    workers: Vec<ServiceWorker<'h, 'l, 't, R, T>>,
     opening: Opening,
     reported: &mut Reported,
-) -> Result<Served, ServeFault<'a>>
+) -> Result<Attended<'h, 'l, 't, R, T>, ServeFault<'a>>
     requires name { IsNamed opening.unnamed D.name D.parts D.book D.root D.workers }
-    requires workers { workers_of opening.unnamed ≡ hall.now.workers }
-    ensures served { IfOk result (λ served. IsHistory (table_of opening.unnamed).state served.table) }
+    requires opening { workers_of opening.unnamed ≡ hall.now.workers }
+    requires workers { length workers.items ≡ hall.now.workers }
+    ensures served { IfOk result (λ left. (history : List Entry) × IsServed hall.now.journal rules.now (table_of opening.unnamed)
+        (new_passes (length workers.entry.items)) workers.entry.items left.workers.items history left.served.table) }
+    ensures due { IfOk result (λ left. IfSome left.served.due (IsDueBy hall.now.options.now)) }
+    ensures workers { IfOk result (λ left. length left.workers.items ≡ hall.now.workers) }
     ensures fault { IfErr result IsLate }
 {
     match start_desk::<D, R>(rt, opening) {
         Err(_) => Err(ServeFault::Memory),
-        Ok(opened) => serve_desk(rt, time, hall, rules, opened, reported),
+        Ok(opened) => serve_desk(rt, time, hall, rules, workers, opened, reported),
     }
 }
 
 // Serves at a desk, closes it and prints what it did.
 fn serve_desk<
     'a,
+    'h,
     'l,
+    't,
     D: DeskName + Send + Sync,
     R: Files<File = File> + Net + Threads + Wait + Clock + Print + Eprint + AllocGlobal + Sync,
     T: Clock + Sync,
 >(
-    rt: &R,
-    time: &T,
-    hall: &ServiceContext<'l, R>,
+    rt: &'h R,
+    time: &'t T,
+    hall: &'h ServiceContext<'l, R>,
     rules: &Rules,
+    workers: Vec<ServiceWorker<'h, 'l, 't, R, T>>,
     opened: Opened<D>,
     reported: &mut Reported,
-) -> Result<Served, ServeFault<'a>>
+) -> Result<Attended<'h, 'l, 't, R, T>, ServeFault<'a>>
     requires passes { length opened.passes.items ≡ hall.now.workers }
-    ensures served { IfOk result (λ served. IsHistory (opening_state D.root) served.table) }
+    requires workers { length workers.items ≡ hall.now.workers }
+    ensures served { IfOk result (λ left. (history : List Entry) × IsServed hall.now.journal rules.now (opening_table D.root)
+        opened.passes.items workers.entry.items left.workers.items history left.served.table) }
+    ensures due { IfOk result (λ left. IfSome left.served.due (IsDueBy hall.now.options.now)) }
+    ensures workers { IfOk result (λ left. length left.workers.items ≡ hall.now.workers) }
     ensures fault { IfErr result IsLate }
 {
-    let Opened { desk, mut passes } = opened;
-    let served = serve_shift(rt, time, hall, rules, &desk, &mut passes);
-    let left = close_desk(rt, desk, passes)?;
-    after_close(rt, hall, left, served, reported)
+    let (AfterDesk { closed, workers }, done) = serve_shift(rt, time, hall, rules, workers, opened);
+    match closed {
+        Err(refused) => Err(abandon_refused(rt, refused)),
+        Ok(closed) => {
+            let served = after_close(rt, hall, left_by(closed), done, reported)?;
+            Ok(Attended { served, workers })
+        }
+    }
 }
 
 // Reports what was done at a desk that is closed, and passes on what is due then.
@@ -252,44 +316,56 @@ fn after_close<'a, 'l, R: Wait + Print + Eprint + AllocGlobal>(
     }
 }
 
-// Answers messages at a desk, unless a raise has taken the only entry that its history has room for, and carries out
-// orders meanwhile. Returns what is due once it is closed.
+// Answers messages at a desk, unless a raise has taken the only entry that its history has room for, carries out orders
+// meanwhile, and closes the desk. Returns also what is due then.
 fn serve_shift<
+    'h,
     'l,
+    't,
     D: DeskName + Send + Sync,
     R: Files<File = File> + Net + Threads + Wait + Clock + Print + Eprint + AllocGlobal + Sync,
     T: Clock + Sync,
 >(
-    rt: &R,
-    time: &T,
-    hall: &ServiceContext<'l, R>,
+    rt: &'h R,
+    time: &'t T,
+    hall: &'h ServiceContext<'l, R>,
     rules: &Rules,
-    desk: &Desk<D, FileSink<File>>,
-    passes: &mut [Pass<D>],
-) -> Result<Option<AfterClose>, NotStarted>
-    requires passes { length passes.old ≡ hall.now.workers }
+    workers: Vec<ServiceWorker<'h, 'l, 't, R, T>>,
+    opened: Opened<D>,
+) -> (
+    ServedDesk<'h, 'l, 't, D, R, T>,
+    Result<Option<AfterClose>, NotStarted>,
+)
+    requires paired { vec_len opened.passes ≡ vec_len workers }
+    ensures served { IfOk result.0.closed (λ c. IsServed hall.now.journal rules.now (opening_table D.root)
+        opened.passes.items workers.entry.items result.0.workers.items c.history.items c.table) }
+    ensures refused { IfErr result.0.closed (λ r. IsMismatch (opening_state D.root) D.workers r.passes.items) }
+    ensures due { IfOk result.1 (λ due. IfSome due (IsDueBy hall.now.options.now)) }
 {
-    if is_full(passes, rules.max_entries) {
-        return Ok(None);
+    let Opened { desk, passes } = opened;
+    let crew = EngineCrew {
+        rt,
+        engine: &hall.engine,
+    };
+    let context = Context {
+        alloc: rt.alloc(),
+        service: &rules.service,
+        journal: &hall.journal,
+        crew: &crew,
+        room: Some(rules.max_entries),
+    };
+    if is_full(&passes, rules.max_entries) {
+        let left = close_desk(rt, &context, desk, Staff { passes, workers });
+        return (left, Ok(None));
     }
     hall.engine.start(rt);
-    run_shift(
+    let orders = Orders {
         rt,
-        rt.alloc(),
         time,
-        &hall.engine,
-        &rules.service,
-        desk,
-        passes,
-        rules.max_entries,
-        &hall.journal,
-        Orders {
-            rt,
-            time,
-            hall,
-            in_force: &rules.text,
-        },
-    )
+        hall,
+        in_force: &rules.text,
+    };
+    run_desk(rt, &context, desk, Staff { passes, workers }, orders)
 }
 
 // Whether the first pass has as many receipts as a history may have entries.
@@ -302,10 +378,11 @@ fn is_full<D: DeskName>(passes: &[Pass<D>], max_entries: u32) -> bool
     }
 }
 
-/// A desk that is open, with its passes.
+/// A desk that is open, with the passes of its workers, in their order.
 pub struct Opened<D: DeskName> {
     pub desk: Desk<D, FileSink<File>>,
     pub passes: Vec<Pass<D>>,
+    ghost in_order: { AreInOrder D.workers passes.items },
 }
 
 /// A desk of this name, with its passes.
@@ -314,7 +391,7 @@ pub(crate) fn start_desk<D: DeskName, R: Wait + AllocGlobal>(
     opening: Opening,
 ) -> Result<Opened<D>, StartFault>
     requires name { IsNamed opening.unnamed D.name D.parts D.book D.root D.workers }
-    ensures passes { IfOk result (λ opened. length opened.passes.items ≡ workers_of opening.unnamed) }
+    ensures passes { IfOk result (λ opened. opened.passes.items ≡ new_passes (workers_of opening.unnamed)) }
     ensures opening { OnOk result (opening_table D.root ≡ table_of opening.unnamed) }
 {
     let Opening { unnamed, sink } = opening;

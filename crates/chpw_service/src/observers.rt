@@ -1,6 +1,5 @@
 //! What hears what came of a worker's messages, and writes it into the log.
-ghost use Rattle.std.specs.Prelude.{◌≡◌, ◌<◌, IfOk, map, vec_len};
-ghost use Rattle.std.specs.List.{range_with_len};
+ghost use Rattle.std.specs.Prelude.{◌≡◌, ◌<◌};
 ghost use Rattle.chpw_table.specs.Times.{IsMoment};
 ghost use Rattle.chpw_serve.specs.Holding.{answer_in};
 ghost use Rattle.chpw_serve.specs.InTurn.{InTurn};
@@ -8,13 +7,10 @@ ghost use Rattle.chpw_log.specs.Lines.{line_of};
 ghost use Rattle.chpw_service.specs.Noting.{Noted, opened as opened_line, limited, journal_failed};
 ghost use Rattle.chpw_service.specs.Noting.{decided_line, failed_under, kind_of, noted_line, refused_line};
 
-use crate::logging::{Log, LogLines};
 use chpw_log::{Asked, HeldKind, Line, MessageEvent};
 use chpw_serve::{Gate, Observer, Spot};
 use chpw_table::{Event, Moment, Opened, Receipt, Verdict};
 use krb_protocol::Refusal;
-use std::alloc::{AllocError, Global};
-use std::sync::Wait;
 
 /// Where the lines of a log go.
 pub trait Lines {
@@ -43,24 +39,14 @@ pub struct Logging<L: Lines> {
     worker: u8,
 }
 
-/// One for each worker, in their order.
-pub(crate) fn log_observers<'l, R: Wait + Eprint>(
-    alloc: Global,
-    log: &'l Log<'l, R>,
-    workers: u8,
-) -> Result<Vec<Logging<LogLines<'l, R>>>, AllocError>
-    ensures count { IfOk result (λ observers. vec_len observers ≡ workers) }
-    ensures workers { IfOk result (λ observers.
-        map (λ observer. observer.worker) observers.items ≡ range_with_len 0 workers) }
-{
-    let mut observers = Vec::with_capacity(alloc, usize::from(workers))?;
-    for worker in 0..workers {
-        observers.push(Logging {
-            lines: LogLines { log },
-            worker,
-        })?;
+impl<L: Lines> Logging<L> {
+    /// What writes the lines of this worker.
+    pub(crate) fn new(lines: L, worker: u8) -> Logging<L>
+        ensures lines { result.lines ≡ lines }
+        ensures worker { result.worker ≡ worker }
+    {
+        Logging { lines, worker }
     }
-    Ok(observers)
 }
 
 impl<L: Lines> Gate for Logging<L> {

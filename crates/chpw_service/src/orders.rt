@@ -18,9 +18,9 @@ use crate::shared_files::exposure_at;
 use chpw_config::explain;
 use chpw_control::{Command, FileName};
 use chpw_invocation::ServeOptions;
-use chpw_pool::{BackgroundTask, MachineClock};
 use chpw_reload::{ReloadFault, prepare};
 use chpw_serve::Clock as _;
+use chpw_workers::{BackgroundTask, MachineClock};
 use std::alloc::Global;
 use std::fs::{File, Files};
 use std::io::{Seek, SeekFrom};
@@ -59,11 +59,17 @@ pub(crate) struct Orders<'s, 'l, R: Wait + Eprint, T> {
 
 impl<R: Files<File = File> + Net + Wait + Clock + Eprint + AllocGlobal, T: Clock> BackgroundTask
     for Orders<'_, '_, R, T> {
+    ghost use Rattle.std.specs.Prelude.{IfSome};
+    ghost use Rattle.chpw_service.specs.Orders.{IsDueBy};
+
+    ghost gives = { λ orders due. IfSome due (IsDueBy orders.hall.now.options.now) };
+
     /// What is due once the desk is closed.
     type Done = Option<AfterClose>;
 
     /// Carries out one order after the other, until the workers are to take no more messages. If something is due after
     /// the desk, that is at once; the thread that opens the next desk then answers the caller.
+    #[tactic(auto, using(crate::proofs::OrderLemmas::due_by))]
     fn run(self) -> Option<AfterClose> {
         let engine = &self.hall.engine;
         for _ in self.rt.forever() {

@@ -1,15 +1,21 @@
 //! The service's threads: the reactor, and the one that serves at the desks.
 ghost use Rattle.std.specs.Prelude.{◌≡◌, ◌⊎◌, IfErr, IfOk, IfSome, IsSome, true, IsSomeAnd, None, Ok, OnOk, OnErr, length};
-ghost use Rattle.chpw_changelog.specs.Pens.{opening_state};
+ghost use Rattle.chpw_changelog.specs.Pens.{opening_state, opening_table};
 ghost use Rattle.chpw_reload.specs.ReloadRuns.{IsServiceRun};
 ghost use Rattle.chpw_service.specs.Faults.{IsLate, told_as};
+ghost use Rattle.chpw_service.specs.ServiceRuns.{RunsTo};
+ghost use Rattle.chpw_service.specs.WholeRuns.{IsServedByNewWorkers};
+ghost use Rattle.chpw_service.specs.declared.logging.LogLines.{LogLines};
+ghost use Rattle.rand_chacha.specs.ChaCha.{key_of};
+ghost use Rattle.chpw_table.specs.Agreement.{Held};
 
 use crate::fault::{LateFault, ServeFault};
 use crate::followed::{ControlTerms, SocketFollower};
 use crate::histories::{Opened, ServiceContext, serve_histories};
 use crate::rules::Rules;
+use crate::staff::{ServiceWorker, make_staff};
 use chpw_book::DeskName;
-use chpw_pool::{AcceptLimit, Follower, Pool, PoolFault, StatusReporter};
+use chpw_pool::{AcceptLimit, Follower, Pool, PoolFault, PoolOptions, StatusReporter};
 use chpw_table::Table;
 use std::fs::{File, Files};
 use std::net::{Net, TcpListener, TcpStream};
@@ -17,10 +23,11 @@ use std::sync::Wait;
 use std::thread::{self, Threads};
 use std::time::Clock;
 
-/// Serves from the first desk on, until no more messages will come. That desk is abandoned if no thread for the sockets
-/// could be started.
+/// Serves from the first desk on, until no more messages will come. That desk is abandoned if memory for its workers, or a
+/// thread for the sockets, is missing.
 pub(crate) fn serve_from<
     'a,
+    'h,
     'l,
     D: DeskName + Send + Sync,
     R: Files<File = File>
@@ -34,30 +41,23 @@ pub(crate) fn serve_from<
         + Sync,
     T: Clock + Sync,
 >(
-    rt: &R,
-    time: &T,
+    rt: &'h R,
+    time: &'h T,
     listener: &TcpListener,
-    hall: &ServiceContext<'l, R>,
+    hall: &'h ServiceContext<'l, R>,
     control: ControlTerms,
     rules: Rules,
     first: Opened<D>,
-    connections: AcceptLimit,
+    terms: PoolOptions,
 ) -> Result<(), ServeFault<'a>>
     requires passes { length first.passes.items ≡ hall.now.workers }
+    ensures served { OnOk result (IsServedByNewWorkers R (LogLines R) hall.now.journal hall.now.options.now (key_of terms.seed)
+        hall.now.workers (opening_table D.root) first.passes.items rules) }
     ensures fault { IfErr result IsLate }
 {
     let followed = SocketFollower::of(rt, time, hall.log, &hall.journal, hall.follower, control);
     let mut first = Some(first);
-    let ended = serve_all(
-        rt,
-        time,
-        listener,
-        hall,
-        followed,
-        rules,
-        &mut first,
-        connections,
-    );
+    let ended = serve_with_staff(rt, time, listener, hall, followed, rules, &mut first, terms);
     match first {
         None => {}
         Some(Opened { desk, passes }) => {
@@ -68,10 +68,13 @@ pub(crate) fn serve_from<
     ended
 }
 
-// The reactor in a thread of its own, while this one serves at one desk after the other.
-fn serve_all<
+// Makes the workers, and serves with them.
+#[tactic(auto, using(crate::proofs::WholeRunLemmas::by_new_workers))]
+fn serve_with_staff<
     'a,
+    'h,
     'l,
+    't,
     D: DeskName + Send + Sync,
     R: Files<File = File>
         + Net<Listener = TcpListener, Stream = TcpStream>
@@ -85,23 +88,79 @@ fn serve_all<
     T: Clock + Sync,
     F: Follower + StatusReporter + Send + Drop,
 >(
-    rt: &R,
-    time: &T,
+    rt: &'h R,
+    time: &'t T,
     listener: &TcpListener,
-    hall: &ServiceContext<'l, R>,
+    hall: &'h ServiceContext<'l, R>,
     followed: F,
     rules: Rules,
+    first: &mut Option<Opened<D>>,
+    terms: PoolOptions,
+) -> Result<(), ServeFault<'a>>
+    requires passes { IfSome first.old (λ opened. length opened.passes.items ≡ hall.now.workers) }
+    ensures served { OnOk result (IfSome first.old (λ opened. IsServedByNewWorkers R (LogLines R) hall.now.journal hall.now.options.now
+        (key_of terms.seed) hall.now.workers (opening_table D.root) opened.passes.items rules)) }
+    ensures fault { IfErr result IsLate }
+{
+    match make_staff(rt, rt.alloc(), time, hall, terms.seed) {
+        Err(_) => Err(ServeFault::Memory),
+        Ok(workers) => serve_all(
+            rt,
+            time,
+            listener,
+            hall,
+            followed,
+            rules,
+            workers,
+            first,
+            terms.connections,
+        ),
+    }
+}
+
+// The reactor in a thread of its own, while this one serves at one desk after the other.
+#[tactic(auto, using(crate::proofs::RunningLemmas::well_ended))]
+fn serve_all<
+    'a,
+    'h,
+    'l,
+    't,
+    D: DeskName + Send + Sync,
+    R: Files<File = File>
+        + Net<Listener = TcpListener, Stream = TcpStream>
+        + Threads
+        + Wait
+        + Clock
+        + Print
+        + Eprint
+        + AllocGlobal
+        + Sync,
+    T: Clock + Sync,
+    F: Follower + StatusReporter + Send + Drop,
+>(
+    rt: &'h R,
+    time: &'t T,
+    listener: &TcpListener,
+    hall: &'h ServiceContext<'l, R>,
+    followed: F,
+    rules: Rules,
+    workers: Vec<ServiceWorker<'h, 'l, 't, R, T>>,
     first: &mut Option<Opened<D>>,
     connections: AcceptLimit,
 ) -> Result<(), ServeFault<'a>>
     requires passes { IfSome first.old (λ opened. length opened.passes.items ≡ hall.now.workers) }
+    requires workers { length workers.items ≡ hall.now.workers }
+    ensures served { OnOk result (IfSome first.old (λ opened. (table : Held) × RunsTo hall.now.journal hall.now.options.now
+        (opening_table D.root) opened.passes.items rules workers.entry.items table)) }
     ensures fault { IfErr result IsLate }
 {
     let ended = thread::scope(
         thread::scope_env(),
         rt,
         move |scope| -> Result<Option<Table>, LateFault>
-            requires { IfSome first.now (λ opened. length opened.passes.items ≡ hall.now.workers) }
+            requires { IfSome first.now (λ opened. length opened.passes.items ≡ hall.now.workers) × (length workers.items ≡ hall.now.workers) }
+            ensures { OnOk result (IfSome first.entry.now (λ opened. (table : Held) × RunsTo hall.entry.now.journal
+                hall.entry.now.options.now (opening_table D.root) opened.passes.items rules workers.entry.items table)) }
         {
             let engine = &hall.engine;
             if scope
@@ -110,9 +169,22 @@ fn serve_all<
             {
                 return Err(LateFault::Memory);
             }
-            serve_or_desert(rt, time, hall, rules, first)
+            serve_or_desert(rt, time, hall, rules, workers, first)
         },
     );
+    finish(rt, hall, ended, connections)
+}
+
+// How the service ended: with the fault of its desks, or else with that of its pool.
+fn finish<'a, 'l, R: Wait + Eprint>(
+    rt: &R,
+    hall: &ServiceContext<'l, R>,
+    ended: Result<Option<Table>, LateFault>,
+    connections: AcceptLimit,
+) -> Result<(), ServeFault<'a>>
+    ensures late { IfErr ended (λ late. OnOk result ⊥) }
+    ensures fault { IfErr result IsLate }
+{
     match ended {
         Ok(_) => {
             let was_stopped = hall.engine.was_stopped(rt);
@@ -125,26 +197,34 @@ fn serve_all<
 // Serves at one desk after the other, and returns the table of the last one; none if there is no first one. After a
 // fault nobody is left to answer, and all connections end.
 fn serve_or_desert<
+    'h,
     'l,
+    't,
     D: DeskName + Send + Sync,
     R: Files<File = File> + Net + Threads + Wait + Clock + Print + Eprint + AllocGlobal + Sync,
     T: Clock + Sync,
 >(
-    rt: &R,
-    time: &T,
-    hall: &ServiceContext<'l, R>,
+    rt: &'h R,
+    time: &'t T,
+    hall: &'h ServiceContext<'l, R>,
     rules: Rules,
+    workers: Vec<ServiceWorker<'h, 'l, 't, R, T>>,
     first: &mut Option<Opened<D>>,
 ) -> Result<Option<Table>, LateFault>
     requires passes { IfSome first.old (λ opened. length opened.passes.items ≡ hall.now.workers) }
+    requires workers { length workers.items ≡ hall.now.workers }
     ensures taken { first.new ≡ None }
     ensures none { first.old ≡ None → result ≡ Ok None }
-    ensures served { IsSome first.old → IfOk result (λ table. IsSomeAnd table (IsServiceRun (opening_state D.root))) }
+    ensures served { IfSome first.old (λ opened. IfOk result (λ table. IsSomeAnd table
+        (RunsTo hall.now.journal hall.now.options.now (opening_table D.root) opened.passes.items rules workers.entry.items))) }
+    ensures left { OnOk result (IfSome first.old (λ opened. (table : Held) × RunsTo hall.now.journal hall.now.options.now
+        (opening_table D.root) opened.passes.items rules workers.entry.items table)) }
+    ensures histories { IsSome first.old → IfOk result (λ table. IsSomeAnd table (IsServiceRun (opening_state D.root))) }
 {
     let Some(opened) = first.take() else {
         return Ok(None);
     };
-    match serve_histories(rt, time, hall, rules, opened) {
+    match serve_histories(rt, time, hall, rules, workers, opened) {
         Ok(table) => Ok(Some(table)),
         Err(fault) => {
             hall.engine.desert(rt);

@@ -1,13 +1,16 @@
 //! The service on a port.
 ghost use Rattle.std.specs.Prelude.{◌≡◌, ◌≤◌, IfOk, IfErr, IfSome, IsSome, None, Ok, OnOk, Option, false, true, length};
-ghost use Rattle.chpw_book.specs.Starting.{IsNamed, workers_of};
-ghost use Rattle.chpw_pool.specs.Engines.{seed_of, workers_at};
+ghost use Rattle.chpw_book.specs.Starting.{IsNamed, table_of, workers_of};
+ghost use Rattle.chpw_pool.specs.Engines.{workers_at};
 ghost use Rattle.chpw_service.specs.Faults.{IsLate, IsOfService};
 ghost use Rattle.chpw_changelog.specs.Pens.{opening_state};
 ghost use Rattle.chpw_service.specs.Raised.{IsRaisedWhereAsked};
 ghost use Rattle.chpw_service.specs.Serving.{IsAskedFor, limit_asked};
 ghost use Rattle.chpw_service.specs.declared.raising.RaiseReport.{RaiseReport};
+ghost use Rattle.chpw_service.specs.WholeRuns.{IsServedFrom, IsWholeRun};
 ghost use Rattle.chpw_service.specs.declared.fault.ServeFault.TheVariants.{CannotListen};
+ghost use Rattle.chpw_service.specs.declared.logging.LogLines.{LogLines};
+ghost use Rattle.rand_chacha.specs.ChaCha.{key_of};
 
 use crate::control_socket::{control_socket, take_away};
 use crate::facts::time_of;
@@ -15,9 +18,8 @@ use crate::fault::ServeFault;
 use crate::files::{Configuration, configuration_of, read_seed};
 use crate::followed::{ControlTerms, FollowerTerms, JournalLength, journal_length};
 use crate::histories::{Opened, Opening, ServiceContext, first_opening, start_desk};
-use crate::logging::{Log, LogLines, log_of};
+use crate::logging::{Log, log_of};
 use crate::notices::Notice;
-use crate::observers::{Logging, log_observers};
 use crate::ownership::{is_shared, own_ids, standing_at};
 use crate::raising::raise_where_asked;
 use crate::rules::{Rules, rules_of};
@@ -28,8 +30,9 @@ use crate::starting::open_table;
 use chpw_book::{Desk, DeskName, Pass};
 use chpw_invocation::{ConnectionLimit, ServeOptions};
 use chpw_journal::{FileSink, Journal};
-use chpw_pool::{AcceptLimit, DatagramSocket, Engine, MachineClock, PoolOptions};
+use chpw_pool::{AcceptLimit, DatagramSocket, Engine, PoolOptions};
 use chpw_serve::{Clock as _, Messages as _};
+use chpw_workers::MachineClock;
 use std::alloc::Global;
 use std::fs::{File, Files};
 use std::marker::Brand;
@@ -60,6 +63,7 @@ pub fn serve<
         + AllocGlobal
         + Sync,
 >(rt: &R, options: ServeOptions<'a>) -> Result<(), ServeFault<'a>>
+    ensures run { OnOk result (IsWholeRun R (LogLines R) options.entry) }
     ensures fault { IfErr result (IsOfService options.entry) }
 {
     serve_by(rt, rt, options)
@@ -80,6 +84,7 @@ pub fn serve_by<
         + Sync,
     T: Clock + Sync,
 >(rt: &R, time: &T, options: ServeOptions<'a>) -> Result<(), ServeFault<'a>>
+    ensures run { OnOk result (IsWholeRun R (LogLines R) options.entry) }
     ensures fault { IfErr result (IsOfService options.entry) }
 {
     let Configuration { config, text } = configuration_of(rt, options.config)?;
@@ -144,6 +149,7 @@ struct Start<'l, R> {
 
 // Serves what is opened: at the first desk the count is raised if that is asked for, and then the service listens at
 // the port.
+#[tactic(auto, using(crate::proofs::RaisedLemmas::raised_in_order))]
 fn serve_opened<
     'a,
     'l,
@@ -170,26 +176,19 @@ fn serve_opened<
 ) -> Result<(), ServeFault<'a>>
     requires name { IsNamed opening.unnamed D.name D.parts D.book D.root D.workers }
     requires workers { workers_of opening.unnamed ≡ start.options.now.workers }
+    ensures served { OnOk result (IsServedFrom R (LogLines R) start.entry.journal start.entry.options.now (key_of start.entry.terms.seed)
+        (table_of opening.unnamed) rules clock.old) }
     ensures fault { IfErr result IsLate }
 {
     let Ok(Opened { desk, mut passes }) = start_desk::<D, R>(rt, opening) else {
         return Err(ServeFault::Memory);
     };
-    let connections = start.terms.connections;
+    let terms = start.terms;
     let realm = rules.service.realm();
     match raise_and_listen(rt, time, start, realm, &desk, &mut passes, clock) {
         Ok((listener, hall)) => {
             let first = Opened { desk, passes };
-            serve_from(
-                rt,
-                time,
-                &listener,
-                &hall,
-                control,
-                rules,
-                first,
-                connections,
-            )
+            serve_from(rt, time, &listener, &hall, control, rules, first, terms)
         }
         Err(fault) => {
             desk.abandon(rt);
@@ -216,9 +215,10 @@ fn raise_and_listen<
     clock: &mut C,
 ) -> Result<(TcpListener, ServiceContext<'l, R>), ServeFault<'a>>
     ensures workers { IfOk result (λ r. r.1.workers ≡ start.entry.options.now.workers) }
+    ensures journal { IfOk result (λ r. r.1.journal ≡ start.entry.journal) }
+    ensures options { IfOk result (λ r. r.1.options.now ≡ start.entry.options.now) }
     ensures follower { IfOk result (λ r. (r.1.follower.socket ≡ start.entry.options.now.follower)
         × (r.1.follower.wait ≡ start.entry.options.now.follower_wait)) }
-    ensures seed { IfOk result (λ r. seed_of r.1.engine ≡ start.entry.terms.seed) }
     ensures raised { OnOk result ((told : Option RaiseReport) × IsRaisedWhereAsked C.gives (opening_state D.root)
         clock.old clock.new passes.old passes.new start.entry.options.now.raise told) }
     ensures passes { length passes.new ≡ length passes.old }
@@ -241,9 +241,10 @@ fn listening<
     realm: &[u8],
 ) -> Result<(TcpListener, ServiceContext<'l, R>), ServeFault<'a>>
     ensures workers { IfOk result (λ r. r.1.workers ≡ start.entry.options.now.workers) }
+    ensures journal { IfOk result (λ r. r.1.journal ≡ start.entry.journal) }
+    ensures options { IfOk result (λ r. r.1.options.now ≡ start.entry.options.now) }
     ensures follower { IfOk result (λ r. (r.1.follower.socket ≡ start.entry.options.now.follower)
         × (r.1.follower.wait ≡ start.entry.options.now.follower_wait)) }
-    ensures seed { IfOk result (λ r. seed_of r.1.engine ≡ start.entry.terms.seed) }
     ensures fault { IfErr result IsLate }
 {
     let Start {
@@ -254,7 +255,7 @@ fn listening<
     } = start;
     let listener = listen(rt, options.port)?;
     let datagrams = datagrams_of(rt, options, realm)?;
-    let engine = engine_of(rt, rt.alloc(), options.workers, &terms, log, datagrams)?;
+    let engine = engine_of(rt, rt.alloc(), options.workers, &terms, datagrams)?;
     let hall = ServiceContext {
         engine,
         workers: options.workers,
@@ -334,31 +335,19 @@ fn limit_of(asked: ConnectionLimit) -> AcceptLimit
 }
 
 // The engine, with a queue for each worker.
-fn engine_of<'a, 'l, R: Net + Wait + Eprint>(
+fn engine_of<'a, R: Net>(
     rt: &R,
     alloc: Global,
     workers: u8,
     terms: &PoolOptions,
-    log: &'l Log<'l, R>,
     datagrams: Option<DatagramSocket>,
-) -> Result<Engine<Logging<LogLines<'l, R>>>, ServeFault<'a>>
+) -> Result<Engine, ServeFault<'a>>
     requires some_workers { 1 ≤ workers }
     ensures workers { IfOk result (λ engine. workers_at engine ≡ workers) }
-    ensures seed { IfOk result (λ engine. seed_of engine ≡ terms.now.seed) }
     ensures fault { IfErr result IsLate }
 {
-    match log_observers(alloc, log, workers) {
-        Err(_) => Err(ServeFault::Memory),
-        Ok(observers) => match Engine::of(
-            rt,
-            alloc,
-            terms.seed,
-            terms.bounds(),
-            observers,
-            datagrams,
-        ) {
-            Err(fault) => Err(serve_fault_of(fault)),
-            Ok(engine) => Ok(engine),
-        },
+    match Engine::of(rt, alloc, terms.bounds(), usize::from(workers), datagrams) {
+        Err(fault) => Err(serve_fault_of(fault)),
+        Ok(engine) => Ok(engine),
     }
 }

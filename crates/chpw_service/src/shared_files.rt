@@ -1,5 +1,5 @@
 //! Files that strict modes refuse.
-ghost use Rattle.std.specs.Prelude.{◌≡◌, IfErr, IsSome, OnErr, true};
+ghost use Rattle.std.specs.Prelude.{◌≡◌, IfErr, IsSome, None, OnErr, OnOk, true};
 ghost use Rattle.chpw_service.specs.Faults.{IsOfModes};
 ghost use Rattle.chpw_service.specs.Modes.{exposed_at, first_exposed, first_of};
 
@@ -49,6 +49,7 @@ pub(crate) fn refuse_exposed<'a, R: Files + AllocGlobal>(
 // Refuses the first of these files that is exposed, with strict modes.
 fn refuse_first<'a>(options: &ServeOptions<'a>, exposures: Exposures) -> Result<(), ServeFault<'a>>
     ensures strict { OnErr result (options.now.strict_modes ≡ true) }
+    ensures refuses { options.now.strict_modes ≡ true → OnOk result (first_exposed options.now exposures ≡ None) }
     ensures fault { IfErr result (IsOfModes options.now) }
 {
     if !options.strict_modes {

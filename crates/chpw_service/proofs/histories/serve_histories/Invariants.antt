@@ -1,6 +1,8 @@
-use Rattle.chpw_changelog.specs.Pens.{opening_state}
+use Rattle.std.proofs.Common.{◌≡◌, IfSome, length}
+use Rattle.chpw_changelog.specs.Pens.{opening_table}
 use Rattle.chpw_book.specs.Starting.{ledger_name, ledger_parts, list_book, list_root, workers_of}
-use Rattle.chpw_reload.specs.ReloadRuns.{IsServiceRun}
+use Rattle.chpw_service.specs.Orders.{IsDueBy}
+use Rattle.chpw_service.specs.ServiceRuns.{IsRun, between}
 use Rattle.chpw_service.proofs.histories.serve_histories.Given as goal
 
 abbrev pub ghosts-serve_history-D-DeskName : goal.ghosts-serve_history-D-DeskName
@@ -13,4 +15,8 @@ abbrev pub ghosts-serve_history-D-LogName : goal.ghosts-serve_history-D-LogName
 ghosts-serve_history-D-LogName g a = record { book = list_book a.opening.unnamed; root = list_root a.opening.unnamed }
 
 abbrev pub invariant-loop : goal.invariant-loop
-invariant-loop g l = IsServiceRun (opening_state g.D.LogName.root) l.served.table
+invariant-loop g l =
+    IsRun l.hall.journal l.hall.options.now (opening_table g.D.LogName.root) l.fn.first.passes.items l.fn.rules l.fn.workers.items
+    (between l.served.table l.rules l.staff.items)
+    × IfSome l.served.due (IsDueBy l.hall.options.now)
+    × (length l.staff.items ≡ l.hall.workers)

@@ -1,8 +1,13 @@
-use Rattle.std.proofs.Common.{◌∙◌, ap, length}
-use Rattle.std.proofs.lemmas.List.FromFn.{length-map-range_with_len}
-use Rattle.chpw_book.specs.Passes.{new_pass}
+use Rattle.std.proofs.Common.{ℕ, subst}
 use Rattle.chpw_book.specs.Starting.{workers_of}
+use Rattle.chpw_workers.specs.Desks.{AreInOrder}
+use Rattle.chpw_workers.proofs.DeskLemmas.{new_in_order}
 use Rattle.chpw_service.proofs.histories.start_desk.Goals as goal
 
-pub returns-in-Ok-clause-passes : goal.returns-in-Ok-clause-passes
-returns-in-Ok-clause-passes _ c = ap length c.in-Ok.ensures.passes ∙ length-map-range_with_len new_pass 0 (workers_of c.args.opening.unnamed)
+pub invariant_of-result : goal.invariant_of-result
+invariant_of-result g c =
+    let passes = c.in-Ok.passes.items in
+    record {
+      in_order = subst (λ (n : ℕ). AreInOrder n passes) c.requires.name.workers_are
+          (new_in_order (workers_of c.args.opening.unnamed) passes c.in-Ok.ensures.passes);
+    }

@@ -1,16 +1,46 @@
-use Rattle.std.proofs.Common.{inl, inr, subst, sym}
-use Rattle.std.proofs.lemmas.Result.{err_from_is_err_and}
+use Rattle.std.proofs.Common.{inl, inr, subst, sym, ◌∙◌}
+use Rattle.std.proofs.lemmas.Result.{err_from_is_err_and, on_ok_weaker}
+use Rattle.chpw_table.specs.declared.times.Moment.{Moment}
+use Rattle.chpw_book.specs.Starting.{table_of}
 use Rattle.chpw_service.specs.Faults.{IsOfService}
+use Rattle.chpw_service.specs.Opening.{IsOpening}
+use Rattle.chpw_service.specs.ServiceRuns.{gives_moment}
+use Rattle.chpw_service.specs.Serving.{AreRulesOf}
+use Rattle.chpw_service.proofs.WholeRunLemmas.{whole_run}
 use Rattle.chpw_service.proofs.serving.serve_by.Goals as goal
 
 -- the sink is dropped here, in more ways than a search goes through
 pub returns-in_err-journal : goal.returns-in_err-journal
 returns-in_err-journal g c =
     let p = err_from_is_err_and c.from_residual-in_err-journal.result c.from_residual-in_err-journal.ensures.1 in
-    record { fault = rw p.1 (subst (IsOfService c.args.options) (sym p.2) (inr (inr (inr (inr (inl c.in_err-journal.ensures.fault)))))) }
+    record { run = rw p.1 tt; fault = rw p.1 (subst (IsOfService c.args.options) (sym p.2) (inr (inr (inr (inr (inl c.in_err-journal.ensures.fault)))))) }
 
 -- so are both here
 pub returns-in_err-listener : goal.returns-in_err-listener
 returns-in_err-listener g c =
     let p = err_from_is_err_and c.from_residual-in_err-listener.result c.from_residual-in_err-listener.ensures.1 in
-    record { fault = rw p.1 (subst (IsOfService c.args.options) (sym p.2) (inr (inr (inr (inr (inr (inl c.in_err-listener.ensures.fault))))))) }
+    record { run = rw p.1 tt; fault = rw p.1 (subst (IsOfService c.args.options) (sym p.2) (inr (inr (inr (inr (inr (inl c.in_err-listener.ensures.fault))))))) }
+
+-- what the files say, and what was served from there on
+pub returns-clause-run : goal.returns-clause-run
+returns-clause-run g c =
+    let options = c.args.options in
+    let config = c.in_ok-config.field-0.config in
+    let found = c.in_ok-table.field-0 in
+    let ruled = c.in-Ok.ensures in
+    let rules : AreRulesOf config options c.in-Ok.rules = record {
+      realm = ruled.realm;
+      keys = ruled.keys;
+      protocol = ruled.protocol;
+      accepts = ruled.accepts;
+      max_entries = ruled.max_entries;
+      text = ruled.sets;
+    } in
+    let opening = subst (λ (before : Moment). IsOpening gives_moment config before c.open_table.new.clock found) c.new-clock.ensures.start
+        c.in_ok-table.ensures.opened in
+    on_ok_weaker c.serve_opened-ended.result
+    (λ served. whole_run options config c.in-Ok.rules c.open_table.new.clock c.now-since.new.self found c.in_ok-journal.journal
+    c.terms_of.result.seed (table_of c.first_opening-opening.result.unnamed) rules opening
+    (c.in_ok-journal.ensures.follower ∙ c.is_some-has_follower.ensures)
+    c.first_opening-opening.ensures.table served)
+    c.serve_opened-ended.ensures.served

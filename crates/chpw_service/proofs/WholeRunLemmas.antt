@@ -1,0 +1,68 @@
+-- The whole run of a service, put together from its parts.
+use Rattle.std.proofs.Common.{◌≡◌, ℕ, List, Option, is_some, length, subst, sym}
+use Rattle.chpw_rules.specs.declared.config.Config.{Config}
+use Rattle.chpw_table.specs.Agreement.{Held}
+use Rattle.chpw_table.specs.declared.times.Moment.{Moment}
+use Rattle.rand_chacha.specs.ChaCha.{key_of}
+use Rattle.chpw_journal.specs.declared.journal_file.Journal.{Journal}
+use Rattle.chpw_book.specs.Passes.{PassView}
+use Rattle.chpw_workers.specs.Clocks.{moment_after}
+use Rattle.chpw_invocation.specs.declared.invocation.ServeOptions.{ServeOptions}
+use Rattle.chpw_service.specs.Opening.{IsOpening}
+use Rattle.chpw_service.specs.Raised.{IsRaisedWhereAsked}
+use Rattle.chpw_service.specs.ServiceRuns.{RunsTo, gives_moment, new_passes}
+use Rattle.chpw_service.specs.Serving.{AreRulesOf}
+use Rattle.chpw_service.specs.Staff.{AreStaff, ServiceWorker}
+use Rattle.chpw_service.specs.WholeRuns.{IsServedByNewWorkers, IsServedFrom, IsWholeRun}
+use Rattle.chpw_service.specs.declared.followed.JournalLength.{JournalLength}
+use Rattle.chpw_service.specs.declared.raising.RaiseReport.{RaiseReport}
+use Rattle.chpw_service.specs.declared.rules.Rules.{Rules}
+
+module _ {R L : Type 0} (options : ServeOptions) (key : List ℕ) (rules : Rules) where
+  -- workers that are new serve
+  pub by_new_workers : (journal : JournalLength) (count : ℕ) (opening : Held) (passes : List PassView)
+      (workers : List (ServiceWorker R L)) → AreStaff key 0 workers → length workers ≡ count
+      → (table : Held) × RunsTo journal options opening passes rules workers table
+      → IsServedByNewWorkers R L journal options key count opening passes rules
+  by_new_workers journal count opening passes workers new counted run =
+      record { workers = workers; are_new = new; counted = counted; left = run.0; run = run.1 }
+
+  -- they serve with what the service starts with
+  pub served_from : (journal mark : JournalLength) (used : ServeOptions) (count : ℕ) (opening table : Held) (passes olds : List PassView)
+      (before after : Moment) (told : Option RaiseReport) → mark ≡ journal → used ≡ options → count ≡ options.workers → table ≡ opening
+      → olds ≡ new_passes options.workers
+      → IsRaisedWhereAsked gives_moment table.state before after olds passes options.raise told
+      → IsServedByNewWorkers R L mark used key count table passes rules
+      → IsServedFrom R L journal options key opening rules before
+  served_from journal mark used count opening table passes olds before after told marks uses counts tables old raised served =
+      let by_mark = subst (λ (m : JournalLength). IsServedByNewWorkers R L m used key count table passes rules) marks served in
+      let by_options = subst (λ (o : ServeOptions). IsServedByNewWorkers R L journal o key count table passes rules) uses by_mark in
+      let by_count = subst (λ (n : ℕ). IsServedByNewWorkers R L journal options key n table passes rules) counts by_options in
+      record {
+        after = after;
+        passes = passes;
+        told = told;
+        raised = subst (λ (t : Held). IsRaisedWhereAsked gives_moment t.state before after (new_passes options.workers) passes options.raise told) tables
+            (subst (λ (ps : List PassView). IsRaisedWhereAsked gives_moment table.state before after ps passes options.raise told) old raised);
+        served = subst (λ (t : Held). IsServedByNewWorkers R L journal options key options.workers t passes rules) tables by_count;
+      }
+
+-- and that is what its files say
+pub whole_run : {R L : Type 0} (options : ServeOptions) (config : Config) (rules : Rules) (started since : Moment) (found : Journal)
+    (journal : JournalLength) (seed : List ℕ) (table : Held) → AreRulesOf config options rules
+    → IsOpening gives_moment config (moment_after 0) started found → journal.has_follower ≡ is_some options.follower
+    → table ≡ found.table → IsServedFrom R L journal options (key_of seed) table rules since → IsWholeRun R L options
+whole_run {R} {L} options config rules started since found journal seed table are opening follower tables served =
+    record {
+      config = config;
+      rules = rules;
+      rules_are = are;
+      started = started;
+      found = found;
+      opening = opening;
+      journal = journal;
+      follower = follower;
+      seed = seed;
+      since = since;
+      served = subst (λ (t : Held). IsServedFrom R L journal options (key_of seed) t rules since) tables served;
+    }

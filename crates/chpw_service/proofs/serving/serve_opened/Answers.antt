@@ -1,0 +1,40 @@
+use Rattle.std.proofs.Common.{OnOk, ◌≡◌, ◌∙◌, ◌++◌, ℕ, ap, drop, length, subst, sym, take, arith}
+use lib.Seq.{take-append_seam}
+use Rattle.std.proofs.lemmas.Grind.{common_steps}
+use Rattle.std.proofs.lemmas.List.FromFn.{length-map-range_with_len}
+use Rattle.std.proofs.lemmas.Result.{on_ok_weaker}
+use Rattle.rand_chacha.specs.ChaCha.{key_of}
+use Rattle.chpw_changelog.specs.Pens.{opening_table}
+use Rattle.chpw_book.specs.Passes.{new_pass}
+use Rattle.chpw_book.specs.Starting.{table_of, workers_of}
+use Rattle.chpw_service.specs.ServiceRuns.{new_passes}
+use Rattle.chpw_service.specs.WholeRuns.{IsServedByNewWorkers}
+use Rattle.chpw_service.specs.declared.logging.LogLines.{LogLines}
+use Rattle.chpw_service.proofs.WholeRunLemmas.{served_from}
+use Rattle.chpw_service.proofs.serving.serve_opened.Goals as goal
+
+-- a raise leaves as many passes as there were, one for each worker
+pub serve_from-requires-clause-passes : goal.serve_from-requires-clause-passes
+serve_from-requires-clause-passes g c κs within =
+    let count : length c.in-Ok.field-0.passes.items ≡ workers_of c.args.opening.unnamed =
+    ap length c.in-Ok.ensures.passes ∙ length-map-range_with_len new_pass 0 (workers_of c.args.opening.unnamed) in
+    grind (arith, common_steps)
+
+pub returns-in-Ok-raise_and_listen-clause-served : goal.returns-in-Ok-raise_and_listen-clause-served
+returns-in-Ok-raise_and_listen-clause-served g c =
+    let start = c.args.start in
+    let hall = c.in-Ok-raise_and_listen.hall in
+    let ready = c.in-Ok-raise_and_listen.ensures in
+    let passes = c.raise_and_listen.new.passes in
+    let rest = drop (length passes) c.in-Ok.field-0.passes.items in
+    let long : c.in-Ok.field-0.passes.len ≡ length passes = grind (arith, common_steps) in
+    let kept : take c.in-Ok.field-0.passes.len (passes ++ rest) ≡ passes =
+        subst (λ (n : ℕ). take n (passes ++ rest) ≡ passes) (sym long) (take-append_seam passes rest) in
+    let came = subst (λ ps. OnOk c.serve_from.result (IsServedByNewWorkers g.row.R.Denot (LogLines g.row.R.Denot) hall.journal hall.options.now
+        (key_of start.terms.seed) hall.workers (opening_table g.D.LogName.root) ps c.args.rules)) kept c.serve_from.ensures.served in
+    on_ok_weaker c.serve_from.result
+    (λ served. served_from start.options.now (key_of start.terms.seed) c.args.rules start.journal hall.journal hall.options.now hall.workers
+    (table_of c.args.opening.unnamed) (opening_table g.D.LogName.root) passes _ c.args.clock.now _ ready.raised.0
+    ready.journal ready.options ready.workers c.in-Ok.ensures.opening
+    (c.deref_mut.ensures.value ∙ (c.in-Ok.ensures.passes ∙ ap new_passes c.requires.workers)) ready.raised.1 served)
+    came

@@ -1,0 +1,52 @@
+-- THE WHOLE RUN of a service, from the text of its configuration to the table that its last desk left.
+use Rattle.std.specs.Prelude.{◌≡◌, ℕ, List, Option, is_some, length}
+use Rattle.rand_chacha.specs.ChaCha.{key_of}
+use Rattle.chpw_rules.specs.declared.config.Config.{Config}
+use Rattle.chpw_table.specs.Agreement.{Held}
+use Rattle.chpw_table.specs.declared.times.Moment.{Moment}
+use Rattle.chpw_journal.specs.declared.journal_file.Journal.{Journal}
+use Rattle.chpw_book.specs.Passes.{PassView}
+use Rattle.chpw_workers.specs.Clocks.{moment_after}
+use Rattle.chpw_invocation.specs.declared.invocation.ServeOptions.{ServeOptions}
+use Rattle.chpw_service.specs.Opening.{IsOpening}
+use Rattle.chpw_service.specs.Raised.{IsRaisedWhereAsked}
+use Rattle.chpw_service.specs.ServiceRuns.{RunsTo, gives_moment, new_passes}
+use Rattle.chpw_service.specs.Serving.{AreRulesOf}
+use Rattle.chpw_service.specs.Staff.{AreStaff, ServiceWorker}
+use Rattle.chpw_service.specs.declared.followed.JournalLength.{JournalLength}
+use Rattle.chpw_service.specs.declared.raising.RaiseReport.{RaiseReport}
+use Rattle.chpw_service.specs.declared.rules.Rules.{Rules}
+
+-- as many new workers, with words of this key, serve at one desk after the other, from a first one with this table, these passes
+-- and these rules on
+pub record IsServedByNewWorkers (R L : Type 0) (journal : JournalLength) (options : ServeOptions) (key : List ℕ) (count : ℕ)
+    (opening : Held) (passes : List PassView) (rules : Rules) : Type 0 where
+  pub workers : List (ServiceWorker R L)
+  pub are_new : AreStaff key 0 workers
+  pub counted : length workers ≡ count
+  pub left : Held
+  pub run : RunsTo journal options opening passes rules workers left
+
+-- before that the count of iterations is raised at the first desk, if that is asked for
+pub record IsServedFrom (R L : Type 0) (journal : JournalLength) (options : ServeOptions) (key : List ℕ) (opening : Held)
+    (rules : Rules) (before : Moment) : Type 0 where
+  pub after : Moment
+  pub passes : List PassView
+  pub told : Option RaiseReport
+  pub raised : IsRaisedWhereAsked gives_moment opening.state before after (new_passes options.workers) passes options.raise told
+  pub served : IsServedByNewWorkers R L journal options key options.workers opening passes rules
+
+-- there is a configuration that a text sets, by whose rules messages are answered, and with whose table, restored from the journal, the
+-- first desk opens
+pub record IsWholeRun (R L : Type 0) (options : ServeOptions) : Type 0 where
+  pub config : Config
+  pub rules : Rules
+  pub rules_are : AreRulesOf config options rules
+  pub started : Moment
+  pub found : Journal
+  pub opening : IsOpening gives_moment config (moment_after 0) started found
+  pub journal : JournalLength
+  pub follower : journal.has_follower ≡ is_some options.follower
+  pub seed : List ℕ
+  pub since : Moment
+  pub served : IsServedFrom R L journal options (key_of seed) found.table rules since
