@@ -8,8 +8,8 @@ use Rattle.chpw_invocation.specs.declared.invocation.Invocation.TheVariants.{Ser
 use Rattle.chpw_invocation.specs.declared.invocation.ServeOptions.{ServeOptions}
 use Rattle.chpw_commands.specs.declared.drill.DrillFault.TheVariants.{Memory}
 use Rattle.chpw_service.specs.WholeRuns.{IsWholeRun}
-use Rattle.chpw_service.specs.declared.fault.ServeFault.{ServeFault}
-use Rattle.chpw_service.specs.declared.logging.LogLines.{LogLines}
+use Rattle.chpw_start.specs.declared.fault.ServeFault.{ServeFault}
+use Rattle.chpw_logging.specs.declared.logging.LogLines.{LogLines}
 use Rattle.chpw_program.specs.Endings.{ending_served}
 use Rattle.chpw_program.specs.Running.{HasDone, IsRunBy}
 use Rattle.chpw_program.specs.declared.ending.Ending.{Ending}

@@ -5,8 +5,8 @@ use Rattle.chpw_commands.specs.declared.drill.DrillFault.{DrillFault}
 use Rattle.chpw_import.specs.Faults.{line_of as keys_line}
 use Rattle.chpw_import.specs.declared.fault.KeysFault.{KeysFault}
 use Rattle.chpw_import.specs.declared.fault.KeysFault.TheVariants.{BadName}
-use Rattle.chpw_service.specs.Faults.{line_of as service_line}
-use Rattle.chpw_service.specs.declared.fault.ServeFault.{ServeFault}
+use Rattle.chpw_start.specs.Faults.{line_of as service_line}
+use Rattle.chpw_start.specs.declared.fault.ServeFault.{ServeFault}
 use Rattle.chpw_program.specs.declared.ending.Ending.{Ending}
 use Rattle.chpw_program.specs.declared.ending.Ending.TheVariants.{Good, Faulty, Early, Unread, Unserved, Unbrought}
 use Rattle.chpw_program.specs.declared.ending.Ending.TheVariants.{EmptyPassword, ManyLines, BadArgument, Unconnected}

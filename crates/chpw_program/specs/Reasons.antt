@@ -6,7 +6,7 @@ use Rattle.std.specs.Str.{bytes_eq}
 use Rattle.chpw_import.specs.declared.fault.KeysFault.TheVariants as keys
 use Rattle.chpw_invocation.specs.declared.invocation.Invocation.{Invocation}
 use Rattle.chpw_invocation.specs.declared.invocation.Invocation.TheVariants.{Check, Serve, Table, Client}
-use Rattle.chpw_service.specs.declared.fault.ServeFault.TheVariants as service
+use Rattle.chpw_start.specs.declared.fault.ServeFault.TheVariants as service
 use Rattle.chpw_program.specs.declared.ending.Ending.{Ending}
 use Rattle.chpw_program.specs.declared.ending.Ending.TheVariants as ending
 use Rattle.chpw_program.specs.declared.reasons.Cause.{Cause}

@@ -7,7 +7,7 @@ use Rattle.chpw_invocation.specs.declared.invocation.Invocation.{Invocation}
 use Rattle.chpw_invocation.specs.declared.invocation.Invocation.TheVariants.{Check, Serve}
 use Rattle.chpw_commands.specs.declared.drill.DrillFault.TheVariants.{Memory}
 use Rattle.chpw_service.specs.WholeRuns.{IsWholeRun}
-use Rattle.chpw_service.specs.declared.logging.LogLines.{LogLines}
+use Rattle.chpw_logging.specs.declared.logging.LogLines.{LogLines}
 use Rattle.chpw_program.specs.Checking.{HasChecked}
 use Rattle.chpw_program.specs.declared.ending.Ending.{Ending}
 use Rattle.chpw_program.specs.declared.ending.Ending.TheVariants.{Early, Good, Misused}

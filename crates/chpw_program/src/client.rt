@@ -22,7 +22,7 @@ use chpw_invocation::ClientOptions;
 use chpw_pool::machine_moment;
 use chpw_rules::{Config, Name};
 use chpw_serve::WorkerWords;
-use chpw_service::{read_seed, read_settings};
+use chpw_start::{read_seed, read_settings};
 use chpw_table::Moment;
 use std::alloc::Global;
 use std::fs::{File, Files};

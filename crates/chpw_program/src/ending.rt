@@ -5,7 +5,7 @@ ghost use Rattle.chpw_program.specs.Endings.{has_line, line_of, status_of, told_
 
 use chpw_commands::DrillFault;
 use chpw_import::KeysFault;
-use chpw_service::ServeFault;
+use chpw_start::ServeFault;
 use std::fmt;
 use std::io::{self, Write};
 

@@ -7,7 +7,7 @@ use crate::new_password::STANDARD_INPUT;
 use chpw_commands::explain_check;
 use chpw_import::KeysFault;
 use chpw_invocation::{Invocation, command_of};
-use chpw_service::{LONGEST_CONFIGURATION, ServeFault, read_configuration};
+use chpw_start::{LONGEST_CONFIGURATION, ServeFault, read_configuration};
 use std::alloc::Global;
 use std::fmt;
 use std::fs::{self, File, Files};

@@ -1,7 +1,5 @@
 pub mod AnswerLemmas
-pub mod OpeningLemmas
 pub mod OrderLemmas
-pub mod FaultLemmas
 pub mod RaisedLemmas
 pub mod RunningLemmas
 pub mod ServiceRunLemmas

@@ -9,8 +9,8 @@ use Rattle.chpw_book.specs.Passes.{PassView, raise_refused_with}
 use Rattle.chpw_book.specs.declared.raising.RaiseFault.{RaiseFault}
 use Rattle.chpw_book.specs.declared.raising.RaiseFault.TheVariants.{Full, Memory}
 use Rattle.chpw_workers.specs.Desks.{AreInOrder}
-use Rattle.chpw_service.specs.Raised.{IsRaisedWhereAsked}
-use Rattle.chpw_service.specs.declared.raising.RaiseReport.{RaiseReport}
+use Rattle.chpw_start.specs.Raised.{IsRaisedWhereAsked}
+use Rattle.chpw_start.specs.declared.raising.RaiseReport.{RaiseReport}
 
 refused_same : (fault : RaiseFault) (mine : PassView) → (raise_refused_with fault mine).worker ≡ mine.worker
 refused_same Full mine = refl

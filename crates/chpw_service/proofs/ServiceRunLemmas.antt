@@ -26,13 +26,13 @@ use Rattle.chpw_service.specs.Orders.{IsDueBy}
 use Rattle.chpw_service.specs.Rereading.{IsReadAnew}
 use Rattle.chpw_service.specs.ServiceRuns.{Between, DeskRun, GoesOnBy, IsNextDesk, IsReloadBy, IsRun, IsServed, RunsAreServiceRuns}
 use Rattle.chpw_service.specs.ServiceRuns.{between, gives_moment, new_passes}
-use Rattle.chpw_service.specs.Serving.{AreRulesOf}
+use Rattle.chpw_start.specs.Rules.{AreRulesOf}
 use Rattle.chpw_service.specs.Staff.{ServiceWorker}
 use Rattle.chpw_service.specs.declared.followed.JournalLength.{JournalLength}
 use Rattle.chpw_service.specs.declared.orders.AfterClose.{AfterClose}
 use Rattle.chpw_service.specs.declared.orders.AfterClose.TheVariants.{Compact, Reload}
 use Rattle.chpw_service.specs.declared.orders.PendingReload.{PendingReload}
-use Rattle.chpw_service.specs.declared.rules.Rules.{Rules}
+use Rattle.chpw_start.specs.declared.rules.Rules.{Rules}
 use Rattle.chpw_service.proofs.StaffLemmas.{in_order_length, served_count}
 use Rattle.chpw_reload.proofs.PartsLemmas.{reloaded_is_reload}
 use Rattle.chpw_reload.proofs.RunLemmas.{runs_begin, runs_go_on}

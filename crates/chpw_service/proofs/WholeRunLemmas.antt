@@ -8,15 +8,15 @@ use Rattle.chpw_journal.specs.declared.journal_file.Journal.{Journal}
 use Rattle.chpw_book.specs.Passes.{PassView}
 use Rattle.chpw_workers.specs.Clocks.{moment_after}
 use Rattle.chpw_invocation.specs.declared.invocation.ServeOptions.{ServeOptions}
-use Rattle.chpw_service.specs.Opening.{IsOpening}
-use Rattle.chpw_service.specs.Raised.{IsRaisedWhereAsked}
+use Rattle.chpw_start.specs.Opening.{IsOpening}
+use Rattle.chpw_start.specs.Raised.{IsRaisedWhereAsked}
 use Rattle.chpw_service.specs.ServiceRuns.{RunsTo, gives_moment, new_passes}
-use Rattle.chpw_service.specs.Serving.{AreRulesOf}
+use Rattle.chpw_start.specs.Rules.{AreRulesOf}
 use Rattle.chpw_service.specs.Staff.{AreStaff, ServiceWorker}
 use Rattle.chpw_service.specs.WholeRuns.{IsServedByNewWorkers, IsServedFrom, IsWholeRun}
 use Rattle.chpw_service.specs.declared.followed.JournalLength.{JournalLength}
-use Rattle.chpw_service.specs.declared.raising.RaiseReport.{RaiseReport}
-use Rattle.chpw_service.specs.declared.rules.Rules.{Rules}
+use Rattle.chpw_start.specs.declared.raising.RaiseReport.{RaiseReport}
+use Rattle.chpw_start.specs.declared.rules.Rules.{Rules}
 
 module _ {R L : Type 0} (options : ServeOptions) (key : List ℕ) (rules : Rules) where
   -- workers that are new serve

@@ -4,14 +4,14 @@ use Rattle.chpw_control.specs.Answers.{ok_line, error_line}
 use Rattle.chpw_printing.specs.Quoting.{name_text}
 use Rattle.chpw_reload.specs.Reasons.{fault_text}
 use Rattle.chpw_rules.specs.declared.name.Name.{Name}
-use Rattle.chpw_service.specs.Faults.{line_of}
-use Rattle.chpw_service.specs.Modes.{words_of}
+use Rattle.chpw_start.specs.Faults.{line_of}
+use Rattle.chpw_start.specs.Modes.{words_of}
 use Rattle.chpw_service.specs.declared.compacting.CompactFault.{CompactFault}
 use Rattle.chpw_service.specs.declared.compacting.CompactFault.TheVariants as compaction
 use Rattle.chpw_service.specs.declared.compacting.NotReplaced.{NotReplaced}
 use Rattle.chpw_service.specs.declared.compacting.NotReplaced.TheVariants.{Failed, Changed, NoGain, Waited, Unwritten, Unsafe, Memory}
 use Rattle.chpw_service.specs.declared.orders.PrepareFault.{PrepareFault}
-use Rattle.chpw_service.specs.declared.ownership.Exposure.{Exposure}
+use Rattle.chpw_start.specs.declared.ownership.Exposure.{Exposure}
 use Rattle.chpw_service.specs.declared.orders.PrepareFault.TheVariants as reload
 
 -- an order that was carried out, and one that was refused for this reason

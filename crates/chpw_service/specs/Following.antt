@@ -5,7 +5,7 @@ use Rattle.chpw_reload.specs.declared.reloading.Reloaded.{Reloaded}
 use Rattle.chpw_service.specs.declared.orders.AfterClose.{AfterClose}
 use Rattle.chpw_service.specs.declared.orders.AfterClose.TheVariants.{Reload, Compact}
 use Rattle.chpw_service.specs.declared.orders.PendingReload.{PendingReload}
-use Rattle.chpw_service.specs.declared.rules.Rules.{Rules}
+use Rattle.chpw_start.specs.declared.rules.Rules.{Rules}
 use Rattle.chpw_table.specs.Agreement.{Held}
 
 -- the table with its used ids, its events and changes counted from 0

@@ -7,11 +7,11 @@ use Rattle.chpw_control.specs.declared.command.Command.{Command}
 use Rattle.chpw_control.specs.declared.command.Command.TheVariants as command
 use Rattle.chpw_invocation.specs.declared.invocation.ServeOptions.{ServeOptions}
 use Rattle.chpw_service.specs.Answers.{compact_words, done_lines, exposed_words, prepare_words, refused_lines}
-use Rattle.chpw_service.specs.Faults.{IsOfClash, line_of}
+use Rattle.chpw_start.specs.Faults.{IsOfClash, line_of}
 use Rattle.chpw_service.specs.Rereading.{IsBase, IsNotBegun, IsNotReadAnew, IsReadAnew}
 use Rattle.chpw_service.specs.declared.compacting.CompactFault.{CompactFault}
-use Rattle.chpw_service.specs.declared.fault.ServeFault.{ServeFault}
-use Rattle.chpw_service.specs.declared.ownership.Exposure.{Exposure}
+use Rattle.chpw_start.specs.declared.fault.ServeFault.{ServeFault}
+use Rattle.chpw_start.specs.declared.ownership.Exposure.{Exposure}
 use Rattle.chpw_service.specs.declared.orders.AfterClose.{AfterClose}
 use Rattle.chpw_service.specs.declared.orders.AfterClose.TheVariants.{Reload, Compact}
 use Rattle.chpw_service.specs.declared.orders.Carried.{Carried}

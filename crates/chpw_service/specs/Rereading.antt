@@ -6,12 +6,12 @@ use Rattle.chpw_table.specs.Agreement.{Agrees, Held}
 use Rattle.chpw_report.specs.Held.{opening}
 use Rattle.chpw_reload.specs.Reloading.{IsPrepared, IsUnprepared}
 use Rattle.chpw_invocation.specs.declared.invocation.ServeOptions.{ServeOptions}
-use Rattle.chpw_service.specs.Faults.{IsOfBytes, IsOfSettings, IsUnread, Sets}
-use Rattle.chpw_service.specs.Serving.{AreRulesOf}
-use Rattle.chpw_service.specs.Telling.{IsOfText}
+use Rattle.chpw_start.specs.Faults.{IsOfBytes, IsOfSettings, IsUnread, Sets}
+use Rattle.chpw_start.specs.Rules.{AreRulesOf}
+use Rattle.chpw_start.specs.Telling.{IsOfText}
 use Rattle.chpw_service.specs.declared.compacting.CompactFault.{CompactFault}
 use Rattle.chpw_service.specs.declared.compacting.CompactFault.TheVariants.{Unread, Changed, NoCopy}
-use Rattle.chpw_service.specs.declared.fault.ServeFault.{ServeFault}
+use Rattle.chpw_start.specs.declared.fault.ServeFault.{ServeFault}
 use Rattle.chpw_service.specs.declared.orders.PendingReload.{PendingReload}
 use Rattle.chpw_service.specs.declared.orders.PrepareFault.{PrepareFault}
 use Rattle.chpw_service.specs.declared.orders.PrepareFault.TheVariants.{Start, Config as Unset, Reload}

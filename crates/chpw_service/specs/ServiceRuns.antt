@@ -19,10 +19,10 @@ use Rattle.chpw_reload.specs.ReloadRuns.{IsServiceRun}
 use Rattle.chpw_invocation.specs.declared.invocation.ServeOptions.{ServeOptions}
 use Rattle.chpw_service.specs.Following.{reopened}
 use Rattle.chpw_service.specs.Journals.{tells_end}
-use Rattle.chpw_service.specs.Serving.{AreRulesOf}
+use Rattle.chpw_start.specs.Rules.{AreRulesOf}
 use Rattle.chpw_service.specs.Staff.{ServiceWorker}
 use Rattle.chpw_service.specs.declared.followed.JournalLength.{JournalLength}
-use Rattle.chpw_service.specs.declared.rules.Rules.{Rules}
+use Rattle.chpw_start.specs.declared.rules.Rules.{Rules}
 
 -- a clock's next moment is the last one that it has given
 abbrev pub gives_moment : Moment → Moment → Moment → Type 0

@@ -6,7 +6,7 @@ use Rattle.chpw_pool.specs.Engines.{seat_number, seat_turns}
 use Rattle.chpw_pool.specs.declared.seat.Seat.{Seat}
 use Rattle.chpw_workers.specs.Clocks.{moment_after}
 use Rattle.chpw_workers.specs.declared.worker.Worker.{Worker}
-use Rattle.chpw_service.specs.declared.observers.Logging.{Logging}
+use Rattle.chpw_logging.specs.declared.observers.Logging.{Logging}
 
 -- a worker: where its messages come from, who hears what came of them, the last moment that its clock gave, and where in its
 -- stream its next word is

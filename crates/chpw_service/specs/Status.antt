@@ -10,8 +10,8 @@ use Rattle.chpw_control.specs.declared.status.FollowerState.TheVariants.{Absent,
 use Rattle.chpw_control.specs.declared.time.Time.{Time}
 use Rattle.chpw_pool.specs.Controlling.{sum_of}
 use Rattle.chpw_pool.specs.declared.status_reporter.ConnectionCounts.{ConnectionCounts}
-use Rattle.chpw_service.specs.Facts.{quiet_time}
-use Rattle.chpw_service.specs.declared.facts.Facts.{Facts}
+use Rattle.chpw_logging.specs.Facts.{quiet_time}
+use Rattle.chpw_logging.specs.declared.facts.Facts.{Facts}
 use Rattle.chpw_service.specs.declared.status.Readings.{Readings}
 
 abbrev pub journal_state : Bool → JournalState

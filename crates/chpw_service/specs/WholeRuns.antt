@@ -8,14 +8,14 @@ use Rattle.chpw_journal.specs.declared.journal_file.Journal.{Journal}
 use Rattle.chpw_book.specs.Passes.{PassView}
 use Rattle.chpw_workers.specs.Clocks.{moment_after}
 use Rattle.chpw_invocation.specs.declared.invocation.ServeOptions.{ServeOptions}
-use Rattle.chpw_service.specs.Opening.{IsOpening}
-use Rattle.chpw_service.specs.Raised.{IsRaisedWhereAsked}
+use Rattle.chpw_start.specs.Opening.{IsOpening}
+use Rattle.chpw_start.specs.Raised.{IsRaisedWhereAsked}
 use Rattle.chpw_service.specs.ServiceRuns.{RunsTo, gives_moment, new_passes}
-use Rattle.chpw_service.specs.Serving.{AreRulesOf}
+use Rattle.chpw_start.specs.Rules.{AreRulesOf}
 use Rattle.chpw_service.specs.Staff.{AreStaff, ServiceWorker}
 use Rattle.chpw_service.specs.declared.followed.JournalLength.{JournalLength}
-use Rattle.chpw_service.specs.declared.raising.RaiseReport.{RaiseReport}
-use Rattle.chpw_service.specs.declared.rules.Rules.{Rules}
+use Rattle.chpw_start.specs.declared.raising.RaiseReport.{RaiseReport}
+use Rattle.chpw_start.specs.declared.rules.Rules.{Rules}
 
 -- as many new workers, with words of this key, serve at one desk after the other, from a first one with this table, these passes
 -- and these rules on

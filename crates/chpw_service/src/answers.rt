@@ -4,16 +4,15 @@ ghost use Rattle.chpw_control.specs.Answers.{lines_text};
 ghost use Rattle.chpw_reload.specs.Reasons.{fault_text};
 ghost use Rattle.chpw_service.specs.Answers.{compact_words, done_lines, exposed_words, lacked_line, prepare_words};
 ghost use Rattle.chpw_service.specs.Answers.{refused_lines, reloaded_lines, replaced_lines, unwritten};
-ghost use Rattle.chpw_service.specs.Faults.{line_of};
+ghost use Rattle.chpw_start.specs.Faults.{line_of};
 
 use crate::compacting::{CompactFault, NotReplaced};
-use crate::fault::ServeFault;
 use crate::orders::PrepareFault;
-use crate::ownership::Exposure;
 use chpw_control::put_ok;
 use chpw_printing::{put_name, put_words};
 use chpw_reload::{ReloadFault, put_fault};
 use chpw_rules::Name;
+use chpw_start::{Exposure, ServeFault};
 use std::alloc::{AllocError, Global};
 
 /// Why no compact journal is made while the configuration's file isn't the one in force.

@@ -1,10 +1,10 @@
 //! Closing a service's desk.
 ghost use Rattle.std.specs.Prelude.{◌≡◌, ◌<◌, ◌-◌, ◌^◌, false};
 ghost use Rattle.chpw_service.specs.Tallies.{IsTally, changes_a_password, password_changes};
-ghost use Rattle.chpw_service.specs.declared.fault.ServeFault.TheVariants.{CannotClose};
+ghost use Rattle.chpw_start.specs.declared.fault.ServeFault.TheVariants.{CannotClose};
 
-use crate::fault::ServeFault;
 use chpw_book::{CloseRefused, Closed, DeskName};
+use chpw_start::ServeFault;
 use chpw_table::{Entry, Event, JournalSink, Table, Verdict};
 use std::fmt;
 use std::sync::Wait;

@@ -4,19 +4,16 @@ ghost use Rattle.std.specs.Prelude.{false, not, if◌then◌else◌, length, ◌
 ghost use Rattle.chpw_book.specs.Starting.{table_of, workers_of};
 ghost use Rattle.chpw_journal.specs.Compact.{AreWholeRecords, compacted};
 ghost use Rattle.chpw_reload.specs.Compacting.{GoesWith};
-ghost use Rattle.chpw_service.specs.Faults.{IsOfBytes};
+ghost use Rattle.chpw_start.specs.Faults.{IsOfBytes};
 ghost use Rattle.chpw_service.specs.Following.{reopened};
 ghost use Rattle.chpw_service.specs.Replacing.{IsNoText, compact_text};
 ghost use Rattle.chpw_service.specs.Rereading.{IsBase, IsNotBegun};
-ghost use Rattle.chpw_service.specs.Telling.{IsOfText, TellsOf};
+ghost use Rattle.chpw_start.specs.Telling.{IsOfText, TellsOf};
 ghost use Rattle.chpw_service.specs.declared.compacting.NotReplaced.TheVariants.{NoGain, Unsafe};
-ghost use Rattle.chpw_service.specs.declared.fault.ServeFault.TheVariants.{Memory};
+ghost use Rattle.chpw_start.specs.declared.fault.ServeFault.TheVariants.{Memory};
 
 use crate::answers::{answer_or_empty, compact_answer};
-use crate::fault::ServeFault;
-use crate::files::{configuration_text, settings};
 use crate::histories::{Opening, ServiceContext, next_opening};
-use crate::table::write_table_of;
 use chpw_control::FileName;
 use chpw_invocation::{ServeOptions, TableForm};
 use chpw_journal::{
@@ -24,6 +21,7 @@ use chpw_journal::{
 };
 use chpw_reload::goes_with;
 use chpw_serve::Clock as _;
+use chpw_start::{ServeFault, configuration_text, settings, write_table_of};
 use chpw_table::{JournalSink, Table};
 use chpw_workers::MachineClock;
 use std::alloc::{AllocError, Global};

@@ -2,7 +2,7 @@
 ghost use Rattle.std.specs.Prelude.{◌≡◌, ◌≢◌, true, false, IfErr, IfOk, IsSome, None, Ok};
 ghost use Rattle.chpw_service.specs.Faults.{IsOfControl};
 
-use crate::fault::ServeFault;
+use chpw_start::ServeFault;
 use mio::net::{UnixListener, UnixStream};
 use std::fs::{self, Files, Permissions};
 use std::io::{self, ErrorKind};

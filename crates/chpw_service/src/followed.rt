@@ -1,19 +1,17 @@
 //! The follower of a service: where it is, and the reports of changes that it hasn't confirmed.
 ghost use Rattle.std.specs.Prelude.{◌≡◌, ◌||◌, ◌⊎◌, [], false, is_some, None, IfOk, IfErr};
 ghost use Rattle.chpw_control.specs.Statuses.{IsTold};
-ghost use Rattle.chpw_service.specs.Faults.{IsOfJournal};
+ghost use Rattle.chpw_start.specs.Faults.{IsOfJournal};
 ghost use Rattle.chpw_service.specs.Status.{IsStatusAnswer};
 
-use crate::fault::ServeFault;
-use crate::files::unread_fault;
-use crate::logging::Log;
-use crate::notices::{Notice, is_first};
 use crate::status::{Readings, answer_with, status_of};
 use chpw_control::Time;
 use chpw_invocation::VERSION;
 use chpw_journal::FileSink;
+use chpw_logging::{Log, Notice, is_first};
 use chpw_pool::{ConnectionCounts, Follower, StatusReporter, Unconfirmed};
 use chpw_serve::Clock as _;
+use chpw_start::{ServeFault, unread_fault};
 use chpw_table::JournalSink;
 use chpw_workers::{JournalEnd, MachineClock};
 use mio::net::{UnixListener, UnixStream};
@@ -170,7 +168,8 @@ impl<R: Net<Listener = TcpListener, Stream = TcpStream> + Wait + Eprint, T: Cloc
         ensures told { self.new.is_told ≡ (self.old.is_told || is_some self.old.terms.socket) }
         ensures terms { self.new.terms ≡ self.old.terms }
     {
-        self.log.put_unconfirmed(self.clock.now(), &change);
+        let Unconfirmed { peer, mark } = change;
+        self.log.put_unconfirmed(self.clock.now(), peer, mark);
         if let Some(socket) = self.terms.socket {
             if is_first(&mut self.is_told) {
                 self.log.tell(Notice::Unconfirmed(socket));

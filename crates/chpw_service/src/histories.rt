@@ -4,7 +4,7 @@ ghost use Rattle.std.specs.Prelude.{List, IfSome, length, vec_len};
 ghost use Rattle.chpw_changelog.specs.Pens.{opening_state, opening_table};
 ghost use Rattle.chpw_book.specs.Starting.{IsNamed, table_of, workers_of};
 ghost use Rattle.chpw_pool.specs.Engines.{workers_at};
-ghost use Rattle.chpw_service.specs.Faults.{IsLate};
+ghost use Rattle.chpw_start.specs.Faults.{IsLate};
 ghost use Rattle.chpw_service.specs.Following.{DoesWhatIsDue, reopened};
 ghost use Rattle.chpw_reload.specs.ReloadRuns.{GoesOn, IsServiceRun};
 ghost use Rattle.chpw_service.specs.Orders.{IsDueBy};
@@ -13,24 +13,21 @@ ghost use Rattle.chpw_table.specs.declared.history.Entry.{Entry};
 ghost use Rattle.chpw_workers.specs.Desks.{AreInOrder};
 ghost use Rattle.chpw_service.specs.Serving.{is_full_with};
 ghost use Rattle.chpw_service.specs.Tallies.{IsMismatch, after_print};
-ghost use Rattle.chpw_service.specs.declared.fault.ServeFault.TheVariants.{CannotPrint, Memory};
+ghost use Rattle.chpw_start.specs.declared.fault.ServeFault.TheVariants.{CannotPrint, Memory};
 
 use crate::closing::{Left, Tally, abandon_refused, left_by};
 use crate::compacting::compact;
-use crate::fault::ServeFault;
 use crate::followed::{FollowerTerms, JournalLength};
-use crate::logging::{Log, LogLines};
-use crate::notices::{Notice, is_first, take_unreported};
-use crate::observers::Logging;
 use crate::orders::{AfterClose, Orders};
 use crate::reloading::reload;
-use crate::rules::Rules;
 use crate::staff::ServiceWorker;
 use chpw_book::{Desk, DeskName, Pass, StartFault, UnnamedDesk};
 use chpw_invocation::ServeOptions;
 use chpw_journal::FileSink;
+use chpw_logging::{Log, LogLines, Logging, Notice, is_first, take_unreported};
 use chpw_pool::{Engine, EngineCrew, Seat};
 use chpw_serve::{Clock as _, WorkerWords};
+use chpw_start::{Rules, ServeFault};
 use chpw_table::{JournalSink, Table};
 use chpw_workers::{
     AfterDesk, Context, MachineClock, NotStarted, Staff, close_desk, serve_desk as run_desk,

@@ -1,6 +1,6 @@
 //! Orders of callers at the control socket.
 ghost use Rattle.std.specs.Prelude.{IfErr, IfOk};
-ghost use Rattle.chpw_service.specs.Faults.{IsOfBytes, IsUnread};
+ghost use Rattle.chpw_start.specs.Faults.{IsOfBytes, IsUnread};
 ghost use Rattle.chpw_service.specs.Orders.{BeginsCompaction, BeginsReload, IsCarriedOut, RefusesAtOnce, ReopensLog, TellsExposed};
 ghost use Rattle.chpw_service.specs.Rereading.{IsNotReadAnew, IsReadAnew, IsUnset};
 
@@ -9,17 +9,16 @@ use crate::answers::{
 };
 use crate::checked_reload::CheckedReload;
 use crate::compacting::{Compaction, begin_compaction};
-use crate::fault::ServeFault;
-use crate::files::{configuration_text, open_file, settings, unread_fault};
 use crate::histories::ServiceContext;
-use crate::ownership::Exposure;
-use crate::rules::{Rules, rules_of};
-use crate::shared_files::exposure_at;
 use chpw_config::explain;
 use chpw_control::{Command, FileName};
 use chpw_invocation::ServeOptions;
 use chpw_reload::{ReloadFault, prepare};
 use chpw_serve::Clock as _;
+use chpw_start::{
+    Exposure, Rules, ServeFault, configuration_text, exposure_at, open_file, rules_of, settings,
+    unread_fault,
+};
 use chpw_workers::{BackgroundTask, MachineClock};
 use std::alloc::Global;
 use std::fs::{File, Files};

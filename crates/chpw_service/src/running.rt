@@ -2,20 +2,21 @@
 ghost use Rattle.std.specs.Prelude.{◌≡◌, ◌⊎◌, IfErr, IfOk, IfSome, IsSome, true, IsSomeAnd, None, Ok, OnOk, OnErr, length};
 ghost use Rattle.chpw_changelog.specs.Pens.{opening_state, opening_table};
 ghost use Rattle.chpw_reload.specs.ReloadRuns.{IsServiceRun};
-ghost use Rattle.chpw_service.specs.Faults.{IsLate, told_as};
+ghost use Rattle.chpw_start.specs.Faults.{IsLate};
+ghost use Rattle.chpw_service.specs.Faults.{told_as};
 ghost use Rattle.chpw_service.specs.ServiceRuns.{RunsTo};
 ghost use Rattle.chpw_service.specs.WholeRuns.{IsServedByNewWorkers};
-ghost use Rattle.chpw_service.specs.declared.logging.LogLines.{LogLines};
+ghost use Rattle.chpw_logging.specs.declared.logging.LogLines.{LogLines};
 ghost use Rattle.rand_chacha.specs.ChaCha.{key_of};
 ghost use Rattle.chpw_table.specs.Agreement.{Held};
 
-use crate::fault::{LateFault, ServeFault};
 use crate::followed::{ControlTerms, SocketFollower};
 use crate::histories::{Opened, ServiceContext, serve_histories};
-use crate::rules::Rules;
+use crate::late_fault::LateFault;
 use crate::staff::{ServiceWorker, make_staff};
 use chpw_book::DeskName;
 use chpw_pool::{AcceptLimit, Follower, Pool, PoolFault, PoolOptions, StatusReporter};
+use chpw_start::{Rules, ServeFault};
 use chpw_table::Table;
 use std::fs::{File, Files};
 use std::net::{Net, TcpListener, TcpStream};

@@ -1,7 +1,6 @@
 //! The service manager that started the service, which may wait until it listens (sd_notify(3)).
 
-use crate::logging::Log;
-use crate::notices::Notice;
+use chpw_logging::{Log, Notice};
 use chpw_notify::notify;
 use std::env::{self, VarError};
 use std::io::{self, ErrorKind};

@@ -2,36 +2,32 @@
 ghost use Rattle.std.specs.Prelude.{◌≡◌, ◌≤◌, IfOk, IfErr, IfSome, IsSome, None, Ok, OnOk, Option, false, true, length};
 ghost use Rattle.chpw_book.specs.Starting.{IsNamed, table_of, workers_of};
 ghost use Rattle.chpw_pool.specs.Engines.{workers_at};
-ghost use Rattle.chpw_service.specs.Faults.{IsLate, IsOfService};
+ghost use Rattle.chpw_start.specs.Faults.{IsLate};
+ghost use Rattle.chpw_service.specs.Faults.{IsOfService};
 ghost use Rattle.chpw_changelog.specs.Pens.{opening_state};
-ghost use Rattle.chpw_service.specs.Raised.{IsRaisedWhereAsked};
+ghost use Rattle.chpw_start.specs.Raised.{IsRaisedWhereAsked};
 ghost use Rattle.chpw_service.specs.Serving.{IsAskedFor, limit_asked};
-ghost use Rattle.chpw_service.specs.declared.raising.RaiseReport.{RaiseReport};
+ghost use Rattle.chpw_start.specs.declared.raising.RaiseReport.{RaiseReport};
 ghost use Rattle.chpw_service.specs.WholeRuns.{IsServedFrom, IsWholeRun};
-ghost use Rattle.chpw_service.specs.declared.fault.ServeFault.TheVariants.{CannotListen};
-ghost use Rattle.chpw_service.specs.declared.logging.LogLines.{LogLines};
+ghost use Rattle.chpw_start.specs.declared.fault.ServeFault.TheVariants.{CannotListen};
+ghost use Rattle.chpw_logging.specs.declared.logging.LogLines.{LogLines};
 ghost use Rattle.rand_chacha.specs.ChaCha.{key_of};
 
 use crate::control_socket::{control_socket, take_away};
-use crate::facts::time_of;
-use crate::fault::ServeFault;
-use crate::files::{Configuration, configuration_of, read_seed};
 use crate::followed::{ControlTerms, FollowerTerms, JournalLength, journal_length};
 use crate::histories::{Opened, Opening, ServiceContext, first_opening, start_desk};
-use crate::logging::{Log, log_of};
-use crate::notices::Notice;
-use crate::ownership::{is_shared, own_ids, standing_at};
-use crate::raising::raise_where_asked;
-use crate::rules::{Rules, rules_of};
 use crate::running::{serve_fault_of, serve_from};
 use crate::service_manager::{notify_ready, notify_stopping};
-use crate::shared_files::refuse_exposed;
-use crate::starting::open_table;
 use chpw_book::{Desk, DeskName, Pass};
 use chpw_invocation::{ConnectionLimit, ServeOptions};
 use chpw_journal::{FileSink, Journal};
+use chpw_logging::{Log, Notice, log_of, time_of};
 use chpw_pool::{AcceptLimit, DatagramSocket, Engine, PoolOptions};
 use chpw_serve::{Clock as _, Messages as _};
+use chpw_start::{
+    Configuration, Rules, ServeFault, configuration_of, is_shared, open_table, own_ids,
+    raise_where_asked, read_seed, refuse_exposed, rules_of, standing_at,
+};
 use chpw_workers::MachineClock;
 use std::alloc::Global;
 use std::fs::{File, Files};

@@ -4,8 +4,7 @@ ghost use Rattle.rand_chacha.specs.ChaCha.{key_of};
 ghost use Rattle.chpw_service.specs.Staff.{AreStaff};
 
 use crate::histories::ServiceContext;
-use crate::logging::LogLines;
-use crate::observers::Logging;
+use chpw_logging::{LogLines, Logging};
 use chpw_pool::Seat;
 use chpw_serve::WorkerWords;
 use chpw_workers::{MachineClock, Worker};

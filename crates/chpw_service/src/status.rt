@@ -5,8 +5,8 @@ ghost use Rattle.chpw_control.specs.Statuses.{AreTold, IsTold, status_lines};
 ghost use Rattle.chpw_service.specs.Status.{IsStatusOf, follower_state, journal_state};
 
 use crate::answers::answer_or_empty;
-use crate::facts::Facts;
 use chpw_control::{FollowerState, JournalState, Status, Time, status_answer};
+use chpw_logging::Facts;
 use chpw_pool::ConnectionCounts;
 use chpw_table::Moment;
 use std::alloc::Global;

@@ -4,7 +4,8 @@ use chpw_invocation::{
     USUAL_FOLLOWER_WAIT, USUAL_IDLE,
 };
 use chpw_program::{Ending, ask};
-use chpw_service::{ServeFault, serve};
+use chpw_service::serve;
+use chpw_start::ServeFault;
 use std::fs::{File, Files};
 use std::io::{Read, Write};
 use std::net::{Net, TcpListener, TcpStream};

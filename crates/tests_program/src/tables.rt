@@ -1,7 +1,7 @@
 //! The table that is held, printed in each form, and why none is printed.
 use crate::endings::Closed;
 use chpw_invocation::{TableForm, TableOptions};
-use chpw_service::{ServeFault, write_table};
+use chpw_start::{ServeFault, write_table};
 use std::fs::{self, File, Files};
 use std::process::Abort;
 

@@ -9,7 +9,7 @@ use Rattle.chpw_book.specs.Passes.{new_pass}
 use Rattle.chpw_book.specs.Starting.{table_of, workers_of}
 use Rattle.chpw_service.specs.ServiceRuns.{new_passes}
 use Rattle.chpw_service.specs.WholeRuns.{IsServedByNewWorkers}
-use Rattle.chpw_service.specs.declared.logging.LogLines.{LogLines}
+use Rattle.chpw_logging.specs.declared.logging.LogLines.{LogLines}
 use Rattle.chpw_service.proofs.WholeRunLemmas.{served_from}
 use Rattle.chpw_service.proofs.serving.serve_opened.Goals as goal
 

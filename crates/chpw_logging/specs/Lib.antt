@@ -1,0 +1,3 @@
+pub mod Facts
+pub mod Notices
+pub mod Noting

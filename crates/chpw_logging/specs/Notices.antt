@@ -1,0 +1,20 @@
+-- Notices on standard error of a service that goes on.
+use Rattle.std.specs.Prelude.{ℕ, List, ◌++◌, codes}
+use Rattle.std.specs.Fmt.{decimal}
+use Rattle.chpw_logging.specs.declared.notices.Notice.{Notice}
+use Rattle.chpw_logging.specs.declared.notices.Notice.TheVariants.{LogLost, JournalFailed, OutputLost, Expired, Unconfirmed}
+use Rattle.chpw_logging.specs.declared.notices.Notice.TheVariants.{Shared, ManagerNotTold, Lacked, TailCut}
+
+abbrev pub notice_line : Notice → List ℕ
+notice_line (LogLost log) = log.now ++ codes ": a line of the log was lost; further losses are not reported"
+notice_line (JournalFailed journal) =
+    journal.now ++ codes ": journal failed: no change is accepted until a restart"
+notice_line OutputLost = codes "standard output: a line was lost; further losses are not reported"
+notice_line (Expired count) = codes "messages dropped after waiting 5 seconds for a worker: " ++ decimal count
+notice_line (Unconfirmed socket) =
+    socket.now ++ codes ": a change was answered before the follower confirmed it; more are not reported until it confirms one"
+notice_line (Shared file) = file.now ++ codes ": other users may read or write it"
+notice_line ManagerNotTold = codes "NOTIFY_SOCKET: the service manager could not be told that the service is ready"
+notice_line (Lacked count) = codes "principals missing from the configuration: "
+    ++ (decimal count ++ codes "; the service cannot start once one of them changes its password")
+notice_line (TailCut journal kept) = journal.now ++ (codes ": a torn tail was cut off after " ++ (decimal kept ++ codes " bytes"))

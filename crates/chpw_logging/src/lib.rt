@@ -1,0 +1,13 @@
+//! The log of a service: a line for the result of each message, the events and the counters of the service, and its notices on
+//! standard error.
+#![tactic(auto)]
+
+mod facts;
+mod logging;
+mod notices;
+mod observers;
+
+pub use facts::{Facts, time_of};
+pub use logging::{Log, LogLines, log_of};
+pub use notices::{Notice, is_first, take_unreported};
+pub use observers::{Lines, Logging};

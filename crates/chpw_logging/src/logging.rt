@@ -1,0 +1,350 @@
+//! The log of a service: a line for the result of each message.
+ghost use Rattle.std.specs.Prelude.{◌≡◌, ◌≢◌, ◌<◌, IfErr, IfSome};
+ghost use Rattle.std.specs.IoError.{error_kind};
+ghost use Rattle.chpw_table.specs.Times.{IsMoment};
+ghost use Rattle.chpw_log.specs.Events.{IsQuietTold};
+ghost use Rattle.chpw_log.specs.Kinds.{AreFew, IsFew};
+ghost use Rattle.chpw_start.specs.Faults.{IsOfClash, IsOfLog, IsUnlogged};
+ghost use Rattle.chpw_start.specs.declared.fault.ServeFault.TheVariants.{Memory};
+
+use crate::facts::Facts;
+use crate::notices::{Appended, Losses, Notice, is_first};
+use crate::observers::Lines;
+use chpw_invocation::ServeOptions;
+use chpw_log::{
+    Held, HeldCounts, HeldKind, Line, LineLimits, ServiceEvent, micros_of, write_event, write_held,
+    write_line, write_unconfirmed,
+};
+use chpw_start::{LineOutput, RaiseReport, ServeFault, is_standard_error, keep_apart};
+use chpw_table::{Moment, Table};
+use std::alloc::{AllocError, Global};
+use std::fs::{File, Files};
+use std::io::{self, ErrorKind};
+use std::net::Net;
+use std::sync::{Mutex, Wait};
+
+/// The reports of a running service: in its log, if there is one, a line for each message, but of those that anybody can
+/// send without end for ten a second of a kind, by the worker that answers it and before it is answered. The desk's lock
+/// is free then.
+///
+/// A line that can't be written, or not within half a second, is lost, and the service goes on: the part that is
+/// written, or an empty line, shows where. The first lost line is also reported on standard error, and so is the first
+/// change that the journal did not take.
+#[derive(Drop)]
+pub struct Log<'l, R> {
+    rt: &'l R,
+    alloc: Global,
+    journal: &'l str,
+    /// Whether it was reported that the journal failed.
+    failed: Mutex<bool>,
+    facts: Mutex<Facts>,
+    book: Option<Book<'l>>,
+}
+
+// The log at a path.
+#[derive(Drop)]
+struct Book<'l> {
+    path: &'l str,
+    end: Mutex<End>,
+}
+
+// Where the next line is appended.
+#[derive(Drop)]
+struct End {
+    sheet: LineOutput,
+    limits: LineLimits,
+    losses: Losses,
+}
+
+/// The log of a service with these options. A log or a journal that is another file of the start is refused before
+/// anything is opened for writing; then a log that can't be made or appended to.
+pub fn log_of<'l, 'a: 'l, R: Files<File = File> + Net>(
+    rt: &'l R,
+    alloc: Global,
+    options: &ServeOptions<'a>,
+) -> Result<Log<'l, R>, ServeFault<'a>>
+    ensures fault { IfErr result (IsOfClash options.now) }
+{
+    keep_apart(rt, options)?;
+    let book = book_at(rt, alloc, options.log)?;
+    // A log that was just made may be the journal by another name.
+    keep_apart(rt, options)?;
+    Ok(Log {
+        rt,
+        alloc,
+        journal: options.journal,
+        failed: Mutex::new(false),
+        facts: Mutex::new(Facts::default()),
+        book,
+    })
+}
+
+fn book_at<'l, 'a: 'l, R: Files<File = File> + Net>(
+    rt: &R,
+    alloc: Global,
+    path: Option<&'a str>,
+) -> Result<Option<Book<'l>>, ServeFault<'a>>
+    ensures fault { IfErr result (IsOfLog path.entry) }
+{
+    match path {
+        None => Ok(None),
+        Some(path) => match LineOutput::at(rt, alloc, path) {
+            Ok(sheet) => Ok(Some(Book {
+                path,
+                end: Mutex::new(End {
+                    sheet,
+                    limits: LineLimits::new(),
+                    losses: Losses::default(),
+                }),
+            })),
+            Err(error) => Err(unlogged_fault(path, error)),
+        },
+    }
+}
+
+fn unlogged_fault(path: &str, error: io::Error) -> ServeFault<'_>
+    ensures fault { IsUnlogged path.now result }
+    ensures memory { error_kind error ≡ ErrorKind.OutOfMemory → result ≡ Memory }
+    ensures other { error_kind error ≢ ErrorKind.OutOfMemory → result ≢ Memory }
+{
+    if error.kind() == ErrorKind::OutOfMemory {
+        ServeFault::Memory
+    } else {
+        ServeFault::CannotWrite(path)
+    }
+}
+
+impl<R: Wait + Eprint> Log<'_, R> {
+    /// Appends the line of a start with this table.
+    pub fn tell_start(&self, now: Moment, table: &Table)
+        requires moment { IsMoment now }
+        requires micros { now.micros < 1000000 }
+    {
+        let event = self.facts.lock(self.rt).start(now, table);
+        self.put_event(now, &event);
+    }
+
+    /// A raise was decided: an entry of the history, and a line if the count was raised.
+    pub fn tell_raise(&self, now: Moment, told: RaiseReport)
+        requires moment { IsMoment now }
+        requires micros { now.micros < 1000000 }
+    {
+        let raised = self.facts.lock(self.rt).raise(told);
+        if let Some(event) = raised {
+            self.put_event(now, &event);
+        }
+        if matches!(told, RaiseReport::Broken) {
+            self.tell_failed(now);
+        }
+    }
+
+    /// Appends the summaries that are still due, and the line of the end. They are the last ones.
+    pub fn end(&self, now: Moment)
+        requires moment { IsMoment now }
+        requires micros { now.micros < 1000000 }
+    {
+        if let Some(book) = &self.book {
+            let held = book.end.lock(self.rt).limits.rest();
+            self.put_counts(book, now, held);
+        }
+        self.put_event(now, &self.facts().end());
+    }
+
+    /// The counters, as they are now.
+    pub fn facts(&self) -> Facts {
+        *self.facts.lock(self.rt)
+    }
+
+    /// A further history opens with this table, after a reload.
+    pub fn tell_reload(&self, now: Moment, table: &Table)
+        requires moment { IsMoment now }
+        requires micros { now.micros < 1000000 }
+    {
+        let event = self.facts.lock(self.rt).reload(table);
+        self.put_event(now, &event);
+    }
+
+    /// A further history opens with the table that the last one left: the line has the counts of the last one.
+    pub fn tell_rollover(&self, now: Moment, table: &Table)
+        requires moment { IsMoment now }
+        requires micros { now.micros < 1000000 }
+    {
+        let event = self.facts.lock(self.rt).roll_over(table);
+        self.put_event(now, &event);
+    }
+
+    /// Whether it was reported that the journal failed.
+    pub fn has_failed(&self) -> bool {
+        *self.failed.lock(self.rt)
+    }
+
+    /// Appends the line of an event of the service.
+    pub(crate) fn put_event(&self, now: Moment, event: &ServiceEvent)
+        requires moment { IsMoment now }
+        requires micros { now.micros < 1000000 }
+        requires quiet { IsQuietTold event.now }
+    {
+        if let Some(book) = &self.book {
+            self.put_text(book, write_event(self.alloc, now, event));
+        }
+    }
+
+    // Appends the line of a message whose kind has no limit.
+    fn put(&self, line: &Line<'_>) {
+        if let Some(book) = &self.book {
+            let held = book.end.lock(self.rt).limits.due(micros_of(line.moment));
+            self.put_counts(book, line.moment, held);
+            self.put_line(book, line);
+        }
+    }
+
+    // Appends the line of a message of this kind, if it has one of its own.
+    fn put_limited(&self, kind: HeldKind, line: &Line<'_>) {
+        if let Some(book) = &self.book {
+            let now = micros_of(line.moment);
+            let leave = book.end.lock(self.rt).limits.ask(kind, now, line.peer);
+            self.put_counts(book, line.moment, leave.told);
+            if leave.line {
+                self.put_line(book, line);
+            }
+        }
+    }
+
+    /// Appends the line of a change that was answered, to this peer, before the follower had confirmed the journal's first
+    /// `mark` bytes, which include it.
+    pub fn put_unconfirmed(&self, now: Moment, peer: [u8; 4], mark: u64)
+        requires moment { IsMoment now }
+        requires micros { now.micros < 1000000 }
+    {
+        if let Some(book) = &self.book {
+            self.put_text(book, write_unconfirmed(self.alloc, now, peer, mark));
+        }
+    }
+
+    // Appends the summaries of how many were held back, those that are due.
+    fn put_counts(&self, book: &Book<'_>, now: Moment, held: HeldCounts)
+        requires moment { IsMoment now }
+        requires micros { now.micros < 1000000 }
+        requires few { AreFew held }
+    {
+        self.put_held(book, now, HeldKind::Unopened, held.unopened);
+        self.put_held(book, now, HeldKind::Skewed, held.skewed);
+        self.put_held(book, now, HeldKind::Replayed, held.replayed);
+    }
+
+    fn put_held(&self, book: &Book<'_>, now: Moment, kind: HeldKind, held: Option<Held>)
+        requires moment { IsMoment now }
+        requires micros { now.micros < 1000000 }
+        requires few { IfSome held IsFew }
+    {
+        if let Some(held) = held {
+            self.put_text(book, write_held(self.alloc, now, kind, &held));
+        }
+    }
+
+    fn put_line(&self, book: &Book<'_>, line: &Line<'_>) {
+        self.put_text(book, write_line(self.alloc, line));
+    }
+
+    // Appends the text of a line. If there is none, because memory was refused, the line is lost.
+    fn put_text(&self, book: &Book<'_>, text: Result<Vec<u8>, AllocError>) {
+        let Appended { is_lost, is_due } = book.append(self.rt, text);
+        if is_lost {
+            self.facts.lock(self.rt).lose();
+        }
+        if is_due {
+            self.tell(Notice::LogLost(book.path));
+        }
+    }
+
+    /// Reports that the journal failed, the first time.
+    pub(crate) fn tell_failed(&self, now: Moment)
+        requires moment { IsMoment now }
+        requires micros { now.micros < 1000000 }
+    {
+        let first = is_first(&mut *self.failed.lock(self.rt));
+        if first {
+            self.put_event(now, &ServiceEvent::JournalFailed);
+            self.tell(Notice::JournalFailed(self.journal));
+        }
+    }
+
+    /// Writes a line on standard error. If the log goes there too, it waits for it no longer than a line of the log
+    /// does.
+    pub fn tell(&self, notice: Notice<'_>) {
+        match &self.book {
+            Some(book) if is_standard_error(book.path) => {
+                if let Ok(text) = format!(in self.alloc; "{notice}\n") {
+                    let _ = book
+                        .end
+                        .lock(self.rt)
+                        .sheet
+                        .append(self.rt, text.as_bytes());
+                }
+            }
+            _ => {
+                let _ = eprintln!(self.rt; "{notice}");
+            }
+        }
+    }
+}
+
+impl<R: Files<File = File> + Net + Wait + Eprint> Log<'_, R> {
+    /// Reopens the log's file, and goes on there with a line that says so. If it can't be opened the log goes on as
+    /// before. A service without a log has nothing to reopen.
+    pub fn reopen<'a>(&self, options: &ServeOptions<'a>, now: Moment) -> Result<(), ServeFault<'a>>
+        requires moment { IsMoment now }
+        requires micros { now.micros < 1000000 }
+        ensures fault { IfErr result (IsOfClash options.now) }
+    {
+        let (Some(book), Some(path)) = (&self.book, options.log) else {
+            return Ok(());
+        };
+        keep_apart(self.rt, options)?;
+        match LineOutput::at(self.rt, self.alloc, path) {
+            Ok(sheet) => book.end.lock(self.rt).sheet = sheet,
+            Err(error) => return Err(unlogged_fault(path, error)),
+        }
+        self.put_event(now, &ServiceEvent::LogReopened);
+        Ok(())
+    }
+}
+
+impl Book<'_> {
+    // Appends this line.
+    fn append<R: Wait + Eprint>(&self, rt: &R, line: Result<Vec<u8>, AllocError>) -> Appended {
+        let mut end = self.end.lock(rt);
+        let whole = match line {
+            Ok(line) => end.sheet.append(rt, line.as_slice()),
+            Err(_) => false,
+        };
+        let can_tell = end.sheet.can_tell();
+        end.losses.note(whole, can_tell)
+    }
+}
+
+/// The lines of a log, as a worker's observer writes them. They go to a file or a terminal that the others share, so no
+/// clause says what they hold.
+#[derive(Drop)]
+pub struct LogLines<'l, R> {
+    /// The log, which all workers share.
+    pub log: &'l Log<'l, R>,
+}
+
+impl<R: Wait + Eprint> Lines for LogLines<'_, R> {
+    ghost takes = { λ a n b. Unit {0} };
+
+    fn put(&mut self, line: &Line<'_>) {
+        self.log.facts.lock(self.log.rt).count_line(line);
+        self.log.put(line);
+    }
+
+    fn put_limited(&mut self, kind: HeldKind, line: &Line<'_>) {
+        self.log.facts.lock(self.log.rt).count_line(line);
+        self.log.put_limited(kind, line);
+    }
+
+    fn tell_failed(&mut self, now: Moment) {
+        self.log.tell_failed(now);
+    }
+}

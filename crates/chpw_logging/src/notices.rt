@@ -1,0 +1,138 @@
+//! Notices on standard error of a service that goes on, each once.
+ghost use Rattle.std.specs.Prelude.{◌≡◌, ◌-◌, ◌&&◌, ◌||◌, max, not, true};
+
+use std::fmt;
+
+/// What went wrong, displayed as its line.
+#[derive(Clone, Copy, Drop)]
+pub enum Notice<'a> {
+    /// A line of the log at this path is lost.
+    LogLost(&'a str),
+    /// The journal at this path failed.
+    JournalFailed(&'a str),
+    /// A line on standard output is lost.
+    OutputLost,
+    /// This many more messages had waited too long for their worker.
+    Expired(u32),
+    /// The follower at this socket hasn't confirmed a change that was answered.
+    Unconfirmed(&'a str),
+    /// Others than its owner may read or write this file.
+    Shared(&'a str),
+    /// The service manager couldn't be told that the service listens.
+    ManagerNotTold,
+    /// The configuration lacks this many principals that the table has.
+    Lacked(u64),
+    /// Of the journal at this path this many bytes are kept, and a torn tail after them was cut off.
+    TailCut(&'a str, u64),
+}
+
+impl fmt::Display for Notice<'_> {
+    ghost use Rattle.std.specs.Prelude.{Some};
+    ghost use Rattle.chpw_logging.specs.Notices.{notice_line};
+
+    ghost output = { λ notice. Some (notice_line notice) };
+
+    fn fmt<W: fmt::Write>(&self, f: &mut fmt::Formatter<W>) -> fmt::Result {
+        match self {
+            Notice::LogLost(log) => write!(
+                f,
+                "{log}: a line of the log was lost; further losses are not reported"
+            ),
+            Notice::JournalFailed(journal) => {
+                write!(
+                    f,
+                    "{journal}: journal failed: no change is accepted until a restart"
+                )
+            }
+            Notice::OutputLost => {
+                f.write_str("standard output: a line was lost; further losses are not reported")
+            }
+            Notice::Expired(count) => {
+                write!(
+                    f,
+                    "messages dropped after waiting 5 seconds for a worker: {count}"
+                )
+            }
+            Notice::Unconfirmed(socket) => {
+                write!(
+                    f,
+                    "{socket}: a change was answered before the follower confirmed it; more are not reported until it confirms one"
+                )
+            }
+            Notice::Shared(file) => write!(f, "{file}: other users may read or write it"),
+            Notice::ManagerNotTold => f.write_str(
+                "NOTIFY_SOCKET: the service manager could not be told that the service is ready",
+            ),
+            Notice::Lacked(count) => {
+                write!(
+                    f,
+                    "principals missing from the configuration: {count}; the service cannot start once one of them changes its password"
+                )
+            }
+            Notice::TailCut(journal, kept) => {
+                write!(f, "{journal}: a torn tail was cut off after {kept} bytes")
+            }
+        }
+    }
+}
+
+/// Whether anything was lost, and whether that was reported.
+#[derive(Clone, Copy, Default, Drop)]
+pub(crate) struct Losses {
+    pub is_any: bool,
+    pub is_told: bool,
+}
+
+/// The result of appending a line.
+#[derive(Clone, Copy, Drop)]
+pub(crate) struct Appended {
+    pub is_lost: bool,
+    /// Whether a first loss is to be reported.
+    pub is_due: bool,
+}
+
+impl Losses {
+    /// A line was appended, whole or not. A first loss is to be reported now, if it can be.
+    pub(crate) fn note(&mut self, whole: bool, can_tell: bool) -> Appended
+        ensures lost { result.is_lost ≡ not whole }
+        ensures due { result.is_due ≡ ((self.old.is_any || not whole) && (not self.old.is_told && can_tell)) }
+        ensures any { self.new.is_any ≡ (self.old.is_any || not whole) }
+        ensures told { self.new.is_told ≡ (self.old.is_told || result.is_due) }
+    {
+        self.is_any = self.is_any || !whole;
+        Appended {
+            is_lost: !whole,
+            is_due: self.are_due(can_tell),
+        }
+    }
+
+    /// Whether a first loss is to be reported now, if it can be. It counts as reported then.
+    pub(crate) fn are_due(&mut self, can_tell: bool) -> bool
+        ensures due { result ≡ (self.old.is_any && (not self.old.is_told && can_tell)) }
+        ensures told { self.new ≡ record self.old { is_told = self.old.is_told || result } }
+    {
+        let are_due = self.is_any && !self.is_told && can_tell;
+        self.is_told = self.is_told || are_due;
+        are_due
+    }
+}
+
+/// Notes what is reported once; whether it is to be reported.
+pub fn is_first(told: &mut bool) -> bool
+    ensures once { result ≡ not told.old }
+    ensures told { told.new ≡ true }
+{
+    let first = !*told;
+    *told = true;
+    first
+}
+
+/// How many more there are than were reported; all of them count as reported then.
+pub fn take_unreported(count: u32, reported: &mut u32) -> u32
+    ensures more { result ≡ count - reported.old }
+    ensures reported { reported.new ≡ max reported.old count }
+{
+    let more = count.saturating_sub(*reported);
+    *reported = count.max(*reported);
+    more
+}

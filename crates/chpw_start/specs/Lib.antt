@@ -1,0 +1,9 @@
+pub mod Bounded
+pub mod Faults
+pub mod FileIds
+pub mod Modes
+pub mod Opening
+pub mod Raised
+pub mod Rules
+pub mod Sheets
+pub mod Telling

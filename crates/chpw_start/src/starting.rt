@@ -1,0 +1,90 @@
+//! The table that a service starts with.
+ghost use Rattle.std.specs.Prelude.{◌≡◌, IfOk, IfErr, true};
+ghost use Rattle.chpw_rules.specs.Fitting.{config_fits};
+ghost use Rattle.chpw_table.specs.Agreement.{Agrees};
+ghost use Rattle.chpw_table.specs.Times.{IsTime};
+ghost use Rattle.chpw_start.specs.Faults.{IsOfFile, IsOfJournal, line_of, open_line};
+ghost use Rattle.chpw_start.specs.Modes.{can_be_journal};
+ghost use Rattle.chpw_start.specs.Opening.{IsOpening, opening_at};
+ghost use Rattle.chpw_start.specs.declared.fault.ServeFault.TheVariants.{Memory};
+
+use crate::fault::ServeFault;
+use crate::line_output::{Kind, kind_of};
+use chpw_journal::{FileSink, Journal, JournalFile, OpenFault, RestoreFault, quiet_after};
+use chpw_rules::Config;
+use chpw_serve::Clock;
+use chpw_table::{JournalSink, Moment, Table};
+use std::alloc::Global;
+use std::fs::{File, Files};
+
+/// The journal at a path, and the table restored from it. The table is quiet for 300 seconds from its start on if there
+/// was a journal. The start is read from the clock once no other process has the journal. A journal that isn't a
+/// regular file is refused before it is opened.
+#[tactic(auto, using(crate::proofs::FaultLemmas::unopened, crate::proofs::FaultLemmas::unrestored))]
+pub fn open_table<'a, R: Files<File = File>, C: Clock>(
+    rt: &R,
+    alloc: Global,
+    config: Config,
+    path: &'a str,
+    clock: &mut C,
+) -> Result<Journal, ServeFault<'a>>
+    requires fits { config_fits config ≡ true }
+    ensures opened { IfOk result (IsOpening C.gives config clock.old clock.new) }
+    ensures fresh { IfOk result (λ j. ⟦<FileSink<File> as JournalSink>⟧.failed j.sink ≡ 0) }
+    ensures fault { IfErr result (IsOfJournal path.now) }
+{
+    if !can_be_journal(kind_of(rt, path)) {
+        return Err(ServeFault::CannotRead(path));
+    }
+    let file = match JournalFile::lock(rt, path) {
+        Ok(file) => file,
+        Err(fault) => return Err(journal_fault(path, fault)),
+    };
+    let start = clock.now();
+    let table = opening_table(alloc, config, start, file.found)?;
+    match file.restore(alloc, table) {
+        Ok(journal) => Ok(journal),
+        Err(fault) => Err(journal_fault(path, fault)),
+    }
+}
+
+// Whether a journal exists, or can be made. A pipe would block its opener.
+fn can_be_journal(kind: Kind) -> bool
+    ensures value { result ≡ can_be_journal kind }
+{
+    matches!(kind, Kind::Missing | Kind::File)
+}
+
+// The table of the configuration, quiet from this start on.
+fn opening_table<'a>(
+    alloc: Global,
+    config: Config,
+    start: Moment,
+    found: bool,
+) -> Result<Table, ServeFault<'a>>
+    requires fits { config_fits config ≡ true }
+    requires start { IsTime start.seconds }
+    ensures opening { IfOk result (λ table. Agrees table.state
+        (opening_at config start.seconds found)) }
+    ensures counts { IfOk result (λ t. (t.events ≡ 0) × (t.seen ≡ 0)
+        × (t.max_entries ≡ config.max_entries)) }
+    ensures fault { IfErr result (λ fault. fault ≡ Memory) }
+{
+    match Table::start(alloc, config, quiet_after(start.seconds, found)) {
+        Ok(table) => Ok(table),
+        Err(_) => Err(ServeFault::Memory),
+    }
+}
+
+fn journal_fault(path: &str, fault: OpenFault) -> ServeFault<'_>
+    requires fault { IsOfFile fault }
+    ensures fault { IsOfJournal path.now result }
+    ensures line { line_of result ≡ open_line path.now fault }
+{
+    match fault {
+        OpenFault::CannotRead => ServeFault::CannotRead(path),
+        OpenFault::CannotWrite => ServeFault::CannotWrite(path),
+        OpenFault::Restore(RestoreFault::Memory) => ServeFault::Memory,
+        OpenFault::Restore(fault) => ServeFault::Journal(fault),
+    }
+}
