@@ -1,0 +1,6 @@
+pub mod OldPasswords
+pub mod Restarts
+pub mod Messages
+pub mod Seconds
+pub mod RowNumbers
+pub mod RefusalNumbers
