@@ -2,6 +2,7 @@ pub mod ControlLemmas
 pub mod DatagramLemmas
 pub mod NotedLemmas
 pub mod PlaceLemmas
+pub mod PostLemmas
 pub mod ReplyLemmas
 pub mod RoundLemmas
 pub mod RunLemmas

@@ -4,7 +4,7 @@ use Rattle.slab.specs.Slab.{Slab}
 use Rattle.chpw_connections.specs.declared.limits.ConnectionLimits.{ConnectionLimits}
 use Rattle.chpw_connections.specs.declared.connection.Connection.{Connection}
 use Rattle.chpw_datagrams.specs.declared.sender.Sender.{Sender}
-use Rattle.chpw_pool.specs.Deciding.{IsDecided, IsPlaced, IsQueued, Queues}
+use Rattle.chpw_pool.specs.Deciding.{IsDecided, IsPlaced, IsQueued, QueuesThis}
 use Rattle.chpw_pool.specs.Datagrams.{TakesDatagram}
 use Rattle.chpw_pool.specs.declared.sockets.Transport.{Transport}
 use Rattle.chpw_pool.specs.declared.state.Progress.{Progress}
@@ -52,12 +52,11 @@ is_queued sender message copy before after b now number old new slot queued work
   others = others;
 }
 
-pub queues : {S : Type 0} → (d : Datagrams) (sender : Sender) (message : List ℕ) (before after : List (Option (Transport S)))
+pub queues : {S D : Type 0} → (d : Datagrams D) (sender : Sender) (message : List ℕ) (before after : List (Option (Transport S)))
     (b : ConnectionLimits) (now number : ℕ) (old new : Slab Connection) (worker workers : ℕ) → IsDecided d before sender message now
     → IsQueued sender message before after b now number old new worker workers
-    → Queues d before after b now number old new worker workers
-queues d sender message before after b now number old new worker workers decided queued =
-    record { sender = sender; message = message; decided = decided; queued = queued }
+    → QueuesThis d sender message before after b now number old new worker workers
+queues d sender message before after b now number old new worker workers decided queued = record { decided = decided; queued = queued }
 
 -- what stands at the front, of a list with more behind it
 front : {X : Type 0} → (xs zs : List X) → xs ≡ take (length xs) (xs ++ zs)
@@ -66,11 +65,3 @@ front (x ∷ xs) zs = ap (λ (l : List _). x ∷ l) (front xs zs)
 
 pub written_back : {X : Type 0} → (n : ℕ) (xs zs : List X) → length xs ≡ n → xs ≡ take n (xs ++ zs)
 written_back n xs zs same = subst (λ (n : ℕ). xs ≡ take n (xs ++ zs)) same (front xs zs)
-
--- the same places, by other names
-pub queues_there : {S : Type 0} → (d : Datagrams) (before there after behind : List (Option (Transport S))) (b : ConnectionLimits) (now number : ℕ)
-    (old new : Slab Connection) (worker workers : ℕ) → before ≡ there → after ≡ behind
-    → Queues d before after b now number old new worker workers → Queues d there behind b now number old new worker workers
-queues_there {S = S} d before there after behind b now number old new worker workers here same queued =
-    subst (λ (places : List (Option (Transport S))). Queues d there places b now number old new worker workers) same
-    (subst (λ (places : List (Option (Transport S))). Queues d places after b now number old new worker workers) here queued)

@@ -30,12 +30,12 @@ abbrev pub is_under_way : {S : Type 0} → List (Option (Transport S)) → Sende
 is_under_way places sender message = list_any (is_at sender message) places
 
 -- it is answerable, and has no kept reply
-pub record IsUnanswered (d : Datagrams) (sender : Sender) (message : List ℕ) (now : ℕ) : Type 0 where
+pub record IsUnanswered {D : Type 0} (d : Datagrams D) (sender : Sender) (message : List ℕ) (now : ℕ) : Type 0 where
   pub answered : IsAnswered d.port d.realm.items sender message
   pub unkept : reply_for d.answered sender message now ≡ None
 
 -- it is decided; no other one is
-pub record IsDecided {S : Type 0} (d : Datagrams) (places : List (Option (Transport S))) (sender : Sender) (message : List ℕ) (now : ℕ) : Type 0 where
+pub record IsDecided {S D : Type 0} (d : Datagrams D) (places : List (Option (Transport S))) (sender : Sender) (message : List ℕ) (now : ℕ) : Type 0 where
   pub unanswered : IsUnanswered d sender message now
   pub apart : is_under_way places sender message ≡ false
   pub room : may_place_datagram places ≡ true
@@ -65,13 +65,18 @@ pub record IsQueued {S : Type 0} (sender : Sender) (message : List ℕ) (before 
   pub placed : slot < length before → IsPlaced after slot sender message
   pub others : (other : ℕ) → (other ≡ slot → ⊥) → slice_get after other ≡ slice_get before other
 
+-- this datagram of this sender is to be decided, and waits for this worker
+pub record QueuesThis {S D : Type 0} (d : Datagrams D) (sender : Sender) (message : List ℕ) (before after : List (Option (Transport S)))
+    (b : ConnectionLimits) (now number : ℕ) (old new : Slab Connection) (worker workers : ℕ) : Type 0 where
+  pub decided : IsDecided d before sender message now
+  pub queued : IsQueued sender message before after b now number old new worker workers
+
 -- a datagram that is to be decided waits for this worker
-pub record Queues {S : Type 0} (d : Datagrams) (before after : List (Option (Transport S)))
+pub record Queues {S D : Type 0} (d : Datagrams D) (before after : List (Option (Transport S)))
     (b : ConnectionLimits) (now number : ℕ) (old new : Slab Connection) (worker workers : ℕ) : Type 0 where
   pub sender : Sender
   pub message : List ℕ
-  pub decided : IsDecided d before sender message now
-  pub queued : IsQueued sender message before after b now number old new worker workers
+  pub this : QueuesThis d sender message before after b now number old new worker workers
 
 -- this reply is kept for the case that the same datagram comes again, or nothing is, without memory for it
 abbrev pub KeepsReply : List Answer → List Answer → Sender → List ℕ → List ℕ → ℕ → Type 0

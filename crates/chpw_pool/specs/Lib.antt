@@ -10,8 +10,10 @@ pub mod Newcomers
 pub mod Places
 pub mod PoolWorkers
 pub mod Pools
+pub mod Replying
 pub mod Reports
 pub mod Rounds
+pub mod Sending
 pub mod Shares
 pub mod Steps
 pub mod Tokens

@@ -10,7 +10,7 @@ use Rattle.chpw_pool.specs.declared.sockets.Transport.{Transport}
 use Rattle.chpw_pool.specs.declared.sockets.Transport.TheVariants as place
 
 -- how many places there are, how long the buffers are, and whether there is a socket for datagrams
-abbrev pub KeepsSizes : {S : Type 0} → Sockets S → Sockets S → Type 0
+abbrev pub KeepsSizes : {S D : Type 0} → Sockets S D → Sockets S D → Type 0
 KeepsSizes old new = (length new.by_slot.items ≡ length old.by_slot.items) × (length new.buffer.items ≡ length old.buffer.items)
     × (length new.datagram.items ≡ length old.datagram.items) × (is_some new.datagrams ≡ is_some old.datagrams)
 

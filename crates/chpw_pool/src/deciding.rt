@@ -3,11 +3,13 @@ ghost use Rattle.std.specs.Prelude.{◌≡◌, ◌⊎◌, ℕ, ◌<◌, ◌≤�
 ghost use Rattle.chpw_connections.specs.Held.{slots_of, bounds_of, accepted_by};
 ghost use Rattle.chpw_connections.specs.Queues.{workers_of};
 ghost use Rattle.chpw_pool.specs.Datagrams.{BeginsAndDrops, DropsDatagram};
-ghost use Rattle.chpw_pool.specs.Deciding.{IsDecided, Queues, IsQueued, IsPlaced, is_at, is_under_way};
+ghost use Rattle.chpw_pool.specs.Deciding.{IsDecided, QueuesThis, IsQueued, IsPlaced, is_at, is_under_way};
+ghost use Rattle.chpw_pool.specs.Replying.{Resends};
 ghost use Rattle.chpw_pool.specs.Shares.{datagrams_in, streams_in, most_datagrams};
 ghost use Rattle.chpw_pool.specs.Shares.{may_place_datagram as may_datagram};
 ghost use Rattle.chpw_pool.specs.declared.state.Progress.TheVariants as progress;
 
+use crate::channel::DatagramChannel;
 use crate::shares::may_place_datagram;
 use crate::sockets::Transport;
 use crate::state::{Progress, State};
@@ -17,18 +19,21 @@ use std::alloc::Global;
 
 /// Handles a datagram that came: the worker for which it waits, if it does.
 #[tactic(auto, using(crate::proofs::PlaceLemmas::queues))]
-pub(crate) fn decide<S: Drop>(
+pub(crate) fn decide<S: Drop, D: DatagramChannel>(
     by_slot: &mut [Option<Transport<S>>],
-    datagrams: &Datagrams,
+    datagrams: &mut Datagrams<D>,
     state: &mut State,
     sender: Sender,
     message: &[u8],
     now: u64,
 ) -> Progress
     ensures queued { (worker : ℕ) → result ≡ progress.Queued worker
-        → Queues datagrams.now by_slot.old by_slot.new (bounds_of state.old.connections) now (accepted_by state.old.connections)
+        → QueuesThis datagrams.old sender message.now by_slot.old by_slot.new (bounds_of state.old.connections) now (accepted_by state.old.connections)
         (slots_of state.old.connections) (slots_of state.new.connections) worker (workers_of state.old.connections) }
-    ensures ignored { ¬ (IsDecided datagrams.now by_slot.old sender message.now now) → (state.new ≡ state.old) × (by_slot.new ≡ by_slot.old) }
+    ensures again { Resends datagrams.old sender message.now now (D.sent datagrams.old.socket) (D.sent datagrams.new.socket) }
+    ensures left { D.left datagrams.new.socket ≡ D.left datagrams.old.socket }
+    ensures rest { datagrams.new ≡ record datagrams.old { socket = datagrams.new.socket } }
+    ensures ignored { ¬ (IsDecided datagrams.old by_slot.old sender message.now now) → (state.new ≡ state.old) × (by_slot.new ≡ by_slot.old) }
     ensures few { datagrams_in by_slot.old ≤ most_datagrams (length by_slot.old) → datagrams_in by_slot.new ≤ most_datagrams (length by_slot.new) }
     ensures streams { streams_in by_slot.new ≤ streams_in by_slot.old }
     ensures places { length by_slot.new ≡ length by_slot.old }

@@ -37,7 +37,7 @@ pub(crate) const STEPS: u32 = 64;
 #[derive(Drop)]
 pub(crate) struct Hub {
     pub state: State,
-    pub sockets: Sockets<mio::net::TcpStream>,
+    pub sockets: Sockets<mio::net::TcpStream, mio::net::UdpSocket>,
 }
 
 impl Hub {

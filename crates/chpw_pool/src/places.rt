@@ -6,13 +6,14 @@ use crate::sockets::Transport;
 use crate::udp::Datagrams;
 use mio::Registry;
 
-/// The sockets by their connections' slots, with streams of this kind, and what watches them.
+/// The sockets by their connections' slots, with streams of one kind and a socket for datagrams of another, and what
+/// watches them.
 #[derive(Drop)]
-pub(crate) struct Sockets<S> {
+pub(crate) struct Sockets<S, D> {
     pub registry: Registry,
     pub by_slot: Vec<Option<Transport<S>>>,
     pub buffer: Vec<u8>,
-    pub datagrams: Option<Datagrams>,
+    pub datagrams: Option<Datagrams<D>>,
     /// The bytes of a datagram.
     pub datagram: Vec<u8>,
     // Datagrams hold at most half of the places, and with a socket for them some of the places are theirs alone.

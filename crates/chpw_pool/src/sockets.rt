@@ -15,12 +15,13 @@ ghost use Rattle.chpw_pool.specs.Pools.{IsUnmade};
 ghost use Rattle.chpw_pool.specs.Places.{IsStream, KeepsSizes, Stays, StaysAt};
 ghost use Rattle.chpw_pool.specs.Places.{has_pending, is_datagram, is_datagram_at, is_shut_behind, reads_on};
 ghost use Rattle.chpw_pool.specs.Places.{told_of, told_by, told_at};
+ghost use Rattle.chpw_pool.specs.Replying.{post_at, PostsBy, PostsAt, Takes};
 ghost use Rattle.chpw_pool.specs.Shares.{datagrams_in, streams_in, most_datagrams, most_streams};
 ghost use Rattle.chpw_pool.specs.Shares.{may_place_stream as may_stream};
 ghost use Rattle.chpw_pool.specs.Steps.{IsCalled, Steps, Drains};
 ghost use Rattle.chpw_pool.specs.declared.state.Progress.TheVariants as progress;
 
-use crate::channel::Channel;
+use crate::channel::{Channel, DatagramChannel};
 use crate::deciding::decide;
 use crate::places::Sockets;
 use crate::pool::PoolFault;
@@ -30,7 +31,7 @@ use crate::tokens::WAKER;
 use crate::transfer::Transfer;
 use crate::udp::{Datagram, DatagramSocket, Datagrams, LONGEST};
 use chpw_connections::Todo;
-use mio::net::TcpStream;
+use mio::net::{TcpStream, UdpSocket};
 use mio::{Events, Interest, Poll, Registry, Token, Waker};
 use std::alloc::{AllocError, Global};
 use std::io::{self, Error, ErrorKind};
@@ -51,9 +52,9 @@ pub(crate) enum Transport<S> {
 
 impl<S: Channel> Transport<S> {
     // Does what is to be done for the connection, in one call of its socket.
-    fn step(
+    fn step<D: DatagramChannel>(
         &mut self,
-        datagrams: &mut Option<Datagrams>,
+        datagrams: &mut Option<Datagrams<D>>,
         state: &mut State,
         slot: usize,
         due: Todo,
@@ -62,6 +63,8 @@ impl<S: Channel> Transport<S> {
     ) -> Progress
         ensures steps { due ≢ todo.Close → Steps (bounds_of state.old.connections) now due
             (told_by S.remaining S.contents self.old) (told_by S.remaining S.contents self.new)
+            (slots_of state.old.connections) (slots_of state.new.connections) slot }
+        ensures posted { PostsBy self.old due now (post_at D.left D.sent datagrams.old) (post_at D.left D.sent datagrams.new)
             (slots_of state.old.connections) (slots_of state.new.connections) slot }
         ensures stays { Stays due self.old self.new }
         ensures ended { is_datagram self.old ≡ true → reads_on due ≡ true → (result ≡ progress.Some)
@@ -165,14 +168,14 @@ impl Selector {
     }
 }
 
-impl<S: Channel + Drop> Sockets<S> {
+impl<S: Channel + Drop> Sockets<S, UdpSocket> {
     /// None yet, for this many connections, and possibly one for datagrams.
     pub fn new(
         alloc: Global,
         selector: &Selector,
         connections: usize,
         datagrams: Option<DatagramSocket>,
-    ) -> Result<Sockets<S>, PoolFault>
+    ) -> Result<Sockets<S, UdpSocket>, PoolFault>
         ensures fault { IfErr result IsUnmade }
         ensures places { IfOk result (λ s. length s.by_slot.items ≡ connections) }
         ensures buffer { IfOk result (λ s. length s.buffer.items ≡ 16384) }
@@ -200,7 +203,9 @@ impl<S: Channel + Drop> Sockets<S> {
             datagram,
         })
     }
+}
 
+impl<S: Channel + Drop, D: DatagramChannel + Drop> Sockets<S, D> {
     /// Whether one more connection over TCP may have a place.
     pub fn may_put(&self) -> bool
         ensures value { result ≡ may_stream (is_some self.now.datagrams) self.now.by_slot.items }
@@ -225,6 +230,9 @@ impl<S: Channel + Drop> Sockets<S> {
             (todo_in (get (slots_of state.old.connections) slot))
             (told_at S.remaining S.contents (slice_get self.old.by_slot.items slot))
             (told_at S.remaining S.contents (slice_get self.new.by_slot.items slot))
+            (slots_of state.old.connections) (slots_of state.new.connections) slot }
+        ensures posted { PostsAt (slice_get self.old.by_slot.items slot) (todo_in (get (slots_of state.old.connections) slot)) now
+            (post_at D.left D.sent self.old.datagrams) (post_at D.left D.sent self.new.datagrams)
             (slots_of state.old.connections) (slots_of state.new.connections) slot }
         ensures others { AreElsewhere self.old.by_slot.items self.new.by_slot.items slot }
         ensures closed { todo_in (get (slots_of state.old.connections) slot) ≡ todo.Close → IsFree self.new.by_slot.items slot }
@@ -269,6 +277,7 @@ impl<S: Channel + Drop> Sockets<S> {
         ensures closed { IsFree self.new.by_slot.items slot }
         ensures others { AreElsewhere self.old.by_slot.items self.new.by_slot.items slot }
         ensures sizes { KeepsSizes self.old self.new }
+        ensures unposted { self.new.datagrams ≡ self.old.datagrams }
     {
         if slot < self.by_slot.len() {
             self.by_slot[slot] = None;
@@ -283,6 +292,9 @@ impl<S: Channel + Drop> Sockets<S> {
         ensures queued { IfSome self.old.datagrams (λ d. (worker : ℕ) → result ≡ progress.Queued worker
             → Queues d self.old.by_slot.items self.new.by_slot.items (bounds_of state.old.connections) now (accepted_by state.old.connections)
             (slots_of state.old.connections) (slots_of state.new.connections) worker (workers_of state.old.connections)) }
+        ensures taken { Takes D.left D.sent self.old.datagrams self.new.datagrams (length self.old.datagram.items)
+            self.old.by_slot.items self.new.by_slot.items (bounds_of state.old.connections) now (accepted_by state.old.connections)
+            (slots_of state.old.connections) (slots_of state.new.connections) result (workers_of state.old.connections) }
         ensures none { IfNone self.old.datagrams ((result ≡ progress.None) × (state.new ≡ state.old)) }
         ensures idle { result ≡ progress.None → state.new ≡ state.old }
         ensures bounds { bounds_of state.new.connections ≡ bounds_of state.old.connections }
@@ -310,7 +322,7 @@ impl<S: Channel + Drop> Sockets<S> {
     }
 }
 
-impl Sockets<TcpStream> {
+impl Sockets<TcpStream, UdpSocket> {
     /// Stores the socket of a connection that was just accepted, and makes it non-blocking; whether it is watched.
     pub fn put(&mut self, slot: usize, stream: net::TcpStream) -> bool
         requires room { may_stream (is_some self.old.datagrams) self.old.by_slot.items ≡ true }
@@ -318,6 +330,7 @@ impl Sockets<TcpStream> {
         ensures past { length self.old.by_slot.items ≤ slot → result ≡ false }
         ensures others { AreElsewhere self.old.by_slot.items self.new.by_slot.items slot }
         ensures sizes { KeepsSizes self.old self.new }
+        ensures unposted { self.new.datagrams ≡ self.old.datagrams }
     {
         let is_set = stream.set_nonblocking(true).is_ok();
         let _ = stream.set_nodelay(true);
@@ -374,7 +387,7 @@ fn watched(
     alloc: Global,
     socket: Option<DatagramSocket>,
     registry: &Registry,
-) -> Result<Option<Datagrams>, PoolFault>
+) -> Result<Option<Datagrams<UdpSocket>>, PoolFault>
     ensures fault { IfErr result IsUnmade }
     ensures socket { IfOk result (λ d. is_some d ≡ is_some socket) }
 {

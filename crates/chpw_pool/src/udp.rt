@@ -11,11 +11,13 @@ ghost use Rattle.chpw_pool.specs.Datagrams.{in_datagram};
 ghost use Rattle.chpw_pool.specs.Deciding.{is_same_datagram, IsUnanswered, KeepsReply};
 ghost use Rattle.chpw_pool.specs.Places.{reads_on};
 ghost use Rattle.chpw_pool.specs.Pools.{IsUnmade};
+ghost use Rattle.chpw_pool.specs.Replying.{post_of, post_at, IsReceived, Posts, PostsFor, Replies, Resends};
 ghost use Rattle.chpw_pool.specs.Steps.{IsCalled, Steps, Writes, untold};
 ghost use Rattle.chpw_pool.specs.Transfers.{is_sent, ComesOfSend};
 ghost use Rattle.chpw_pool.specs.declared.state.Progress.TheVariants as progress;
 
 use crate::addresses::peer_of;
+use crate::channel::DatagramChannel;
 use crate::one_message::reply_of_datagram;
 use crate::pool::PoolFault;
 use crate::state::{Progress, State};
@@ -51,15 +53,17 @@ impl Datagram {
 
     /// Does what is to be done for its connection: its reply is sent, in one call of the socket for datagrams, and then
     /// the connection ends, for which no more comes.
-    pub fn step(
+    pub fn step<D: DatagramChannel>(
         &mut self,
-        datagrams: &mut Option<Datagrams>,
+        datagrams: &mut Option<Datagrams<D>>,
         state: &mut State,
         slot: usize,
         due: Todo,
         now: u64,
     ) -> Progress
         ensures steps { due ≢ todo.Close → Steps (bounds_of state.old.connections) now due untold untold
+            (slots_of state.old.connections) (slots_of state.new.connections) slot }
+        ensures posted { PostsFor due now self.old (post_at D.left D.sent datagrams.old) (post_at D.left D.sent datagrams.new)
             (slots_of state.old.connections) (slots_of state.new.connections) slot }
         ensures ended { reads_on due ≡ true → (result ≡ progress.Some)
             × Happens 0 (slots_of state.old.connections) (slots_of state.new.connections) slot closed }
@@ -87,9 +91,9 @@ pub struct DatagramSocket {
 
 /// The socket for datagrams, and what it has answered.
 #[derive(Drop)]
-pub(crate) struct Datagrams {
+pub(crate) struct Datagrams<D> {
     pub alloc: Global,
-    socket: UdpSocket,
+    socket: D,
     // Its own port.
     port: u16,
     // The service's realm.
@@ -97,13 +101,13 @@ pub(crate) struct Datagrams {
     answered: Answered,
 }
 
-impl Datagrams {
+impl Datagrams<UdpSocket> {
     /// Nothing has been answered at this socket yet, which is made non-blocking and watched.
     pub fn new(
         alloc: Global,
         socket: DatagramSocket,
         registry: &Registry,
-    ) -> Result<Datagrams, PoolFault>
+    ) -> Result<Datagrams<UdpSocket>, PoolFault>
         ensures fault { IfErr result IsUnmade }
         ensures none { IfOk result (λ d. d.answered ≡ []) }
         ensures realm { IfOk result (λ d. d.realm ≡ socket.realm) }
@@ -123,22 +127,32 @@ impl Datagrams {
             }),
         }
     }
+}
 
-    /// The next datagram: its sender, and its bytes in the buffer.
-    pub fn receive<'a>(&self, buffer: &'a mut [u8]) -> io::Result<(Sender, &'a [u8])> {
-        let (count, from) = self.socket.recv_from(buffer)?;
+impl<D: DatagramChannel> Datagrams<D> {
+    /// The next datagram: its sender, who is where it came from, and its bytes in the buffer.
+    pub fn receive<'a>(&mut self, buffer: &'a mut [u8]) -> io::Result<(Sender, &'a [u8])>
+        ensures received { IfOk result (λ r. IsReceived r.0 r.1.now (length buffer.old) (D.left self.old.socket) (D.left self.new.socket)) }
+        ensures nothing { IfErr result (λ _. D.left self.new.socket ≡ D.left self.old.socket) }
+        ensures sent { D.sent self.new.socket ≡ D.sent self.old.socket }
+        ensures rest { self.new ≡ record self.old { socket = self.new.socket } }
+    {
+        let (count, from) = self.socket.receive(buffer)?;
         Ok(message_from(count, from, buffer))
     }
 
     /// Whether a datagram is to be answered and wasn't less than five seconds ago; one that was gets that reply again.
     /// An error means that there is no memory to read its AP-REQ.
     pub fn is_to_be_decided(
-        &self,
+        &mut self,
         sender: Sender,
         message: &[u8],
         now: u64,
     ) -> Result<bool, AllocError>
-        ensures { IfOk result (λ decided. IsTrue decided ↔ IsUnanswered self.now sender message.now now) }
+        ensures decided { IfOk result (λ decided. IsTrue decided ↔ IsUnanswered self.old sender message.now now) }
+        ensures again { Resends self.old sender message.now now (D.sent self.old.socket) (D.sent self.new.socket) }
+        ensures left { D.left self.new.socket ≡ D.left self.old.socket }
+        ensures rest { self.new ≡ record self.old { socket = self.new.socket } }
     {
         if !is_answerable(
             self.alloc,
@@ -152,22 +166,14 @@ impl Datagrams {
         match self.answered.find(sender, message, now) {
             None => Ok(true),
             Some(reply) => {
-                let _ = self.send(sender, message, reply);
+                let _ = send_reply(&mut self.socket, sender, message, reply);
                 Ok(false)
             }
         }
     }
 
-    // Sends the reply to a message, without its length, to the sender. One that isn't to be sent counts as sent: for who
-    // waits for it, it is as one that was lost on its way.
-    fn send(&self, sender: Sender, message: &[u8], reply: &[u8]) -> io::Result<usize> {
-        match addressed(sender, message, reply) {
-            None => Ok(0),
-            Some(Outgoing { to, bytes }) => self.socket.send_to(bytes, to),
-        }
-    }
-
-    /// Sends a connection's reply as a whole, and keeps it. If the socket would block, nothing happens.
+    /// Sends a connection's reply as a whole to the sender of its datagram, and keeps it. If the socket would block,
+    /// nothing happens.
     pub fn reply(
         &mut self,
         state: &mut State,
@@ -176,16 +182,20 @@ impl Datagrams {
         now: u64,
     ) -> Progress
         ensures written { Writes now untold untold (slots_of state.old.connections) (slots_of state.new.connections) slot }
+        ensures posted { Posts now datagram.old (post_of D.left D.sent self.old) (post_of D.left D.sent self.new)
+            (slots_of state.old.connections) (slots_of state.new.connections) slot }
         ensures kept { KeepsReply self.old.answered self.new.answered datagram.old.sender datagram.old.message.items
             (left_at (get (slots_of state.old.connections) slot)) now }
-        ensures blocked { result ≡ progress.None → (self.new ≡ self.old) × (slots_of state.new.connections ≡ slots_of state.old.connections) }
+        ensures blocked { result ≡ progress.None → (self.new ≡ record self.old { socket = self.new.socket })
+            × ((post_of D.left D.sent self.new ≡ post_of D.left D.sent self.old) × (slots_of state.new.connections ≡ slots_of state.old.connections)) }
         ensures whole { result ≡ progress.None → datagram.new ≡ datagram.old }
         ensures sender { datagram.new.sender ≡ datagram.old.sender }
         ensures queued { IsCalled (workers_of state.old.connections) (get (slots_of state.new.connections) slot) result }
         ensures bounds { bounds_of state.new.connections ≡ bounds_of state.old.connections }
     {
         let reply = state.connections.pending_output(slot);
-        let sent = Transfer::of(self.send(datagram.sender, datagram.message.as_slice(), reply));
+        let request = datagram.message.as_slice();
+        let sent = Transfer::of(send_reply(&mut self.socket, datagram.sender, request, reply));
         self.note_sent(state, slot, datagram, sent, now)
     }
 
@@ -202,6 +212,7 @@ impl Datagrams {
         ensures kept { KeepsReply self.old.answered self.new.answered datagram.old.sender datagram.old.message.items
             (left_at (get (slots_of state.old.connections) slot)) now }
         ensures unsent { is_sent sent ≡ false → (self.new ≡ self.old) × (datagram.new ≡ datagram.old) }
+        ensures rest { self.new ≡ record self.old { answered = self.new.answered } }
         ensures sender { datagram.new.sender ≡ datagram.old.sender }
         ensures bounds { bounds_of state.new.connections ≡ bounds_of state.old.connections }
     {
@@ -223,12 +234,31 @@ impl Datagrams {
     // Keeps a reply that was sent; without memory for it, it isn't kept.
     fn keep(&mut self, datagram: &mut Datagram, reply: &[u8], now: u64)
         ensures kept { KeepsReply self.old.answered self.new.answered datagram.old.sender datagram.old.message.items reply.now now }
+        ensures rest { self.new ≡ record self.old { answered = self.new.answered } }
         ensures sender { datagram.new.sender ≡ datagram.old.sender }
     {
         if let Ok(reply) = Vec::from_slice(self.alloc, reply) {
             let message = mem::replace(&mut datagram.message, Vec::new(self.alloc));
             self.answered.keep(datagram.sender, message, reply, now);
         }
+    }
+}
+
+// Sends the reply to a message, without its length, to the sender. One that isn't to be sent counts as sent: for who
+// waits for it, it is as one that was lost on its way.
+fn send_reply<D: DatagramChannel>(
+    socket: &mut D,
+    sender: Sender,
+    message: &[u8],
+    reply: &[u8],
+) -> io::Result<usize>
+    ensures sent { IfOk result (λ _. Replies sender message.now reply.now (D.sent socket.old) (D.sent socket.new)) }
+    ensures unsent { IfErr result (λ _. D.sent socket.new ≡ D.sent socket.old) }
+    ensures left { D.left socket.new ≡ D.left socket.old }
+{
+    match addressed(sender, message, reply) {
+        None => Ok(0),
+        Some(Outgoing { to, bytes }) => socket.send(bytes, to),
     }
 }
 
