@@ -27,8 +27,10 @@ loop-preserved g c =
     let new = c.further_opening.new.rules in
     let left = c.in_ok-next.next in
     let goes = IfOk-at_ok (λ o. GoesOnBy options c.loop.served.table c.loop.rules (table_of o.unnamed) new) c.in_ok-opening.was
-        (c.further_opening.ensures.goes_on_by c.loop.invariant.1) in
-    let served = c.in_ok-next.ensures.served in
-    (run_goes_on c.args.hall.now.journal options (opening_table g.D.LogName.root) c.args.first.passes.items c.args.rules
-    c.args.workers.items now next new left.workers.items served.0 left.served.table c.loop.invariant.0 goes served.1,
-    c.in_ok-next.ensures.due, c.in_ok-next.ensures.workers)
+    (c.further_opening.ensures.goes_on_by c.loop.invariant.1) in
+    let served = c.in_ok-next.ensures.served in (
+      run_goes_on c.args.hall.now.journal options (opening_table g.D.LogName.root) c.args.first.passes.items c.args.rules
+          c.args.workers.items now next new left.workers.items served.0 left.served.table c.loop.invariant.0 goes served.1,
+      c.in_ok-next.ensures.due,
+      c.in_ok-next.ensures.workers,
+    )

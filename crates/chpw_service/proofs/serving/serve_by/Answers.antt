@@ -19,7 +19,8 @@ returns-in_err-journal g c =
 pub returns-in_err-listener : goal.returns-in_err-listener
 returns-in_err-listener g c =
     let p = err_from_is_err_and c.from_residual-in_err-listener.result c.from_residual-in_err-listener.ensures.1 in
-    record { run = rw p.1 tt; fault = rw p.1 (subst (IsOfService c.args.options) (sym p.2) (inr (inr (inr (inr (inr (inl c.in_err-listener.ensures.fault))))))) }
+    let fault = inr (inr (inr (inr (inr (inl c.in_err-listener.ensures.fault))))) in
+    record { run = rw p.1 tt; fault = rw p.1 (subst (IsOfService c.args.options) (sym p.2) fault) }
 
 -- what the files say, and what was served from there on
 pub returns-clause-run : goal.returns-clause-run
@@ -37,7 +38,7 @@ returns-clause-run g c =
       text = ruled.sets;
     } in
     let opening = subst (λ (before : Moment). IsOpening gives_moment config before c.open_table.new.clock found) c.new-clock.ensures.start
-        c.in_ok-table.ensures.opened in
+    c.in_ok-table.ensures.opened in
     on_ok_weaker c.serve_opened-ended.result
     (λ served. whole_run options config c.in-Ok.rules c.open_table.new.clock c.now-since.new.self found c.in_ok-journal.journal
     c.terms_of.result.seed (table_of c.first_opening-opening.result.unnamed) rules opening

@@ -29,9 +29,9 @@ returns-in-Ok-raise_and_listen-clause-served g c =
     let rest = drop (length passes) c.in-Ok.field-0.passes.items in
     let long : c.in-Ok.field-0.passes.len ≡ length passes = grind (arith, common_steps) in
     let kept : take c.in-Ok.field-0.passes.len (passes ++ rest) ≡ passes =
-        subst (λ (n : ℕ). take n (passes ++ rest) ≡ passes) (sym long) (take-append_seam passes rest) in
+    subst (λ (n : ℕ). take n (passes ++ rest) ≡ passes) (sym long) (take-append_seam passes rest) in
     let came = subst (λ ps. OnOk c.serve_from.result (IsServedByNewWorkers g.row.R.Denot (LogLines g.row.R.Denot) hall.journal hall.options.now
-        (key_of start.terms.seed) hall.workers (opening_table g.D.LogName.root) ps c.args.rules)) kept c.serve_from.ensures.served in
+    (key_of start.terms.seed) hall.workers (opening_table g.D.LogName.root) ps c.args.rules)) kept c.serve_from.ensures.served in
     on_ok_weaker c.serve_from.result
     (λ served. served_from start.options.now (key_of start.terms.seed) c.args.rules start.journal hall.journal hall.options.now hall.workers
     (table_of c.args.opening.unnamed) (opening_table g.D.LogName.root) passes _ c.args.clock.now _ ready.raised.0
