@@ -10,13 +10,11 @@ use Rattle.chpw_table.specs.Completing.{completed}
 use Rattle.chpw_decider.specs.Deciding.{AddsReceipt, IsCompletedFrom}
 use Rattle.chpw_serve.specs.declared.messages.Seal.{Seal}
 use Rattle.chpw_serve.specs.declared.messages.Incoming.{Incoming}
-use Rattle.chpw_serve.specs.declared.messages.OpenResult.{OpenResult}
-use Rattle.chpw_serve.specs.declared.messages.OpenResult.TheVariants as program
-use Rattle.chpw_serve.specs.Requests.{Request, Opens, refused, opened, opened_under, password_in}
-use Rattle.chpw_serve.specs.Holding.{IsIncoming, IsOpenResult, answer_in}
-use Rattle.chpw_serve.specs.Answers.{history_full, reply, AnswersRequest, IsAnswer}
+use Rattle.chpw_serve.specs.Requests.{Request, opened_under}
+use Rattle.chpw_serve.specs.Holding.{IsIncoming, answer_in}
+use Rattle.chpw_serve.specs.Answers.{history_full, reply, AnswersRequest}
 use Rattle.chpw_serve.specs.Trying.{IsVerdict}
-use Rattle.chpw_serve.proofs.CompletingLemmas.{completed_on, under}
+use Rattle.chpw_serve.proofs.CompletingLemmas.{under_more}
 
 module _ (error_frame : Answer → Moment → List ℕ) (private_frame : Seal → Answer → List ℕ → List ℕ)
     (full : Type 0) (words : List ℕ) (now : Moment) (old new : List Receipt) where
@@ -37,14 +35,11 @@ module _ (error_frame : Answer → Moment → List ℕ) (private_frame : Seal �
       → AnswersRequest error_frame private_frame full q words now old new bytes
   answers_verdict i password ready mid d v q bytes holds is_password first same e h is =
       let t = subst (λ (d : Option Verdict). IsVerdict full d password ready now mid new) e h in
-      let whole = completed_on password i.opened ready (completed password t.0 ready) first (t.0, refl) in
-      let counts : List ℕ = whole.0 in
-      let made : completed password t.0 ready ≡ opened_under counts q =
-      whole.1 ∙ (ap (λ (p : List ℕ). completed p counts i.opened) (is_password ∙ holds.1)
-      ∙ (ap (completed (password_in q.content) counts) holds.0 ∙ under counts q)) in
+      let made = under_more q i password ready (completed password t.0 ready) holds is_password first (t.0, refl) in
+      let counts : List ℕ = made.0 in
       inr (
         v,
         counts,
-        subst (λ (rs : List Receipt). AddsReceipt rs new now (opened_under counts q) v) same (subst (λ (o : Opened). AddsReceipt mid new now o v) made t.1),
+        subst (λ (rs : List Receipt). AddsReceipt rs new now (opened_under counts q) v) same (subst (λ (o : Opened). AddsReceipt mid new now o v) made.1 t.1),
         is ∙ ap (λ (s : Seal). reply error_frame private_frame s v words now) holds.2,
       )

@@ -1,5 +1,5 @@
 -- What observer and gate are called for with a message.
-use Rattle.std.proofs.Common.{◌≡◌, ℕ, ◌+◌, ◌-◌, ◌<◌, List, [], ◌∷◌, ◌++◌, Bool, true, false, Option, Some}
+use Rattle.std.proofs.Common.{◌≡◌, ℕ, ◌+◌, ◌-◌, List, [], ◌∷◌, ◌++◌, Bool, true, false, Option, Some}
 use Rattle.std.proofs.Common.{None, refl, sym, ◌∙◌, ap, subst, inl, inr, length, arith, length-append}
 use Rattle.std.specs.Prelude.{Result, Ok, Err, OnErr, slice_get}
 use Rattle.std.proofs.lemmas.Option.{slice_get-get_or}
@@ -7,25 +7,27 @@ use Rattle.std.proofs.Math.ListN.{get_or}
 use Rattle.std.proofs.Math.Seq.{get_or-append_seam}
 use Rattle.krb_protocol.specs.declared.refusal.Refusal.{Refusal}
 use Rattle.chpw_table.specs.declared.times.Moment.{Moment}
+use Rattle.chpw_table.specs.declared.history.Event.{Event}
+use Rattle.chpw_table.specs.declared.history.Event.TheVariants as event
 use Rattle.chpw_table.specs.declared.history.Receipt.{Receipt}
 use Rattle.chpw_table.specs.declared.request.Opened.{Opened}
 use Rattle.chpw_table.specs.declared.verdict.Verdict.{Verdict}
 use Rattle.chpw_table.specs.Replies.{Answer}
 use Rattle.chpw_table.specs.Completing.{completed}
-use Rattle.chpw_decider.specs.Deciding.{IsCompletedFrom}
+use Rattle.chpw_decider.specs.Deciding.{AddsReceipt, IsCompletedFrom}
 use Rattle.chpw_serve.specs.declared.messages.Seal.{Seal}
 use Rattle.chpw_serve.specs.declared.messages.Incoming.{Incoming}
 use Rattle.chpw_serve.specs.declared.messages.OpenResult.{OpenResult}
 use Rattle.chpw_serve.specs.declared.messages.OpenResult.TheVariants as program
 use Rattle.chpw_serve.specs.declared.gate.Spot.{Spot}
 use Rattle.chpw_serve.specs.declared.gate.Spot.TheVariants as spot
-use Rattle.chpw_serve.specs.Requests.{Request, Opens, refused, opened, opened_under, password_in}
+use Rattle.chpw_serve.specs.Requests.{Request, Opens, refused, opened, opened_under}
 use Rattle.chpw_serve.specs.Holding.{IsIncoming, IsOpenResult, answer_in}
 use Rattle.chpw_serve.specs.Answers.{history_full, AnswersRequest, IsAnswer, is_opened}
 use Rattle.chpw_serve.specs.InTurn.{InTurn}
-use Rattle.chpw_serve.specs.Hearing.{Heard, Call, passed, heard, decision, refusal, Does, AreCallsForRequest, AreCallsFor, IsKvnoOf}
-use Rattle.chpw_serve.specs.Trying.{IsVerdict, HearsVerdict}
-use Rattle.chpw_serve.proofs.CompletingLemmas.{completed_on, under}
+use Rattle.chpw_serve.specs.Hearing.{Heard, Call, passed, heard, decision, refusal, Does, AreCallsForRequest, AreCallsFor, IsKvnoUnder}
+use Rattle.chpw_serve.specs.Trying.{IsVerdict, HearsVerdict, IsKvnoOf}
+use Rattle.chpw_serve.proofs.CompletingLemmas.{under_more}
 
 pub on_err : {T E : Type 0} {P : Type 0} (r : Result T E) → P → OnErr r P
 on_err (Ok x) p = tt
@@ -83,19 +85,30 @@ module _ {G : Type 0} (passes : G → Spot → G → Type 0) (hears : G → Hear
       → mid ≡ old → IsVerdict full d password ready now mid new → passes gate spot.Opened between
       → HearsVerdict hears peer now made new password ready d between later → CallsForRequest q
   calls_request full i password ready mid None q between holds is_password first same v by h =
-      let whole = completed_on password i.opened ready h.0 first h.1 in
-      let counts : List ℕ = whole.0 in
-      let is_made : h.0 ≡ opened_under counts q =
-      whole.1 ∙ (ap (λ (p : List ℕ). completed p counts i.opened) (is_password ∙ holds.1)
-      ∙ (ap (completed (password_in q.content) counts) holds.0 ∙ under counts q)) in (
+      let is_made = under_more q i password ready h.0 holds is_password first h.1 in
+      let counts : List ℕ = is_made.0 in (
         passed spot.Opened ∷ heard (refusal peer now (Some (opened_under counts q)) history_full) ∷ [],
         inl (v.0 ∙ same, counts, refl),
-        (between, by, (later, subst (λ (o : Opened). hears between (refusal peer now (Some o) history_full) later) is_made h.2, refl)),
+        (between, by, (later, subst (λ (o : Opened). hears between (refusal peer now (Some o) history_full) later) is_made.1 h.2, refl)),
       )
   calls_request full i password ready mid (Some v) q between holds is_password first same adds by (r, kvno, last, version, noted) =
+      let is_made = under_more q i password ready (completed password adds.0 ready) holds is_password first (adds.0, refl) in
+      let counts : List ℕ = is_made.0 in
       let is_last : r ≡ adds.1.receipt = last_is mid new adds.1.receipt r adds.1.added last in
+      let is_event : r.entry.event ≡ event.Ask (opened_under counts q) v =
+      ap (λ (x : Receipt). x.entry.event) is_last ∙ (adds.1.event_is ∙ ap (λ (o : Opened). event.Ask o v) is_made.1) in
       let added : new ≡ old ++ r ∷ [] = adds.1.added ∙ (ap (λ (x : Receipt). mid ++ x ∷ []) (sym is_last) ∙ ap (λ (rs : List Receipt). rs ++ r ∷ []) same) in
-      (passed spot.Opened ∷ heard (decision peer now r kvno) ∷ [], inr (r, kvno, added, version, refl), (between, by, (later, noted, refl)))
+      let own : AddsReceipt old new now (opened_under counts q) v = record {
+        receipt = r;
+        added = added;
+        now_is = ap (λ (x : Receipt). x.entry.now) is_last ∙ adds.1.now_is;
+        event_is = is_event;
+      } in
+      let is_version : IsKvnoUnder made v kvno = subst (λ (e : Event). IsKvnoOf made e kvno) is_event version in (
+        passed spot.Opened ∷ heard (decision peer now r kvno) ∷ [],
+        inr (v, counts, own, kvno, is_version, refl),
+        (between, by, (later, noted, refl)),
+      )
 
   -- a message answered, and the calls for it
   pub record AnsweredWith (error_frame : Answer → Moment → List ℕ) (private_frame : Seal → Answer → List ℕ → List ℕ)

@@ -70,7 +70,7 @@ module _ {C X G : Type 0} (error_frame : Answer → Moment → List ℕ) (privat
       one_of (inl k) = ([], k.0 ∙ sym (append-nil before.receipts), omega arith)
       one_of (inr (refused a, o, k)) = ([], k.0 ∙ sym (append-nil before.receipts), omega arith)
       one_of (inr (opened q, o, inl k)) = ([], k.0 ∙ sym (append-nil before.receipts), omega arith)
-      one_of (inr (opened q, o, inr k)) = (k.0 ∷ [], k.2, omega arith)
+      one_of (inr (opened q, o, inr k)) = (k.2.receipt ∷ [], k.2.added, omega arith)
 
   end_grows : (e : Ended) (n : ℕ) (last final : StreamState C X Kept G) → EndsAlone e n last final → Grows last.decider final.decider
   unfolding Grows

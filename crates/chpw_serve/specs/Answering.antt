@@ -26,7 +26,8 @@ pub record Answering {D G : Type 0} (error_frame : Answer → Moment → List �
   pub calls_are : AreCallsFor peer now (made after) (gathered before) (gathered after) reply.0 calls
   pub in_turn : InTurn (Does passes hears) gate calls later
 
--- memory ran out: who decides went on, with a receipt more at the most, and the observer heard of that one
+-- memory ran out: who decides went on, with a receipt more at the most, which is of the request that the message opened
+-- to, judged at this moment; and the observer heard of that one
 pub record Unanswered {D G : Type 0}
     (gathered : D → List Receipt) (follows : D → D → Type 0) (made : D → Option ℕ → Type 0)
     (passes : G → Spot → G → Type 0) (hears : G → Heard → G → Type 0) (opens : List ℕ → Opens → Type 0)

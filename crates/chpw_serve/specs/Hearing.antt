@@ -1,13 +1,12 @@
 -- What an observer hears of messages, and where a gate holds their worker.
-use Rattle.std.specs.Prelude.{◌≡◌, ℕ, List, [], ◌∷◌, ◌++◌, Option, Some, None, ◌⊎◌}
+use Rattle.std.specs.Prelude.{◌≡◌, ℕ, List, [], ◌∷◌, Option, Some, None, ◌⊎◌}
 use Rattle.chpw_table.specs.declared.times.Moment.{Moment}
 use Rattle.chpw_table.specs.declared.request.Opened.{Opened}
-use Rattle.chpw_table.specs.declared.history.Event.{Event}
-use Rattle.chpw_table.specs.declared.history.Event.TheVariants as event
 use Rattle.chpw_table.specs.declared.history.Receipt.{Receipt}
 use Rattle.chpw_table.specs.declared.verdict.Verdict.{Verdict}
 use Rattle.chpw_table.specs.declared.verdict.Verdict.TheVariants.{Done}
 use Rattle.chpw_table.specs.Replies.{Answer}
+use Rattle.chpw_decider.specs.Deciding.{AddsReceipt}
 use Rattle.chpw_serve.specs.declared.gate.Spot.{Spot}
 use Rattle.chpw_serve.specs.declared.gate.Spot.TheVariants as spot
 use Rattle.chpw_serve.specs.Requests.{Opens, refused, opened, opened_under}
@@ -42,19 +41,17 @@ abbrev pub IsKvnoUnder : (Option ℕ → Type 0) → Verdict → Option ℕ → 
 IsKvnoUnder made Done kvno = made kvno
 IsKvnoUnder made v kvno = kvno ≡ None
 
-abbrev pub IsKvnoOf : (Option ℕ → Type 0) → Event → Option ℕ → Type 0
-IsKvnoOf made (event.Ask o v) kvno = IsKvnoUnder made v kvno
-IsKvnoOf made (event.Raise count v) kvno = kvno ≡ None
-
 -- the calls for a message that opens so, where the receipts became these: the observer hears its refusal; or the
--- gate is passed, and the observer hears that the history is full, or the decision by the receipt that was added
+-- gate is passed, and the observer hears that the history is full, or the decision by the receipt that was added, which
+-- is of the message's request with some keys derived, judged at this moment
 module _ (peer : List ℕ) (now : Moment) (made : Option ℕ → Type 0) (old new : List Receipt) where
   abbrev pub AreCallsForRequest : (List ℕ → Opened) → List Call → Type 0
   AreCallsForRequest request calls =
       ((new ≡ old) × (counts : List ℕ)
       × (calls ≡ passed spot.Opened ∷ heard (refusal peer now (Some (request counts)) history_full) ∷ []))
-      ⊎ ((r : Receipt) × (kvno : Option ℕ) × (new ≡ old ++ r ∷ []) × IsKvnoOf made r.entry.event kvno
-      × (calls ≡ passed spot.Opened ∷ heard (decision peer now r kvno) ∷ []))
+      ⊎ ((v : Verdict) × (counts : List ℕ) × (adds : AddsReceipt old new now (request counts) v)
+      × (kvno : Option ℕ) × IsKvnoUnder made v kvno
+      × (calls ≡ passed spot.Opened ∷ heard (decision peer now adds.receipt kvno) ∷ []))
 
   abbrev pub AreCallsFor : Opens → List Call → Type 0
   AreCallsFor (refused a) calls = (new ≡ old) × (calls ≡ heard (refusal peer now None a) ∷ [])

@@ -98,6 +98,7 @@ module _ {C X D G : Type 0} (answers : List ℕ → List ℕ → Moment → D �
     pub taken : TakesPiece (message text) before.left after.left
     pub moment_is : moments before.around.clock moment after.around.clock
     pub words_are : InTurn random before.around.words words after.around.words
+    pub nine : length words ≡ 9
     pub adds_it : adds text moment before.decider after.decider before.around.gate after.around.gate
     pub out : after.around.out ≡ before.around.out
 

@@ -2,6 +2,8 @@
 use Rattle.std.specs.Prelude.{◌≡◌, ℕ, ◌-◌, List, length, slice_get, Option, Some, None}
 use Rattle.chpw_table.specs.declared.times.Moment.{Moment}
 use Rattle.chpw_table.specs.declared.request.Opened.{Opened}
+use Rattle.chpw_table.specs.declared.history.Event.{Event}
+use Rattle.chpw_table.specs.declared.history.Event.TheVariants.{Ask, Raise}
 use Rattle.chpw_table.specs.declared.history.Receipt.{Receipt}
 use Rattle.chpw_table.specs.declared.verdict.Verdict.{Verdict}
 use Rattle.chpw_decider.specs.Deciding.{AddsReceipt, AddsCompleted, IsCompletedFrom}
@@ -10,7 +12,7 @@ use Rattle.chpw_serve.specs.declared.deciding.Decision.TheVariants as decision
 use Rattle.chpw_serve.specs.declared.deciding.Try.{Try}
 use Rattle.chpw_serve.specs.declared.deciding.Try.TheVariants as try
 use Rattle.chpw_serve.specs.Answers.{history_full}
-use Rattle.chpw_serve.specs.Hearing.{Heard, decision as decided, refusal, IsKvnoOf}
+use Rattle.chpw_serve.specs.Hearing.{Heard, decision as decided, refusal, IsKvnoUnder}
 
 abbrev pub IsDecision : Type 0 → Decision → List ℕ → Opened → Moment → List Receipt → List Receipt → Type 0
 IsDecision full (decision.Verdict v) password before now old new = AddsCompleted old new now password before v
@@ -25,6 +27,11 @@ abbrev pub IsTry : Type 0 → Try → List ℕ → Opened → Moment → List Re
 IsTry full (try.Verdict v) password before now old new = AddsReceipt old new now before v
 IsTry full (try.Full o) password before now old new = (new ≡ old) × full × (o ≡ before)
 IsTry full (try.Again o) password before now old new = (new ≡ old) × IsCompletedFrom password before o
+
+-- the version that is heard with an event
+abbrev pub IsKvnoOf : (Option ℕ → Type 0) → Event → Option ℕ → Type 0
+IsKvnoOf made (Ask o v) kvno = IsKvnoUnder made v kvno
+IsKvnoOf made (Raise count v) kvno = kvno ≡ None
 
 -- what the observer hears of a verdict: the last receipt; if the history is full, the request
 abbrev pub HearsLast : {G : Type 0} → (G → Heard → G → Type 0) → List ℕ → Moment → (Option ℕ → Type 0) → List Receipt → G → G → Type 0

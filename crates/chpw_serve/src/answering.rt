@@ -27,7 +27,7 @@ pub struct Answered {
 /// The reply to a message from this peer, an IPv4 address, high byte first. Its request is judged at
 /// the moment `now`, whose seconds are 0 to `chpw_table::LAST_SECOND`, and microseconds below
 /// 1,000,000; the words make its confounders and its sequence number. The observer hears what came of it.
-/// After `AllocError` there may be a receipt more, of which the observer heard.
+/// After `AllocError` there may be a receipt more, of this message's request, of which the observer heard.
 pub fn answer<M: Messages, D: Decider, G: Gate + Observer>(
     alloc: Global,
     service: &M,

@@ -48,7 +48,7 @@ module _ {C X J : Type 0} (moments : C → Moment → C → Type 0) (random : X 
     none = h.none;
     reply = h.reply;
   }))
-  comes_lifts full more f t old new (inr (inr h)) = inr (inr (record { draws = h.draws; at_most = h.at_most; reply = h.reply }))
+  comes_lifts full more f t old new (inr (inr h)) = inr (inr (record { left = h.left; reply = h.reply }))
 
   -- what may have been full may be so still
   pub turns_lift : (full more : List Receipt → Type 0) → ((rs : List Receipt) → full rs → more rs) → (old : At C X) (ts : List Turn) (new : At C X)

@@ -20,12 +20,12 @@ use Rattle.chpw_serve.specs.Answering.{Answering, Unanswered}
 use Rattle.chpw_serve.specs.Hearing.{Heard, AreCallsUnanswered}
 use Rattle.chpw_serve.specs.InTurn.{InTurn}
 use Rattle.chpw_serve.specs.Serving as serving
-use Rattle.chpw_serve.specs.Serving.{StreamState, Around, Answers, Serves, Refuses, IsRefused, IsEnd, EndsBy, IsServed, StaysOtherwise, message_too_long}
+use Rattle.chpw_serve.specs.Serving.{StreamState, Around, Answers, Serves, Refuses, IsEnd, IsServed, Leaves, StaysOtherwise, message_too_long}
 use Rattle.chpw_serve.proofs.ChainLemmas.{took}
 use Rattle.chpw_connections.specs.declared.taking.Turn.{Turn}
 use Rattle.chpw_workers.specs.Replies.{IsReplyWith, IsReplyBehind}
 use Rattle.chpw_connections.specs.Turns.{message_of, peer_of}
-use Rattle.chpw_workers.specs.Turns.{At, at, Comes, DrawsOrNone}
+use Rattle.chpw_workers.specs.Turns.{At, at, Comes, AddsEntry}
 
 inside : (s t : List ℕ) → Some s ≡ Some t → s ≡ t
 inside s t e = cc
@@ -80,44 +80,65 @@ module _ {C X D G : Type 0} (error_frame : Answer → Moment → List ℕ) (priv
   abbrev Came : D → Around C X G → D → Around C X G → Type 0
   Came d a e b = Comes moments random error_frame private_frame opens (may_be_full e) t (here d a) (here e b)
 
+  abbrev AddsOne : Moment → List Receipt → List Receipt → Type 0
+  AddsOne now old new = (new ≡ old) ⊎ AddsEntry opens t now old new
+
   -- an answer adds an entry at the most
   one_more : (full : Type 0) (text words : List ℕ) (now : Moment) (old new : List Receipt) (bytes : List ℕ)
-      → IsAnswer error_frame private_frame full (opens (peer_of t.taken) text) words now old new bytes
-      → (new ≡ old) ⊎ ((r : Receipt) × (new ≡ old ++ r ∷ []))
-  one_more full text words now old new bytes (refused a, o, h) = inl h.0
-  one_more full text words now old new bytes (opened q, o, inl h) = inl h.0
-  one_more full text words now old new bytes (opened q, o, inr h) = inr (h.2.receipt, h.2.added)
+      → next_piece (message_of t.taken) ≡ message text
+      → IsAnswer error_frame private_frame full (opens (peer_of t.taken) text) words now old new bytes → AddsOne now old new
+  one_more full text words now old new bytes is (refused a, o, h) = inl h.0
+  one_more full text words now old new bytes is (opened q, o, inl h) = inl h.0
+  one_more full text words now old new bytes is (opened q, o, inr h) =
+      inr (record { text = text; request = q; counts = h.1; verdict = h.0; text_is = is; opens_so = o; adds = h.2 })
 
   -- and so does a message for whose answer memory ran out
-  one_left : (text : List ℕ) (now : Moment) (d e : D) (calls : _)
+  one_left : (text : List ℕ) (now : Moment) (d e : D) (calls : _) → next_piece (message_of t.taken) ≡ message text
       → AreCallsUnanswered (peer_of t.taken) now (made e) (gathered d) (gathered e) (opens (peer_of t.taken) text) calls
-      → (gathered e ≡ gathered d) ⊎ ((r : Receipt) × (gathered e ≡ gathered d ++ r ∷ []))
-  one_left text now d e calls (inl k) = inl k.0
-  one_left text now d e calls (inr (refused a, o, k)) = inl k.0
-  one_left text now d e calls (inr (opened q, o, inl k)) = inl k.0
-  one_left text now d e calls (inr (opened q, o, inr k)) = inr (k.0, k.2)
+      → AddsOne now (gathered d) (gathered e)
+  one_left text now d e calls is (inl k) = inl k.0
+  one_left text now d e calls is (inr (refused a, o, k)) = inl k.0
+  one_left text now d e calls is (inr (opened q, o, inl k)) = inl k.0
+  one_left text now d e calls is (inr (opened q, o, inr k)) =
+      inr (record { text = text; request = q; counts = k.1; verdict = k.0; text_is = is; opens_so = o; adds = k.2 })
 
   left_same : (d e : D) (a b : Around C X G) → b ≡ a → e ≡ d → t.reply ≡ None → Came d a e b
   left_same d e a b same_around same_decider none = inr (inr (record {
-    draws = inl (ap (λ (k : Around C X G). k.clock) same_around, ap (λ (k : Around C X G). k.words) same_around);
-    at_most = inl (ap gathered same_decider);
+    left = inl (ap (λ (k : Around C X G). here e k) same_around ∙ ap (λ (k : D). here k a) same_decider);
     reply = none;
   }))
 
   left_refused : (d e : D) (a b : Around C X G) (bytes : List ℕ) → Refuses refusal moments random hears (peer_of t.taken) a b bytes
       → e ≡ d → t.reply ≡ None → Came d a e b
   left_refused d e a b bytes r same none = inr (inr (record {
-    draws = inr (r.moment, r.words, r.moment_is, r.words_are);
-    at_most = inl (ap gathered same);
+    left = inr (r.moment, r.words, record { moment_is = r.moment_is; words_are = r.words_are; nine = r.nine }, inl (ap gathered same));
     reply = none;
   }))
 
-  left_answered : (written : Bool) (before after : StreamState C X D G) (x : serving.Turn)
+  left_answered : (written : Bool) (before after : StreamState C X D G) (x : serving.Turn) → next_piece (message_of t.taken) ≡ message x.text
       → Answers answers adds refusal moments random passes hears (peer_of t.taken) written before x after
       → t.reply ≡ None → Came before.decider before.around after.decider after.around
-  left_answered written before after x h none = inr (inr (record {
-    draws = inr (x.moment, x.words, h.moment, h.words);
-    at_most = one_more _ x.text x.words x.moment (gathered before.decider) (gathered after.decider) x.reply h.answer.reply;
+  left_answered written before after x is h none = inr (inr (record {
+    left = inr (
+      x.moment,
+      x.words,
+      record { moment_is = h.moment; words_are = h.words; nine = h.nine },
+      one_more _ x.text x.words x.moment (gathered before.decider) (gathered after.decider) x.reply is h.answer.reply,
+    );
+    reply = none;
+  }))
+
+  left_open : (before after : StreamState C X D G)
+      → (h : Leaves answers adds refusal moments random passes hears (peer_of t.taken) before after)
+      → next_piece (message_of t.taken) ≡ message h.text → t.reply ≡ None
+      → Came before.decider before.around after.decider after.around
+  left_open before after h is none = inr (inr (record {
+    left = inr (
+      h.moment,
+      h.words,
+      record { moment_is = h.moment_is; words_are = h.words_are; nine = h.nine },
+      one_left h.text h.moment before.decider after.decider h.adds_it.calls is h.adds_it.calls_are,
+    );
     reply = none;
   }))
 
@@ -150,15 +171,13 @@ module _ {C X D G : Type 0} (error_frame : Answer → Moment → List ℕ) (priv
           reply = subst (λ (bs : List ℕ). IsReplyWith bs true t.reply) same reply;
         }))
     none_answered end.ReadFault start final at_start out back (less, h) reply = left_same _ _ _ _ h.1.0 h.1.1 reply
-    none_answered end.WriteFault start final at_start out back (less, inl h) reply = left_answered false start final h.0 h.2 reply
+    none_answered end.WriteFault start final at_start out back (less, inl h) reply =
+        left_answered false start final h.0 (ap next_piece is ∙ (took (message h.0.text) m start.left final.left at_start h.1).0) h.2 reply
     none_answered end.WriteFault start final at_start out back (less, inr h) reply =
         left_refused _ _ _ _ h.1.0 h.1.1 h.2 reply
     none_answered end.Memory start final at_start out back (less, inl h) reply = left_same _ _ _ _ h.1.0 h.1.1 reply
-    none_answered end.Memory start final at_start out back (less, inr (inl h)) reply = inr (inr (record {
-      draws = inr (h.moment, h.words, h.moment_is, h.words_are);
-      at_most = one_left h.text h.moment start.decider final.decider h.adds_it.calls h.adds_it.calls_are;
-      reply = reply;
-    }))
+    none_answered end.Memory start final at_start out back (less, inr (inl h)) reply =
+        left_open start final h (ap next_piece is ∙ (took (message h.text) m start.left final.left at_start h.taken).0) reply
     none_answered end.Memory start final at_start out back (less, inr (inr h)) reply =
         left_refused _ _ _ _ h.1.0 h.1.1 h.2 reply
     none_answered end.Count start final at_start out back h reply = absurd (omega (arith, h.0))
@@ -182,7 +201,7 @@ module _ {C X D G : Type 0} (error_frame : Answer → Moment → List ℕ) (priv
         left_over : StaysOtherwise answers adds refusal moments random passes hears (peer_of t.taken) mid final → t.reply ≡ None
             → Came start.decider start.around final.decider final.around
         left_over h none = stays start.decider mid.decider final.decider start.around mid.around final.around h.0 h.1
-            (left_answered true start mid x served.1 none)
+            (left_answered true start mid x (ap next_piece is ∙ first.0) served.1 none)
 
         by_end : (e : Ended) → Ends e 1 mid final → IsReplyBehind e bytes t.reply → Came start.decider start.around final.decider final.around
         by_end end.Input (less, h) reply =

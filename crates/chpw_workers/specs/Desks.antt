@@ -27,8 +27,9 @@ module _ {I G C X J : Type 0} (moments : C → Moment → C → Type 0) (random 
     (error_frame : Answer → Moment → List ℕ) (private_frame : Seal → Answer → List ℕ → List ℕ)
     (opens : List ℕ → List ℕ → Opens → Type 0) (ends : J → Option ℕ → Type 0) (end_of : J) where
   -- The turns that a worker's inbox gained, one after the other, took it from the receipts that it had to its calls in the
-  -- history: so each reply is the answer to its own message, each entry of the worker's came of one turn, with the verdict that
-  -- its reply carries, and they stand in the order of the turns. A turn was told that the history is full only if it is.
+  -- history: so each reply is the answer to its own message, each entry of the worker's came of one turn, is of the request
+  -- that the turn's message opened to, and has the verdict that its reply carries, if memory sufficed for one; and they stand in
+  -- the order of the turns. A turn was told that the history is full only if it is.
   pub record IsServedBy (w : ℕ) (pass : PassView) (old new : Worker I G C X) (history : List Entry) (table : Held) : Type 0 where
     pub turns : List Turn
     pub gained : turns_at new.inbox ≡ turns_at old.inbox ++ turns

@@ -1,11 +1,13 @@
 -- A worker's turn: a message that it took, and what came of it.
-use Rattle.std.specs.Prelude.{◌≡◌, ℕ, List, [], ◌∷◌, ◌++◌, length, Bool, true, false, Option, None, ◌⊎◌}
+use Rattle.std.specs.Prelude.{◌≡◌, ℕ, List, length, Bool, true, false, Option, None, ◌⊎◌}
 use Rattle.chpw_frame.specs.Stream.{message, too_long, next_piece, sent}
 use Rattle.chpw_table.specs.declared.times.Moment.{Moment}
 use Rattle.chpw_table.specs.declared.history.Receipt.{Receipt}
+use Rattle.chpw_table.specs.declared.verdict.Verdict.{Verdict}
 use Rattle.chpw_table.specs.Replies.{Answer}
+use Rattle.chpw_decider.specs.Deciding.{AddsReceipt}
 use Rattle.chpw_serve.specs.declared.messages.Seal.{Seal}
-use Rattle.chpw_serve.specs.Requests.{Opens}
+use Rattle.chpw_serve.specs.Requests.{Request, Opens, opened, opened_under}
 use Rattle.chpw_serve.specs.Answers.{IsAnswer}
 use Rattle.chpw_serve.specs.InTurn.{InTurn}
 use Rattle.chpw_serve.specs.Serving.{message_too_long}
@@ -22,17 +24,22 @@ pub record At (C X : Type 0) : Type 0 where
 abbrev pub at : {C X : Type 0} → List Receipt → C → X → At C X
 at receipts clock words = record { receipts = receipts; clock = clock; words = words }
 
+-- one entry was added: of the request that the message opened to, with some keys derived, judged at this moment
+pub record AddsEntry (opens : List ℕ → List ℕ → Opens → Type 0) (t : Turn) (moment : Moment) (old new : List Receipt) : Type 0 where
+  pub text : List ℕ
+  pub request : Request
+  pub counts : List ℕ
+  pub verdict : Verdict
+  pub text_is : next_piece (message_of t.taken) ≡ message text
+  pub opens_so : opens (peer_of t.taken) text (opened request)
+  pub adds : AddsReceipt old new moment (opened_under counts request) verdict
+
 module _ {C X : Type 0} (moments : C → Moment → C → Type 0) (random : X → ℕ → X → Type 0) where
   -- one moment was drawn, and nine words
   pub record Draws (old new : At C X) (moment : Moment) (words : List ℕ) : Type 0 where
     pub moment_is : moments old.clock moment new.clock
     pub words_are : InTurn random old.words words new.words
     pub nine : length words ≡ 9
-
-  -- or nothing was, for want of memory
-  abbrev pub DrawsOrNone : At C X → At C X → Type 0
-  DrawsOrNone old new = ((new.clock ≡ old.clock) × (new.words ≡ old.words))
-      ⊎ ((moment : Moment) × (words : List ℕ) × moments old.clock moment new.clock × InTurn random old.words words new.words)
 
   module _ (error_frame : Answer → Moment → List ℕ) (private_frame : Seal → Answer → List ℕ → List ℕ)
       (opens : List ℕ → List ℕ → Opens → Type 0) (full : List Receipt → Type 0) where
@@ -59,10 +66,11 @@ module _ {C X : Type 0} (moments : C → Moment → C → Type 0) (random : X �
       pub none : new.receipts ≡ old.receipts
       pub reply : IsReplyWith (sent (error_frame message_too_long moment)) true t.reply
 
-    -- memory ran out: there is no reply, and an entry at the most
+    -- Memory ran out: there is no reply. Nothing was drawn, and there is no entry; or a moment and words were drawn, and there
+    -- is no entry, or one: of the request that the message opened to, judged at that moment.
     pub record IsUnanswered (t : Turn) (old new : At C X) : Type 0 where
-      pub draws : DrawsOrNone old new
-      pub at_most : (new.receipts ≡ old.receipts) ⊎ ((r : Receipt) × (new.receipts ≡ old.receipts ++ r ∷ []))
+      pub left : (new ≡ old) ⊎ ((moment : Moment) × (words : List ℕ) × Draws old new moment words
+          × ((new.receipts ≡ old.receipts) ⊎ AddsEntry opens t moment old.receipts new.receipts))
       pub reply : t.reply ≡ None
 
     abbrev pub Comes : Turn → At C X → At C X → Type 0

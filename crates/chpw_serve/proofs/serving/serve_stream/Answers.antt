@@ -50,6 +50,7 @@ returns-in-Err-answer_message g c =
                 (sym c.deref.ensures.value) (rw c.in-Ok-Message.field-0-is at c.in-Ok-Message.ensures.piece).0;
             moment_is = c.draw-drawn.ensures.moment;
             words_are = c.draw-drawn.ensures.words;
+            nine = c.draw-drawn.ensures.nine;
             adds_it = c.in-Err-answer_message.ensures.refused;
             out = refl;
           })));
