@@ -1,6 +1,8 @@
 //! A journal's sink over a file, whose disk may fail.
+ghost use Rattle.std.specs.Prelude.{Some, take};
+
 use crate::refusal::Refusal;
-use chpw_journal::FileSink;
+use chpw_journal::{FileSink, SyncedFile};
 use chpw_table::JournalSink;
 use std::alloc::Global;
 use std::fs::{Metadata, OpenFile};
@@ -11,7 +13,7 @@ use support_streams::{Course, Taker, Way};
 const RECORD: usize = 66;
 
 /// Adds the result of appending a record to a file that takes bytes in this way, and is then synced (`synced`) or can't
-/// be (`not synced`).
+/// be (`not synced`), and how many bytes are on the disk.
 pub fn show_appended(
     alloc: Global,
     text: &mut String,
@@ -24,12 +26,14 @@ pub fn show_appended(
             course: Course::start(Way::of(way)),
         },
         is_synced: end == "synced",
+        kept: 0,
     };
     let mut sink = FileSink::new(disk);
     let told = append_result(&mut sink);
     let failures = sink.failures();
+    let kept = sink.file().kept;
     drop(sink);
-    write!(text, "{told}, failures {failures}").map_err(Refusal::from)
+    write!(text, "{told}, failures {failures}, on the disk {kept}").map_err(Refusal::from)
 }
 
 fn append_result(sink: &mut FileSink<Disk>) -> &'static str {
@@ -47,9 +51,13 @@ fn append_result(sink: &mut FileSink<Disk>) -> &'static str {
 struct Disk {
     taker: Taker,
     is_synced: bool,
+    /// How many bytes it had when it was last synced.
+    kept: usize,
 }
 
 impl Write for Disk {
+    ghost contents = { λ disk. Some disk.taker.taken.items };
+
     fn write(&mut self, bytes: &[u8]) -> io::Result<usize> {
         self.taker.write(bytes)
     }
@@ -78,5 +86,15 @@ impl OpenFile for Disk {
 
     fn sync_data(&self) -> io::Result<()> {
         self.sync_all()
+    }
+}
+
+impl SyncedFile for Disk {
+    ghost synced = { λ disk. Some (take disk.kept disk.taker.taken.items) };
+
+    fn sync(&mut self) -> io::Result<()> {
+        self.sync_all()?;
+        self.kept = self.taker.taken.len();
+        Ok(())
     }
 }

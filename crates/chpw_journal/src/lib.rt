@@ -2,6 +2,7 @@
 #![tactic(auto)]
 
 mod compact;
+mod end_mark;
 mod fault;
 mod file_limit;
 mod file_sink;
@@ -12,6 +13,7 @@ mod quiet;
 mod reading;
 mod replacing;
 mod restoring;
+mod synced_file;
 
 pub use compact::compact_journal;
 pub use fault::RestoreFault;
@@ -22,3 +24,4 @@ pub use memory_sink::MemorySink;
 pub use quiet::quiet_after;
 pub use replacing::{Replacement, remove_unfinished, replace_journal, write_new};
 pub use restoring::{Restored, restore};
+pub use synced_file::SyncedFile;

@@ -5,9 +5,10 @@ ghost use Rattle.chpw_journal.specs.FileNames.{beside};
 
 use crate::file_limit::room_for;
 use crate::journal_file::is_name_kept;
+use crate::synced_file::SyncedFile;
 use std::alloc::{AllocError, Global};
-use std::fs::{self, File, Files, OpenFile, OpenOptions};
-use std::io::{self, ErrorKind, Write};
+use std::fs::{self, File, Files, OpenOptions};
+use std::io::{self, ErrorKind};
 use std::os::unix::fs::OpenOptionsExt;
 
 /// The end of the name of the file that replaces the journal, after the journal's own name.
@@ -75,12 +76,13 @@ pub fn write_new<R: Files<File = File>>(rt: &R, path: &str, text: &[u8]) -> io::
 }
 
 // Writes the text and syncs it.
-fn put<F: Write + OpenFile>(file: &mut F, text: &[u8]) -> io::Result<()>
+fn put<F: SyncedFile>(file: &mut F, text: &[u8]) -> io::Result<()>
     ensures written { OnOk result (Appends (F.contents file.old) (F.contents file.new) text.now) }
+    ensures synced { OnOk result (Appends (F.contents file.old) (F.synced file.new) text.now) }
 {
     if room_for(file, text.len()) < text.len() {
         return Err(io::Error::from(ErrorKind::FileTooLarge));
     }
     file.write_all(text)?;
-    file.sync_all()
+    file.sync()
 }

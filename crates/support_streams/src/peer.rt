@@ -6,6 +6,7 @@
 //! - `never ready`: each call is interrupted.
 //! - `fails after N`: a call fails once N bytes went through.
 //! - `takes nothing after N`: a call then answers that it took none.
+ghost use Rattle.std.specs.Prelude.{Some};
 
 use std::io::{self, Error, ErrorKind, Read, Write};
 
@@ -140,6 +141,8 @@ pub struct Taker {
 }
 
 impl Write for Taker {
+    ghost contents = { λ taker. Some taker.taken.items };
+
     fn write(&mut self, buf: &[u8]) -> io::Result<usize> {
         let count = self.course.pass(buf.len())?.min(buf.len());
         self.taken.extend_from_slice(&buf[..count])?;
