@@ -1,5 +1,5 @@
 //! The control socket of the service (docs/PROTOCOL.md): which command a line is, and the text of its answer. Without
-//! sockets, clock or threads: chpw_pool has those, hands in what came and writes what is answered.
+//! sockets, clock or threads: chpw_transfers has their sockets, hands in what came and writes what is answered.
 #![tactic(auto)]
 
 mod answer;

@@ -1,13 +1,2 @@
-pub mod ControlLemmas
-pub mod DatagramLemmas
-pub mod NotedLemmas
-pub mod PlaceLemmas
-pub mod PostLemmas
-pub mod ReplyLemmas
-pub mod RoundLemmas
-pub mod RunLemmas
 pub mod SendLemmas
-pub mod ShareLemmas
-pub mod StepLemmas
-pub mod TransferLemmas
 pub mod WorkerLemmas

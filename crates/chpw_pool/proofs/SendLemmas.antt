@@ -17,10 +17,10 @@ use Rattle.chpw_workers.specs.contracts.worker.Worker as Worker
 use Rattle.chpw_workers.proofs.clock.MachineClock.TheSendSync as clock
 use Rattle.chpw_workers.proofs.journal_end.NoJournal.TheSendSync as no_journal
 use Rattle.chpw_workers.proofs.worker.Worker.TheSendSync as worker
-use Rattle.chpw_pool.specs.contracts.seat.Seat as Seat
-use Rattle.chpw_pool.specs.contracts.seat.EngineCrew as EngineCrew
-use Rattle.chpw_pool.proofs.seat.Seat.TheSendSync as seat
-use Rattle.chpw_pool.proofs.seat.EngineCrew.TheSendSync as crew
+use Rattle.chpw_reactor.specs.contracts.seat.Seat as Seat
+use Rattle.chpw_reactor.specs.contracts.seat.EngineCrew as EngineCrew
+use Rattle.chpw_reactor.proofs.seat.Seat.TheSendSync as seat
+use Rattle.chpw_reactor.proofs.seat.EngineCrew.TheSendSync as crew
 
 crew_sync : (a : NamedLft) (R : RattleType) → IsSync R → IsSync (EngineCrew.the_row a R)
 crew_sync a R r = search (crew.the_sync, sendable) depth 20

@@ -4,7 +4,7 @@ use Rattle.chpw_table.specs.declared.times.Moment.{Moment}
 use Rattle.chpw_serve.specs.WordStreams.{WordStream}
 use Rattle.chpw_book.specs.Passes.{PassView}
 use Rattle.chpw_workers.specs.declared.worker.Worker.{Worker}
-use Rattle.chpw_pool.specs.declared.seat.Seat.{Seat}
+use Rattle.chpw_reactor.specs.declared.seat.Seat.{Seat}
 use Rattle.chpw_pool.specs.PoolWorkers.{IsWorkerOf, AreWorkersFrom}
 
 module _ {R G : Type 0} (key : List ℕ) (passes : List PassView) where

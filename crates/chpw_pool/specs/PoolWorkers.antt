@@ -5,8 +5,8 @@ use Rattle.chpw_serve.specs.WordStreams.{WordStream, stream_start}
 use Rattle.chpw_book.specs.Passes.{PassView}
 use Rattle.chpw_workers.specs.Clocks.{moment_after}
 use Rattle.chpw_workers.specs.declared.worker.Worker.{Worker}
-use Rattle.chpw_pool.specs.declared.seat.Seat.{Seat}
-use Rattle.chpw_pool.specs.Engines.{seat_number, seat_turns}
+use Rattle.chpw_reactor.specs.declared.seat.Seat.{Seat}
+use Rattle.chpw_reactor.specs.Engines.{seat_number, seat_turns}
 
 module _ {R G : Type 0} (key : List ℕ) where
   -- it has the queue of this number, at which it took no turn yet, this gate, the words of its pass's stream from their first

@@ -3,17 +3,16 @@ ghost use Rattle.std.specs.Prelude.{◌≡◌, ◌≢◌, ◌<◌, length, vec_l
 ghost use denote.Param.Send.{IsSend, IsSync};
 ghost use Rattle.rand_chacha.specs.ChaCha.{key_of};
 ghost use Rattle.chpw_serve.specs.WordStreams.{GivesFromTheFirst, stream_start};
-ghost use Rattle.chpw_pool.specs.Pools.{Ends};
+ghost use Rattle.chpw_reactor.specs.Pools.{Ends};
 ghost use Rattle.chpw_pool.specs.PoolWorkers.{AreWorkersOf};
-ghost use Rattle.chpw_pool.specs.declared.options.AcceptLimit.TheVariants as limit;
+ghost use Rattle.chpw_transfers.specs.declared.accept_limit.AcceptLimit.TheVariants as limit;
 
-use crate::engine::{Engine, outcome_of};
-use crate::follower::NoFollower;
-use crate::options::{AcceptLimit, PoolOptions};
-use crate::seat::{EngineCrew, Seat};
 use chpw_book::{Desk, DeskName, Pass};
+use chpw_reactor::{Engine, EngineCrew, NoFollower, Pool, PoolOptions, Seat, outcome_of};
 use chpw_serve::{Gate, Messages, NoGate, Observer, WorkerWords};
+use chpw_sockets::PoolFault;
 use chpw_table::JournalSink;
+use chpw_transfers::AcceptLimit;
 use chpw_workers::{
     BackgroundTask, Context, Crew, MachineClock, NoJournal, NotStarted, Worker, serve_at,
 };
@@ -23,25 +22,6 @@ use std::os::fd::AsRawFd;
 use std::sync::Wait;
 use std::thread::{Scope, Threads};
 use std::{thread, time};
-
-/// Why a pool ended early.
-#[derive(Clone, Copy, PartialEq, Eq, Debug, Drop)]
-pub enum PoolFault {
-    /// The listener failed, or the system has no file for what watches the sockets.
-    Accept,
-    /// A worker's thread could not be started.
-    Start,
-    /// A growth was refused, before the first connection.
-    Memory,
-}
-
-/// The result of a pool.
-#[derive(Clone, Copy, PartialEq, Eq, Debug, Drop)]
-pub struct Pool {
-    /// The connections that were accepted, each until it ended.
-    pub served: u64,
-    pub fault: Option<PoolFault>,
-}
 
 /// A worker of a pool: its place at the engine, its gate, the machine's clock, and its words.
 type PoolWorker<'a, R, T, G> = Worker<Seat<'a, R>, G, MachineClock<'a, T>, WorkerWords>;

@@ -19,11 +19,11 @@ use chpw_client::{LAST_START, LONGEST_PASSWORD, Sent, client_line, client_reques
 use chpw_commands::DrillFault;
 use chpw_frame::{LONGEST_MESSAGE, Received, read_tcp, write_tcp};
 use chpw_invocation::ClientOptions;
-use chpw_pool::machine_moment;
 use chpw_rules::{Config, Name};
 use chpw_serve::WorkerWords;
 use chpw_start::{read_seed, read_settings};
 use chpw_table::Moment;
+use chpw_workers::machine_moment;
 use std::alloc::Global;
 use std::fs::{File, Files};
 use std::io;

@@ -17,7 +17,7 @@ use Rattle.chpw_serve.proofs.DrawLemmas.{drawn_on}
 use Rattle.chpw_messages.specs.Replies.{error_frame, private_frame}
 use Rattle.chpw_messages.specs.Versions.{OpensUnder}
 use Rattle.chpw_book.specs.Passes.{PassView}
-use Rattle.chpw_pool.specs.Engines.{seat_turns}
+use Rattle.chpw_reactor.specs.Engines.{seat_turns}
 use Rattle.chpw_workers.specs.Desks.{AreInOrder, ServedDesk}
 use Rattle.chpw_invocation.specs.declared.invocation.ServeOptions.{ServeOptions}
 use Rattle.chpw_service.specs.Following.{DoesWhatIsDue, TakesRules}

@@ -1,8 +1,8 @@
 -- Why the service ends early: beside a start's faults, those of its control socket and its pool.
 use Rattle.std.specs.Prelude.{◌≡◌, ◌⊎◌, ℕ, List, Option, Some, None}
 use Rattle.std.specs.Borrow.{Bor}
-use Rattle.chpw_pool.specs.declared.pool.PoolFault.{PoolFault}
-use Rattle.chpw_pool.specs.declared.pool.PoolFault.TheVariants as pool
+use Rattle.chpw_sockets.specs.declared.pool_fault.PoolFault.{PoolFault}
+use Rattle.chpw_sockets.specs.declared.pool_fault.PoolFault.TheVariants as pool
 use Rattle.chpw_invocation.specs.declared.invocation.ServeOptions.{ServeOptions}
 use Rattle.chpw_start.specs.declared.fault.ServeFault.{ServeFault}
 use Rattle.chpw_start.specs.declared.fault.ServeFault.TheVariants.{CannotListen, CannotListenAt}

@@ -12,7 +12,7 @@ use Rattle.chpw_serve.specs.WordStreams.{gives_word}
 use Rattle.chpw_messages.specs.Replies.{error_frame, private_frame}
 use Rattle.chpw_messages.specs.Versions.{OpensUnder}
 use Rattle.chpw_book.specs.Passes.{PassView, new_pass}
-use Rattle.chpw_pool.specs.Engines.{seat_turns}
+use Rattle.chpw_reactor.specs.Engines.{seat_turns}
 use Rattle.chpw_workers.specs.Desks.{ServedDesk}
 use Rattle.chpw_reload.specs.Reloads.{IsReload}
 use Rattle.chpw_reload.specs.ReloadRuns.{IsServiceRun}

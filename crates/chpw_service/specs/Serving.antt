@@ -3,9 +3,9 @@ use Rattle.std.specs.Prelude.{◌≡◌, ℕ, List, [], ◌∷◌, Bool, false, 
 use Rattle.chpw_invocation.specs.declared.invocation.ConnectionLimit.{ConnectionLimit}
 use Rattle.chpw_invocation.specs.declared.invocation.ConnectionLimit.TheVariants as asked
 use Rattle.chpw_invocation.specs.declared.invocation.ServeOptions.{ServeOptions}
-use Rattle.chpw_pool.specs.declared.options.AcceptLimit.{AcceptLimit}
-use Rattle.chpw_pool.specs.declared.options.AcceptLimit.TheVariants as limit
-use Rattle.chpw_pool.specs.declared.options.PoolOptions.{PoolOptions}
+use Rattle.chpw_transfers.specs.declared.accept_limit.AcceptLimit.{AcceptLimit}
+use Rattle.chpw_transfers.specs.declared.accept_limit.AcceptLimit.TheVariants as limit
+use Rattle.chpw_reactor.specs.declared.options.PoolOptions.{PoolOptions}
 use Rattle.chpw_book.specs.Passes.{PassView}
 
 -- after as many connections the pool ends, if there is a limit

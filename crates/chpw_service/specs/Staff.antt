@@ -2,8 +2,8 @@
 use Rattle.std.specs.Prelude.{◌≡◌, ℕ, ◌+◌, List, [], ◌∷◌}
 use Rattle.chpw_table.specs.declared.times.Moment.{Moment}
 use Rattle.chpw_serve.specs.WordStreams.{WordStream, stream_start}
-use Rattle.chpw_pool.specs.Engines.{seat_number, seat_turns}
-use Rattle.chpw_pool.specs.declared.seat.Seat.{Seat}
+use Rattle.chpw_reactor.specs.Engines.{seat_number, seat_turns}
+use Rattle.chpw_reactor.specs.declared.seat.Seat.{Seat}
 use Rattle.chpw_workers.specs.Clocks.{moment_after}
 use Rattle.chpw_workers.specs.declared.worker.Worker.{Worker}
 use Rattle.chpw_logging.specs.declared.observers.Logging.{Logging}

@@ -8,8 +8,8 @@ use Rattle.chpw_control.specs.declared.status.JournalState.TheVariants.{Good, Fa
 use Rattle.chpw_control.specs.declared.status.FollowerState.{FollowerState}
 use Rattle.chpw_control.specs.declared.status.FollowerState.TheVariants.{Absent, Confirmed, Unconfirmed}
 use Rattle.chpw_control.specs.declared.time.Time.{Time}
-use Rattle.chpw_pool.specs.Controlling.{sum_of}
-use Rattle.chpw_pool.specs.declared.status_reporter.ConnectionCounts.{ConnectionCounts}
+use Rattle.chpw_transfers.specs.Controlling.{sum_of}
+use Rattle.chpw_transfers.specs.declared.connection_counts.ConnectionCounts.{ConnectionCounts}
 use Rattle.chpw_logging.specs.Facts.{quiet_time}
 use Rattle.chpw_logging.specs.declared.facts.Facts.{Facts}
 use Rattle.chpw_service.specs.declared.status.Readings.{Readings}

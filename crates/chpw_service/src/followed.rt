@@ -5,14 +5,16 @@ ghost use Rattle.chpw_start.specs.Faults.{IsOfJournal};
 ghost use Rattle.chpw_service.specs.Status.{IsStatusAnswer};
 
 use crate::status::{Readings, answer_with, status_of};
+use chpw_connections::Unconfirmed;
 use chpw_control::Time;
 use chpw_invocation::VERSION;
 use chpw_journal::FileSink;
 use chpw_logging::{Log, Notice, is_first};
-use chpw_pool::{ConnectionCounts, Follower, StatusReporter, Unconfirmed};
+use chpw_reactor::{Follower, StatusReporter};
 use chpw_serve::Clock as _;
 use chpw_start::{ServeFault, unread_fault};
 use chpw_table::JournalSink;
+use chpw_transfers::ConnectionCounts;
 use chpw_workers::{JournalEnd, MachineClock};
 use mio::net::{UnixListener, UnixStream};
 use std::alloc::Global;

@@ -3,7 +3,7 @@ ghost use Rattle.std.specs.Prelude.{◌≡◌, ◌≤◌, ◌<◌, ◌-◌, ◌^
 ghost use Rattle.std.specs.Prelude.{List, IfSome, length, vec_len};
 ghost use Rattle.chpw_changelog.specs.Pens.{opening_state, opening_table};
 ghost use Rattle.chpw_book.specs.Starting.{IsNamed, table_of, workers_of};
-ghost use Rattle.chpw_pool.specs.Engines.{workers_at};
+ghost use Rattle.chpw_reactor.specs.Engines.{workers_at};
 ghost use Rattle.chpw_start.specs.Faults.{IsLate};
 ghost use Rattle.chpw_service.specs.Following.{DoesWhatIsDue, reopened};
 ghost use Rattle.chpw_reload.specs.ReloadRuns.{GoesOn, IsServiceRun};
@@ -25,7 +25,7 @@ use chpw_book::{Desk, DeskName, Pass, StartFault, UnnamedDesk};
 use chpw_invocation::ServeOptions;
 use chpw_journal::FileSink;
 use chpw_logging::{Log, LogLines, Logging, Notice, is_first, take_unreported};
-use chpw_pool::{Engine, EngineCrew, Seat};
+use chpw_reactor::{Engine, EngineCrew, Seat};
 use chpw_serve::{Clock as _, WorkerWords};
 use chpw_start::{Rules, ServeFault};
 use chpw_table::{JournalSink, Table};

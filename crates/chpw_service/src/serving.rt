@@ -1,7 +1,7 @@
 //! The service on a port.
 ghost use Rattle.std.specs.Prelude.{◌≡◌, ◌≤◌, IfOk, IfErr, IfSome, IsSome, None, Ok, OnOk, Option, false, true, length};
 ghost use Rattle.chpw_book.specs.Starting.{IsNamed, table_of, workers_of};
-ghost use Rattle.chpw_pool.specs.Engines.{workers_at};
+ghost use Rattle.chpw_reactor.specs.Engines.{workers_at};
 ghost use Rattle.chpw_start.specs.Faults.{IsLate};
 ghost use Rattle.chpw_service.specs.Faults.{IsOfService};
 ghost use Rattle.chpw_changelog.specs.Pens.{opening_state};
@@ -22,12 +22,14 @@ use chpw_book::{Desk, DeskName, Pass};
 use chpw_invocation::{ConnectionLimit, ServeOptions};
 use chpw_journal::{FileSink, Journal};
 use chpw_logging::{Log, Notice, log_of, time_of};
-use chpw_pool::{AcceptLimit, DatagramSocket, Engine, PoolOptions};
+use chpw_reactor::{Engine, PoolOptions};
 use chpw_serve::{Clock as _, Messages as _};
+use chpw_sockets::DatagramSocket;
 use chpw_start::{
     Configuration, Rules, ServeFault, configuration_of, is_shared, open_table, own_ids,
     raise_where_asked, read_seed, refuse_exposed, rules_of, standing_at,
 };
+use chpw_transfers::AcceptLimit;
 use chpw_workers::MachineClock;
 use std::alloc::Global;
 use std::fs::{File, Files};

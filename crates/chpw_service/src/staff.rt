@@ -5,7 +5,7 @@ ghost use Rattle.chpw_service.specs.Staff.{AreStaff};
 
 use crate::histories::ServiceContext;
 use chpw_logging::{LogLines, Logging};
-use chpw_pool::Seat;
+use chpw_reactor::Seat;
 use chpw_serve::WorkerWords;
 use chpw_workers::{MachineClock, Worker};
 use std::alloc::{AllocError, Global};

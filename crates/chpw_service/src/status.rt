@@ -7,8 +7,8 @@ ghost use Rattle.chpw_service.specs.Status.{IsStatusOf, follower_state, journal_
 use crate::answers::answer_or_empty;
 use chpw_control::{FollowerState, JournalState, Status, Time, status_answer};
 use chpw_logging::Facts;
-use chpw_pool::ConnectionCounts;
 use chpw_table::Moment;
+use chpw_transfers::ConnectionCounts;
 use std::alloc::Global;
 
 /// What is read of a service for its status, beside its counters and its connections.

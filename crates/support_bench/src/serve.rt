@@ -5,7 +5,7 @@
 
 mod client;
 
-use chpw_pool::machine_moment;
+use chpw_workers::machine_moment;
 use client::{Client, requests};
 use std::io;
 use std::net::{Net, TcpStream};

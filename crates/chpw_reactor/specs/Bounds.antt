@@ -1,0 +1,16 @@
+-- What connections hold, in bytes and milliseconds.
+use Rattle.std.specs.Prelude.{◌*◌}
+use Rattle.chpw_connections.specs.declared.limits.ConnectionLimits.{ConnectionLimits}
+use Rattle.chpw_reactor.specs.declared.options.PoolOptions.{PoolOptions}
+
+-- a message under way is left alone for a second, waits at most five seconds for its worker, and an end at most a
+-- second
+abbrev pub bounds_asked : PoolOptions → ConnectionLimits
+bounds_asked t = record {
+  connections = t.clients;
+  bytes = t.buffers * 1048576;
+  idle = t.idle * 1000;
+  grace = 1000;
+  wait = 5000;
+  linger = 1000;
+}

@@ -1,0 +1,21 @@
+//! The reactor: one thread that waits for all sockets, and the engine that it shares with the workers, who take their messages and give
+//! their replies at seats there. The service starts both.
+#![tactic(auto)]
+
+mod attending;
+mod datagrams;
+mod engine;
+mod follower;
+mod following;
+mod options;
+mod outcome;
+mod reactor;
+mod seat;
+mod status_reporter;
+
+pub use engine::Engine;
+pub use follower::{Follower, NoFollower};
+pub use options::PoolOptions;
+pub use outcome::{Pool, outcome_of};
+pub use seat::{EngineCrew, Seat};
+pub use status_reporter::StatusReporter;

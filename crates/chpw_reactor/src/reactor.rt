@@ -1,0 +1,357 @@
+//! The reactor: one thread that has the listener and waits for all sockets, and never for one of them alone. The
+//! sockets are under the lock that it shares with the workers.
+
+ghost use Rattle.std.specs.Prelude.{◌≡◌, ◌&&◌, ◌||◌, [], is_some, true, false, Some, None};
+ghost use Rattle.chpw_transfers.specs.Accepting.{is_ready};
+ghost use Rattle.chpw_transfers.specs.Bounded.{allows_more};
+ghost use Rattle.chpw_reactor.specs.Reports.{is_control, is_datagrams, is_follower, reported_at, source_of};
+
+use crate::attending::ControlPort;
+use crate::engine::{Engine, milliseconds};
+use crate::follower::Follower;
+use crate::following::FollowerLink;
+use crate::status_reporter::StatusReporter;
+use chpw_sockets::{STEPS, Selector};
+use chpw_transfers::{
+    AcceptLimit, Entrance, EventSource, LISTENER, Newcomer, Noting, Progress, Shortage,
+    is_round_due, look_at_noted, slot_at_turn,
+};
+use mio::event::Event;
+use mio::unix::SourceFd;
+use mio::{Events, Interest, Registry};
+use std::net::{OpenListener, TcpStream};
+use std::os::fd::AsRawFd;
+use std::sync::{MutexGuard, Wait};
+use std::time::{Clock, Duration};
+
+/// How many connections are accepted before the other sockets get their turn again.
+const ACCEPTS: u32 = 64;
+
+/// After how many connections of a round the control socket is checked.
+const BETWEEN: usize = 64;
+
+/// Reports to the connections what happens at the sockets, and does what they ask for.
+#[derive(Drop)]
+pub(crate) struct Reactor<'a, R, L, F> {
+    pub rt: &'a R,
+    pub engine: &'a Engine,
+    listener: &'a L,
+    pub link: FollowerLink<F>,
+    /// How many there may be at a time: the slots are the numbers below.
+    pub clients: usize,
+    pub entrance: Entrance,
+    /// When connections whose time is up were last looked for.
+    looked: u64,
+    /// The slot at which the next round over all begins.
+    first: usize,
+    /// Whether datagrams may have come.
+    pub has_datagrams: bool,
+    pub port: ControlPort,
+    /// Whether it ends once what is under way is finished.
+    pub is_stopping: bool,
+}
+
+impl Engine {
+    /// Accepts so many connections, or as many as the listener can; reads their messages and passes them to the
+    /// workers, connection i (from 0) to worker i modulo their number; and writes the replies. It returns once each
+    /// connection has ended, or the engine is deserted. Then no message will come any more. Replies to changes wait for
+    /// the follower, as the workers ask for it. It answers questions at the control socket itself; orders are for the
+    /// thread that takes them (`next_order`). When it is to stop, it accepts no more, ends the connections that wait
+    /// for their clients' messages, and goes on until each reply is written and each order answered.
+    pub fn react<
+        R: Wait + Clock,
+        L: OpenListener<Stream = TcpStream> + AsRawFd,
+        F: Follower + StatusReporter + Drop,
+    >(&self, rt: &R, listener: &L, connections: AcceptLimit, mut follower: F) {
+        let clients = self.hub.lock(rt).sockets.by_slot.len();
+        let mut selector = self.selector.lock(rt);
+        let port = ControlPort::open(follower.listener(), selector.poll.registry());
+        let mut reactor = Reactor {
+            rt,
+            engine: self,
+            listener,
+            link: FollowerLink::new(follower),
+            clients,
+            entrance: Entrance::new(connections),
+            looked: milliseconds(rt),
+            first: 0,
+            has_datagrams: true,
+            port,
+            is_stopping: false,
+        };
+        reactor.listen(selector.poll.registry());
+        reactor.run(&mut *selector);
+        reactor.tell_last();
+        self.finish(rt);
+    }
+}
+
+impl<
+    'a,
+    R: Wait + Clock,
+    L: OpenListener<Stream = TcpStream> + AsRawFd,
+    F: Follower + StatusReporter + Drop,
+> Reactor<'a, R, L, F> {
+    // Registers the listener.
+    fn listen(&mut self, registry: &Registry) {
+        let descriptor = self.listener.as_raw_fd();
+        let is_watched = self.listener.set_nonblocking(true).is_ok()
+            && registry
+                .register(&mut SourceFd(&descriptor), LISTENER, Interest::READABLE)
+                .is_ok();
+        if !is_watched {
+            self.entrance.fail();
+        }
+    }
+
+    // Handles what is ready, until there is nothing left to do.
+    fn run(&mut self, selector: &mut Selector) {
+        let rt = self.rt;
+        let Selector { poll, events } = selector;
+        for _ in rt.forever() {
+            if self.is_done() {
+                return;
+            }
+            let patience = Some(Duration::from_millis(self.patience()));
+            if poll.poll(events, patience).is_err() {
+                return;
+            }
+            self.look_at_events(events);
+            self.follow(poll.registry());
+            self.attend(poll.registry());
+            self.end_idle_where_stopping();
+            look_at_noted(self);
+            self.accept();
+            self.take_datagrams();
+            self.look_for_late(poll.registry());
+        }
+    }
+
+    // Whether nothing is left to do, or nobody is left to answer.
+    fn is_done(&self) -> bool {
+        let has_orders = self.engine.control.lock(self.rt).has_orders();
+        let hub = self.engine.hub.lock(self.rt);
+        hub.state
+            .is_done(self.entrance.wanted, self.entrance.accepting, has_orders)
+    }
+
+    // How long to wait for the next event.
+    fn patience(&self) -> u64 {
+        let hub = self.engine.hub.lock(self.rt);
+        let accepted = hub.state.connections.accepted_count();
+        let may_come = self.entrance.can_accept(accepted) || self.can_take_datagram(accepted);
+        let patience = hub.state.patience(may_come, self.entrance.accepting);
+        MutexGuard::unlock(hub);
+        self.port_patience(patience)
+    }
+
+    /// Whether a datagram may have come, and may count as one more connection, after this many.
+    pub fn can_take_datagram(&self, accepted: u64) -> bool
+        ensures value { result ≡ (self.now.has_datagrams && allows_more self.now.entrance.wanted accepted) }
+    {
+        self.has_datagrams && self.entrance.wants_more(accepted)
+    }
+
+    // Handles each socket that was reported.
+    fn look_at_events(&mut self, events: &Events) {
+        for event in events.iter() {
+            self.look_at(event);
+        }
+    }
+
+    // Handles a connection's socket that was reported, and notes what else was.
+    fn look_at(&mut self, event: &Event)
+        ensures entrance { self.new.entrance ≡ reported_at (source_of event.now self.old.clients) self.old.entrance }
+        ensures follower { self.new.link.is_reported ≡ (is_follower (source_of event.now self.old.clients) || self.old.link.is_reported) }
+        ensures datagrams { self.new.has_datagrams ≡ (is_datagrams (source_of event.now self.old.clients) || self.old.has_datagrams) }
+        ensures control { self.new.port.is_due ≡ (is_control (source_of event.now self.old.clients) || self.old.port.is_due) }
+    {
+        let source = EventSource::of(event.token(), self.clients);
+        self.note(source);
+        if let EventSource::Connection(slot) = source {
+            if event.is_error() {
+                self.engine.hub.lock(self.rt).look_for_error(slot);
+            }
+            self.drive(slot);
+        }
+    }
+
+    // Notes what was reported, unless it is a connection's socket: it is handled after all that were reported.
+    fn note(&mut self, source: EventSource)
+        ensures entrance { self.new.entrance ≡ reported_at source self.old.entrance }
+        ensures follower { self.new.link.is_reported ≡ (is_follower source || self.old.link.is_reported) }
+        ensures datagrams { self.new.has_datagrams ≡ (is_datagrams source || self.old.has_datagrams) }
+        ensures control { self.new.port.is_due ≡ (is_control source || self.old.port.is_due) }
+    {
+        match source {
+            EventSource::Listener => self.entrance.report(),
+            EventSource::Follower => self.link.is_reported = true,
+            EventSource::Datagrams => self.has_datagrams = true,
+            EventSource::Control => self.port.is_due = true,
+            EventSource::Connection(_) => {}
+        }
+    }
+
+    // Ends the connections whose time is up, once a tick.
+    fn look_for_late(&mut self, registry: &Registry) {
+        let now = milliseconds(self.rt);
+        if !is_round_due(self.looked, now) {
+            return;
+        }
+        self.looked = now;
+        self.port.is_due = true;
+        self.entrance.pass(now);
+        self.release_overdue();
+        let had = self.pass(now);
+        self.look_round(registry, had.is_any());
+    }
+
+    // Time passes for all connections, and a round begins, with the shortage of room in the last one.
+    fn pass(&self, now: u64) -> Shortage {
+        self.engine.hub.lock(self.rt).state.pass(now)
+    }
+
+    // Handles each connection for which something is to be done although nothing was reported. The next round begins at
+    // the one for which there was no room in this one, so that all get room in turn.
+    fn look_round(&mut self, registry: &Registry, reads: bool) {
+        let slots = self.clients;
+        let first = self.first;
+        let mut is_short = false;
+        for turn in 0..slots {
+            let slot = slot_at_turn(first, slots, turn);
+            if slot % BETWEEN == 0 {
+                self.attend(registry);
+            }
+            let hub = self.engine.hub.lock(self.rt);
+            let is_due = hub.state.is_to_be_looked_at(slot, reads);
+            MutexGuard::unlock(hub);
+            if is_due {
+                self.drive(slot);
+                self.port.is_due = true;
+                if !is_short && self.is_short() {
+                    is_short = true;
+                    self.first = slot;
+                }
+            }
+        }
+    }
+
+    // Whether there was no room for a message in this round.
+    fn is_short(&self) -> bool {
+        self.engine.hub.lock(self.rt).state.shortage.is_any()
+    }
+
+    /// Does what is to be done for a connection, as far as its socket allows without blocking.
+    pub fn drive(&self, slot: usize) {
+        for _ in 0..STEPS {
+            if self.step(slot) == Progress::None {
+                return;
+            }
+        }
+        self.engine.hub.lock(self.rt).state.look_again(slot);
+    }
+
+    // One step of it.
+    fn step(&self, slot: usize) -> Progress {
+        let now = milliseconds(self.rt);
+        let progress = self.engine.hub.lock(self.rt).step(slot, now);
+        if let Progress::Queued(worker) = progress {
+            self.engine.call(worker);
+        }
+        progress
+    }
+
+    // Accepts the connections that have come.
+    fn accept(&mut self) {
+        for _ in 0..ACCEPTS {
+            let accepted = self
+                .engine
+                .hub
+                .lock(self.rt)
+                .state
+                .connections
+                .accepted_count();
+            if self.entrance.can_accept(accepted) {
+                self.next();
+            }
+            match self.entrance.take() {
+                None => return,
+                Some(newcomer) => {
+                    if !self.admit(newcomer) {
+                        return;
+                    }
+                }
+            }
+        }
+    }
+
+    // Takes the next connection of the listener, if one has come. If none has, the listener isn't asked again before it
+    // is reported or time has passed.
+    fn next(&mut self)
+        ensures came { is_some self.new.entrance.pending ≡ false → is_ready self.new.entrance.accepting ≡ false }
+        ensures wanted { self.new.entrance.wanted ≡ self.old.entrance.wanted }
+    {
+        match self.listener.accept() {
+            Ok((stream, address)) => self.entrance.keep(Newcomer { stream, address }),
+            Err(error) => self.entrance.stumble(&error, milliseconds(self.rt)),
+        }
+    }
+
+    // Admits a connection; whether there was room. If there are as many as allowed, in all or over TCP, the one that has waited longest for
+    // its client ends to make room; if none waits for its client, the new one is kept until there is room.
+    fn admit(&mut self, newcomer: Newcomer) -> bool
+        ensures kept { result ≡ false → self.new.entrance ≡ record self.old.entrance { pending = Some newcomer } }
+        ensures admitted { result ≡ true → self.new.entrance ≡ self.old.entrance }
+    {
+        if let Some(ended) = self.make_room() {
+            self.drive(ended);
+        }
+        let now = milliseconds(self.rt);
+        let admitted = self.engine.hub.lock(self.rt).admit(newcomer, now);
+        match self.entrance.settle(admitted) {
+            None => false,
+            Some(slot) => {
+                self.drive(slot);
+                true
+            }
+        }
+    }
+
+    fn make_room(&self) -> Option<usize> {
+        self.engine.hub.lock(self.rt).make_room()
+    }
+}
+
+impl<
+    'a,
+    R: Wait + Clock,
+    L: OpenListener<Stream = TcpStream> + AsRawFd,
+    F: Follower + StatusReporter + Drop,
+> Noting for Reactor<'a, R, L, F> {
+    // They are under the lock, where others note slots too.
+    ghost noted = { λ reactor. None };
+
+    ghost looked_at = { λ reactor. [] };
+
+    fn count(&self) -> usize {
+        self.engine
+            .hub
+            .lock(self.rt)
+            .state
+            .connections
+            .changed_count()
+    }
+
+    fn look_at_first(&mut self) {
+        let first = self
+            .engine
+            .hub
+            .lock(self.rt)
+            .state
+            .connections
+            .take_changed();
+        if let Some(slot) = first {
+            self.drive(slot);
+        }
+    }
+}

@@ -1,0 +1,29 @@
+//! The service's side of its control socket.
+
+use crate::follower::NoFollower;
+use chpw_control::put_error;
+use chpw_transfers::ConnectionCounts;
+use mio::net::UnixListener;
+use std::alloc::Global;
+
+/// Answers for the service at its control socket.
+pub trait StatusReporter {
+    /// The socket's listener, which doesn't block; it is asked for once. None without a control socket.
+    fn listener(&mut self) -> Option<UnixListener>;
+
+    /// The answer to `status` for this standing of the connections. Empty if memory is refused.
+    fn status(&mut self, alloc: Global, standing: &ConnectionCounts) -> Vec<u8>;
+}
+
+/// No control socket.
+impl StatusReporter for NoFollower {
+    fn listener(&mut self) -> Option<UnixListener> {
+        None
+    }
+
+    fn status(&mut self, alloc: Global, _standing: &ConnectionCounts) -> Vec<u8> {
+        let mut text = Vec::new(alloc);
+        let _ = put_error(&mut text, "no service");
+        text
+    }
+}

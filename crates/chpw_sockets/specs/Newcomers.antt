@@ -1,0 +1,29 @@
+-- The connections of a pool at its start, and how one more comes.
+use Rattle.std.specs.Prelude.{◌≡◌, ◌⊎◌, ℕ, List, false}
+use Rattle.slab.specs.Slab.{Slab, slab_len}
+use Rattle.chpw_connections.specs.Held.{slots_of}
+use Rattle.chpw_connections.specs.Sets.{Happens, IsNew}
+use Rattle.chpw_connections.specs.Stages.{failed}
+use Rattle.chpw_connections.specs.declared.connection.Connection.{Connection}
+use Rattle.chpw_follower.specs.Asks.{at_start}
+use Rattle.chpw_transfers.specs.declared.state.State.{State}
+
+-- no connections, nothing to ask the follower, and workers take messages
+pub record IsBegun (s : State) : Type 0 where
+  pub none : slab_len (slots_of s.connections) ≡ 0
+  pub is : s ≡ record {
+    connections = s.connections;
+    is_stopped = false;
+    is_over = false;
+    is_deserted = false;
+    has_newcomer = false;
+    shortage = record { of_large = false; of_small = false };
+    asking = at_start;
+    is_of_former = false;
+  }
+
+-- a new connection, which has ended if its socket can't be watched
+pub record IsAdmitted (peer : List ℕ) (now number : ℕ) (old new : Slab Connection) (slot : ℕ) : Type 0 where
+  pub accepted : Slab Connection
+  pub is_new : IsNew peer now number old accepted slot
+  pub goes_on : Happens 0 accepted new slot failed ⊎ (new ≡ accepted)

@@ -1,0 +1,205 @@
+//! The connections with their sockets, which reactor and workers share under one lock.
+ghost use Rattle.slab.specs.Slab.{get, slab_len};
+ghost use Rattle.std.specs.Prelude.{◌≡◌, ◌≢◌, ◌<◌, ◌==◌, ◌⊎◌, ℕ, nat_lt, length, slice_get, if◌then◌else◌};
+ghost use Rattle.std.specs.Prelude.{IfSome, IfOk, IfErr, Err, None, is_err, is_some, false, true};
+ghost use Rattle.chpw_connections.specs.Held.{slots_of, bounds_of, accepted_by};
+ghost use Rattle.chpw_connections.specs.Queues.{workers_of};
+ghost use Rattle.chpw_connections.specs.Todos.{todo_in};
+ghost use Rattle.chpw_connections.specs.declared.todo.Todo.TheVariants as todo;
+ghost use Rattle.chpw_connections.specs.Sets.{Happens, IsLongest, NobodyWaits};
+ghost use Rattle.chpw_connections.specs.Stages.{failed};
+ghost use Rattle.chpw_connections.specs.Turns.{slot_of};
+ghost use Rattle.chpw_transfers.specs.Steps.{IsCalled, StepsUntold, RunsTo, Answers};
+ghost use Rattle.chpw_transfers.specs.Datagrams.{DropsDatagram};
+ghost use Rattle.chpw_sockets.specs.Deciding.{AreElsewhere, IsFree, IsFresh, Queues};
+ghost use Rattle.chpw_transfers.specs.Following.{awaited};
+ghost use Rattle.chpw_sockets.specs.Newcomers.{IsAdmitted, IsBegun};
+ghost use Rattle.chpw_sockets.specs.Places.{RemainsAt, StaysAt};
+ghost use Rattle.chpw_sockets.specs.Faults.{IsUnmade};
+ghost use Rattle.chpw_sockets.specs.Addresses.{peer_in};
+ghost use Rattle.chpw_sockets.specs.Shares.{may_place_stream};
+ghost use Rattle.chpw_transfers.specs.declared.state.Progress.TheVariants as progress;
+
+use crate::addresses::peer_of;
+use crate::places::Sockets;
+use crate::pool_fault::PoolFault;
+use crate::sockets::Selector;
+use crate::udp::DatagramSocket;
+use chpw_connections::{ConnectionLimits, Connections, Todo, Turn};
+use chpw_transfers::{Newcomer, Progress, State};
+use std::alloc::Global;
+use std::net::TcpStream;
+
+/// How many steps a connection makes before the others get their turn again.
+pub const STEPS: u32 = 64;
+
+/// The connections and their sockets. The worker that has answered a message writes the reply.
+#[derive(Drop)]
+pub struct Hub {
+    pub state: State,
+    pub sockets: Sockets<mio::net::TcpStream, mio::net::UdpSocket>,
+}
+
+impl Hub {
+    /// No connections yet, for this many workers, but at least one; within these bounds, and with a place for the socket
+    /// of each connection. With a socket for them, messages come as datagrams too. `Accept` if the system can't watch
+    /// that socket, `Memory` if a growth is refused.
+    pub fn new(
+        alloc: Global,
+        selector: &Selector,
+        bounds: ConnectionLimits,
+        workers: usize,
+        datagrams: Option<DatagramSocket>,
+    ) -> Result<Hub, PoolFault>
+        ensures begun { IfOk result (λ hub. IsBegun hub.state) }
+        ensures bounds { IfOk result (λ hub. bounds_of hub.state.connections ≡ bounds) }
+        ensures workers { IfOk result (λ hub. workers_of hub.state.connections ≡ (if workers == 0 then 1 else workers)) }
+        ensures fault { IfErr result IsUnmade }
+    {
+        let Ok(connections) = Connections::new(alloc, bounds, workers) else {
+            return Err(PoolFault::Memory);
+        };
+        let sockets = Sockets::new(alloc, selector, bounds.connections, datagrams)?;
+        Ok(Hub {
+            state: State::new(connections),
+            sockets,
+        })
+    }
+
+    /// Admits a connection that has come: its slot. If there are as many as allowed, in all or over TCP, it is handed
+    /// back, and a client waits for room. One whose socket can't be watched ends.
+    pub fn admit(&mut self, newcomer: Newcomer, now: u64) -> Result<usize, Newcomer>
+        ensures admitted { IfOk result (λ slot. IsAdmitted (peer_in newcomer.address) now (accepted_by self.old.state.connections)
+            (slots_of self.old.state.connections) (slots_of self.new.state.connections) slot) }
+        ensures placed { IfOk result (λ slot. slot < length self.old.sockets.by_slot.items → IsFresh self.new.sockets.by_slot.items slot) }
+        ensures others { IfOk result (λ slot. AreElsewhere self.old.sockets.by_slot.items self.new.sockets.by_slot.items slot) }
+        ensures full { nat_lt (slab_len (slots_of self.old.state.connections)) (bounds_of self.old.state.connections).connections ≡ false
+            → result ≡ Err newcomer }
+        ensures few { may_place_stream (is_some self.old.sockets.datagrams) self.old.sockets.by_slot.items ≡ false → result ≡ Err newcomer }
+        ensures kept { IfErr result (λ back. (back ≡ newcomer) × (self.new.state.connections ≡ self.old.state.connections)
+            × (self.new.sockets ≡ self.old.sockets)) }
+        ensures noted { self.new.state.has_newcomer ≡ is_err result }
+    {
+        if !self.sockets.may_put() {
+            self.state.has_newcomer = true;
+            return Err(newcomer);
+        }
+        match self.state.accept(peer_of(newcomer.address), now) {
+            None => Err(newcomer),
+            Some(slot) => {
+                self.put(slot, newcomer.stream);
+                Ok(slot)
+            }
+        }
+    }
+
+    /// Does what is to be done for a connection, in one call of its socket.
+    #[tactic(auto, using(crate::proofs::StepLemmas::untold_step))]
+    pub fn step(&mut self, slot: usize, now: u64) -> Progress
+        ensures steps { StepsUntold (bounds_of self.old.state.connections) now
+            (todo_in (get (slots_of self.old.state.connections) slot))
+            (slots_of self.old.state.connections) (slots_of self.new.state.connections) slot }
+        ensures others { AreElsewhere self.old.sockets.by_slot.items self.new.sockets.by_slot.items slot }
+        ensures kept { todo_in (get (slots_of self.old.state.connections) slot) ≢ todo.Close
+            → StaysAt (todo_in (get (slots_of self.old.state.connections) slot))
+            (slice_get self.old.sockets.by_slot.items slot) (slice_get self.new.sockets.by_slot.items slot) }
+        ensures closed { todo_in (get (slots_of self.old.state.connections) slot) ≡ todo.Close
+            → IsFree self.new.sockets.by_slot.items slot }
+        ensures idle { todo_in (get (slots_of self.old.state.connections) slot) ≢ todo.Close → result ≡ progress.None
+            → slots_of self.new.state.connections ≡ slots_of self.old.state.connections }
+        ensures queued { IsCalled (workers_of self.old.state.connections) (get (slots_of self.new.state.connections) slot) result }
+        ensures bounds { bounds_of self.new.state.connections ≡ bounds_of self.old.state.connections }
+    {
+        self.sockets.step(&mut self.state, slot, now)
+    }
+
+    /// If there are as many connections as allowed, in all or over TCP, ends the one that has waited longest for its
+    /// client: its slot, if one ended.
+    pub fn make_room(&mut self) -> Option<usize>
+        ensures needed { may_place_stream (is_some self.old.sockets.datagrams) self.old.sockets.by_slot.items ≡ true
+            → nat_lt (slab_len (slots_of self.old.state.connections)) (bounds_of self.old.state.connections).connections ≡ true
+            → (result ≡ None) × (self.new.state ≡ self.old.state) }
+        ensures ended { IfSome result (λ slot. IsLongest (slots_of self.old.state.connections) slot
+            × Happens 0 (slots_of self.old.state.connections) (slots_of self.new.state.connections) slot failed) }
+        ensures nobody { may_place_stream (is_some self.old.sockets.datagrams) self.old.sockets.by_slot.items ≡ false
+            → result ≡ None → NobodyWaits (slots_of self.old.state.connections) }
+        ensures sockets { self.new.sockets ≡ self.old.sockets }
+    {
+        let may_put = self.sockets.may_put();
+        self.state.make_room(may_put)
+    }
+
+    // Stores the socket of a connection that was just accepted. If it can't be watched, the connection ends.
+    fn put(&mut self, slot: usize, stream: TcpStream)
+        requires room { may_place_stream (is_some self.old.sockets.datagrams) self.old.sockets.by_slot.items ≡ true }
+        ensures put { Happens 0 (slots_of self.old.state.connections) (slots_of self.new.state.connections) slot failed
+            ⊎ (self.new.state ≡ self.old.state) }
+        ensures placed { slot < length self.old.sockets.by_slot.items → IsFresh self.new.sockets.by_slot.items slot }
+        ensures others { AreElsewhere self.old.sockets.by_slot.items self.new.sockets.by_slot.items slot }
+        ensures rest { self.new.state ≡ record self.old.state { connections = self.new.state.connections } }
+    {
+        if !self.sockets.put(slot, stream) {
+            self.state.connections.fail(slot);
+        }
+    }
+
+    /// Reads the next datagram, if one has come.
+    pub fn take_datagram(&mut self, now: u64) -> Progress
+        ensures queued { IfSome self.old.sockets.datagrams (λ d. (worker : ℕ) → result ≡ progress.Queued worker
+            → Queues d self.old.sockets.by_slot.items self.new.sockets.by_slot.items
+            (bounds_of self.old.state.connections) now (accepted_by self.old.state.connections)
+            (slots_of self.old.state.connections) (slots_of self.new.state.connections) worker (workers_of self.old.state.connections)) }
+        ensures idle { result ≡ progress.None → self.new.state ≡ self.old.state }
+        ensures bounds { bounds_of self.new.state.connections ≡ bounds_of self.old.state.connections }
+        ensures dropped { result ≡ progress.Some → DropsDatagram (slots_of self.old.state.connections) (slots_of self.new.state.connections) }
+        ensures kept { result ≡ progress.Some → self.new.sockets.by_slot.items ≡ self.old.sockets.by_slot.items }
+    {
+        self.sockets.take_datagram(&mut self.state, now)
+    }
+
+    /// Ends a connection whose socket has failed; a message of it that waits is dropped.
+    pub fn look_for_error(&mut self, slot: usize)
+        ensures looked { Happens 0 (slots_of self.old.state.connections) (slots_of self.new.state.connections) slot failed
+            ⊎ (self.new.state ≡ self.old.state) }
+        ensures sockets { self.new.sockets ≡ self.old.sockets }
+        ensures rest { self.new.state ≡ record self.old.state { connections = self.new.state.connections } }
+    {
+        if self.sockets.has_failed(slot) {
+            self.state.connections.fail(slot);
+        }
+    }
+
+    /// A worker's reply to the message that it took, or the word that there is none, for the connection that the message
+    /// came from. Unless it waits for the follower, as much of the reply is written as the socket takes, and after it as
+    /// much of the next message is read as has come: it waits for the same worker, which checks its queue next.
+    pub fn answer(&mut self, turn: Turn, now: u64)
+        ensures answers { Answers (bounds_of self.old.state.connections) now (awaited self.old.state.asking turn.change)
+            turn.reply (slots_of self.old.state.connections) (slots_of self.new.state.connections) (slot_of turn.taken) }
+        ensures others { AreElsewhere self.old.sockets.by_slot.items self.new.sockets.by_slot.items (slot_of turn.taken) }
+        ensures kept { RemainsAt (slice_get self.old.sockets.by_slot.items (slot_of turn.taken))
+            (slice_get self.new.sockets.by_slot.items (slot_of turn.taken)) }
+    {
+        let slot = turn.taken.slot();
+        self.state.answer(turn, now);
+        self.run(slot, now);
+    }
+
+    // Does one thing after the other for a connection, as far as its socket allows without blocking, or until a message
+    // waits for its worker. A connection that has ended is left to the reactor, which counts them.
+    fn run(&mut self, slot: usize, now: u64)
+        ensures runs { RunsTo (bounds_of self.old.state.connections) now slot (slots_of self.old.state.connections) (slots_of self.new.state.connections) }
+        ensures others { AreElsewhere self.old.sockets.by_slot.items self.new.sockets.by_slot.items slot }
+        ensures kept { RemainsAt (slice_get self.old.sockets.by_slot.items slot) (slice_get self.new.sockets.by_slot.items slot) }
+    {
+        for _ in 0..STEPS {
+            if self.state.connections.todo(slot) == Todo::Close {
+                return;
+            }
+            match self.step(slot, now) {
+                Progress::Some => {}
+                Progress::Queued(_) | Progress::None => return,
+            }
+        }
+        self.state.look_again(slot);
+    }
+}

@@ -1,0 +1,20 @@
+//! The sockets of connections and datagrams: which place each has, and what one call of a socket does for its connection. The reactor
+//! and the workers share them, with the connections, under one lock.
+#![tactic(auto)]
+
+mod addresses;
+mod channel;
+mod deciding;
+mod hub;
+mod places;
+mod pool_fault;
+mod shares;
+mod sockets;
+mod udp;
+
+pub use channel::{Channel, DatagramChannel};
+pub use hub::{Hub, STEPS};
+pub use places::Sockets;
+pub use pool_fault::PoolFault;
+pub use sockets::{Selector, Socket, Transport};
+pub use udp::{Datagram, DatagramSocket, Datagrams};

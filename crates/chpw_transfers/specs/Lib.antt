@@ -1,0 +1,9 @@
+pub mod Accepting
+pub mod Bounded
+pub mod Controlling
+pub mod Datagrams
+pub mod Following
+pub mod Rounds
+pub mod Steps
+pub mod Tokens
+pub mod Transfers

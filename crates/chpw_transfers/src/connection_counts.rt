@@ -1,0 +1,49 @@
+//! How many connections are in each stage.
+ghost use Rattle.std.specs.Prelude.{◌≡◌, ◌-◌, ◌^◌, ◌||◌, min};
+ghost use Rattle.chpw_transfers.specs.Controlling.{sum_of};
+
+/// How many connections there are, by their stages, and whether the follower is behind.
+#[derive(Clone, Copy, PartialEq, Eq, Debug, Drop)]
+pub struct ConnectionCounts {
+    /// Those whose message is being read.
+    pub reading: usize,
+    /// Those whose message waits for a worker.
+    pub waiting: usize,
+    /// Those whose message a worker answers.
+    pub answering: usize,
+    /// Those whose reply waits for the follower.
+    pub confirming: usize,
+    /// Those whose reply is being written.
+    pub writing: usize,
+    /// Those that are ending.
+    pub ending: usize,
+    /// Whether the follower is asked about a change, or the last reply to a change was sent unconfirmed.
+    pub is_behind: bool,
+}
+
+impl ConnectionCounts {
+    /// Those of all stages.
+    pub fn connections(&self) -> usize
+        ensures value { result ≡ min (sum_of self.now) (2 ^ 64 - 1) }
+    {
+        let coming = self
+            .reading
+            .saturating_add(self.waiting)
+            .saturating_add(self.answering);
+        let going = self
+            .confirming
+            .saturating_add(self.writing)
+            .saturating_add(self.ending);
+        coming.saturating_add(going)
+    }
+
+    /// These, with the follower behind if it says so, or was already.
+    pub fn with_follower(self, is_behind: bool) -> ConnectionCounts
+        ensures value { result ≡ record self { is_behind = self.is_behind || is_behind } }
+    {
+        ConnectionCounts {
+            is_behind: self.is_behind || is_behind,
+            ..self
+        }
+    }
+}

@@ -1,0 +1,27 @@
+//! What connections, the follower and callers at the control socket are given and give, at any reader and writer: the state that
+//! reactor and workers share, each read and write, and when a connection is accepted. Without a socket of its own, a clock or a thread.
+#![tactic(auto)]
+
+mod accept_limit;
+mod accepting;
+mod confirming;
+mod connection_counts;
+mod control;
+mod entrance;
+mod input_output;
+mod one_message;
+mod rounds;
+mod state;
+mod tokens;
+mod transfer;
+
+pub use accept_limit::AcceptLimit;
+pub use accepting::Accepting;
+pub use connection_counts::ConnectionCounts;
+pub use control::{CALLERS, Control};
+pub use entrance::{Entrance, Newcomer};
+pub use one_message::reply_of_datagram;
+pub use rounds::{Noting, is_round_due, look_at_noted, slot_at_turn};
+pub use state::{Progress, Shortage, State, TICK};
+pub use tokens::{CONTROL, DATAGRAMS, EventSource, FOLLOWER, LISTENER, WAKER};
+pub use transfer::Transfer;

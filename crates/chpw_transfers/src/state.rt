@@ -1,0 +1,309 @@
+//! The connections, as reactor and workers see them under their lock.
+ghost use Rattle.std.specs.Prelude.{◌≡◌, ◌≢◌, ◌<◌, ◌⊎◌, ◌||◌, ◌&&◌, not, ℕ, [], ◌∷◌, length, nat_lt};
+ghost use Rattle.std.specs.Prelude.{IfSome, IfNone, is_none, Some, None, true, false};
+ghost use Rattle.slab.specs.Slab.{get, slab_len};
+ghost use Rattle.chpw_connections.specs.Held.{accepted_by, slots_of, bounds_of};
+ghost use Rattle.chpw_connections.specs.Noting.{noted_by, is_noted_by, NotesEach};
+ghost use Rattle.chpw_connections.specs.Queues.{queue_of, DropsLate};
+ghost use Rattle.chpw_connections.specs.Todos.{todo_in};
+ghost use Rattle.chpw_connections.specs.Sets.{Happens, IsLongest, IsNew, NobodyWaits, Passes, queued_at, is_late_in};
+ghost use Rattle.chpw_connections.specs.Stages.{taken, failed};
+ghost use Rattle.chpw_connections.specs.Turns.{slot_of, message_of, peer_of};
+ghost use Rattle.chpw_follower.specs.Asks.{at_start};
+ghost use Rattle.chpw_transfers.specs.Following.{is_waited_for as is_waited};
+ghost use Rattle.chpw_transfers.specs.Steps.{is_short_for, short_of};
+ghost use Rattle.chpw_transfers.specs.Controlling.{IsCounted, sum_of};
+ghost use Rattle.chpw_transfers.specs.Rounds.{is_done, is_finished, is_looked_at, is_reading, milliseconds_to_wait, wants_reactor};
+
+use crate::accept_limit::AcceptLimit;
+use crate::accepting::Accepting;
+use crate::connection_counts::ConnectionCounts;
+use chpw_connections::{Connections, Counted, TakenMessage, Todo};
+use chpw_follower::FollowerDialog;
+
+/// The milliseconds between two searches for connections whose time is up.
+pub const TICK: u64 = 100;
+
+/// The milliseconds between two searches for replies that wait for the follower.
+const SOON: u64 = 20;
+
+/// The milliseconds between two rounds of a reactor without connections.
+const REST: u64 = 1_000;
+
+/// The connections, and whether workers are to take messages.
+#[derive(Drop)]
+pub struct State {
+    pub connections: Connections,
+    /// The workers take no message until the next desk.
+    pub is_stopped: bool,
+    /// No message will come any more.
+    pub is_over: bool,
+    /// Nobody is left to answer.
+    pub is_deserted: bool,
+    /// A client has connected for whom there is no room yet.
+    pub has_newcomer: bool,
+    /// What there was no room for in this round.
+    pub shortage: Shortage,
+    /// What the follower is asked.
+    pub asking: FollowerDialog,
+    /// The connection to the follower concerns a journal that another one has replaced: what comes there is ignored.
+    pub is_of_former: bool,
+}
+
+/// Whether a message wasn't read for want of room. Others of its kind wait with it for the next round, so that all get
+/// room in turn.
+#[derive(Clone, Copy, PartialEq, Eq, Debug, Default, Drop)]
+pub struct Shortage {
+    pub of_large: bool,
+    pub of_small: bool,
+}
+
+impl Shortage {
+    /// Whether there is a shortage for messages of this kind.
+    pub fn is_for(self, is_large: bool) -> bool
+        ensures value { result ≡ is_short_for is_large self }
+    {
+        if is_large {
+            self.of_large
+        } else {
+            self.of_small
+        }
+    }
+
+    /// There is a shortage for messages of this kind from now on.
+    pub fn begin(&mut self, is_large: bool)
+        ensures value { self.new ≡ short_of is_large self.old }
+    {
+        if is_large {
+            self.of_large = true;
+        } else {
+            self.of_small = true;
+        }
+    }
+
+    /// Whether there is any.
+    pub fn is_any(self) -> bool
+        ensures value { result ≡ (self.of_large || self.of_small) }
+    {
+        self.of_large || self.of_small
+    }
+}
+
+/// The result of a read or a write.
+#[derive(Clone, Copy, PartialEq, Eq, Debug, Drop)]
+pub enum Progress {
+    /// Something happened, and more may be done at once.
+    Some,
+    /// A message is complete: it waits for this worker.
+    Queued(usize),
+    /// Nothing can be done before the socket is reported again.
+    None,
+}
+
+impl State {
+    /// These connections, which workers may serve.
+    pub fn new(connections: Connections) -> State
+        ensures value { result ≡ record {
+          connections = connections;
+          is_stopped = false;
+          is_over = false;
+          is_deserted = false;
+          has_newcomer = false;
+          shortage = record { of_large = false; of_small = false };
+          asking = at_start;
+          is_of_former = false;
+        } }
+    {
+        State {
+            connections,
+            is_stopped: false,
+            is_over: false,
+            is_deserted: false,
+            has_newcomer: false,
+            shortage: Shortage::default(),
+            asking: FollowerDialog::new(),
+            is_of_former: false,
+        }
+    }
+
+    /// Whether a worker has nothing to do yet.
+    pub fn is_idle(&self, worker: usize) -> bool
+        ensures value { result ≡ (not self.now.is_stopped && (not self.now.is_over
+            && not (nat_lt 0 (length (queue_of self.now.connections worker))))) }
+    {
+        !self.is_stopped && !self.is_over && !self.connections.has_message(worker)
+    }
+
+    /// Accepts a connection from this peer, if there is room for one more: its slot. Otherwise a client waits for room.
+    pub fn accept(&mut self, peer: [u8; 4], now: u64) -> Option<usize>
+        ensures accepted { IfSome result (λ slot. IsNew peer now (accepted_by self.old.connections)
+            (slots_of self.old.connections) (slots_of self.new.connections) slot) }
+        ensures noted { self.new.has_newcomer ≡ is_none result }
+        ensures unchanged { IfNone result (self.new.connections ≡ self.old.connections) }
+        ensures full { nat_lt (slab_len (slots_of self.old.connections)) (bounds_of self.old.connections).connections ≡ false → result ≡ None }
+        ensures rest { self.new ≡ record self.old { connections = self.new.connections; has_newcomer = self.new.has_newcomer } }
+    {
+        let slot = self.connections.accept(peer, now);
+        self.has_newcomer = slot.is_none();
+        slot
+    }
+
+    /// No more connections are accepted: how many were. No client waits for room any more.
+    pub fn close(&mut self) -> u64
+        ensures value { result ≡ accepted_by self.old.connections }
+        ensures closed { self.new ≡ record self.old { has_newcomer = false } }
+    {
+        self.has_newcomer = false;
+        self.connections.accepted_count()
+    }
+
+    /// If no place may be given to one more connection, or there are as many as allowed, ends the one that has waited
+    /// longest for its client: its slot, if one ended.
+    pub fn make_room(&mut self, has_place: bool) -> Option<usize>
+        ensures needed { has_place ≡ true → nat_lt (slab_len (slots_of self.old.connections)) (bounds_of self.old.connections).connections ≡ true
+            → (result ≡ None) × (self.new ≡ self.old) }
+        ensures ended { IfSome result (λ slot. IsLongest (slots_of self.old.connections) slot
+            × Happens 0 (slots_of self.old.connections) (slots_of self.new.connections) slot failed) }
+        ensures nobody { nat_lt (slab_len (slots_of self.old.connections)) (bounds_of self.old.connections).connections ≡ false
+            → result ≡ None → NobodyWaits (slots_of self.old.connections) }
+        ensures nobody_placed { has_place ≡ false → result ≡ None → NobodyWaits (slots_of self.old.connections) }
+        ensures unchanged { result ≡ None → slots_of self.new.connections ≡ slots_of self.old.connections }
+        ensures rest { self.new ≡ record self.old { connections = self.new.connections } }
+    {
+        if has_place && !self.connections.is_full() {
+            return None;
+        }
+        self.connections.make_room()
+    }
+
+    /// Notes a slot for whose connection more is to be done than was done for now, unless it is noted: in a round it
+    /// gets one turn for that.
+    pub fn look_again(&mut self, slot: usize)
+        ensures noted { is_noted_by self.old.connections slot ≡ true → self.new ≡ self.old }
+        ensures notes { is_noted_by self.old.connections slot ≡ false
+            → NotesEach (noted_by self.old.connections) (noted_by self.new.connections) (slot ∷ []) }
+        ensures slots { slots_of self.new.connections ≡ slots_of self.old.connections }
+        ensures bounds { bounds_of self.new.connections ≡ bounds_of self.old.connections }
+        ensures rest { self.new ≡ record self.old { connections = self.new.connections } }
+    {
+        if !self.connections.is_noted(slot) {
+            self.connections.look_again(slot);
+        }
+    }
+
+    /// Time passes for all connections, and a round begins: the shortage of room in the last one.
+    pub fn pass(&mut self, now: u64) -> Shortage
+        ensures passed { (slot : ℕ) → Passes (bounds_of self.old.connections) now
+            (get (slots_of self.old.connections) slot) (get (slots_of self.new.connections) slot) }
+        ensures had { result ≡ self.old.shortage }
+        ensures begun { self.new.shortage ≡ record { of_large = false; of_small = false } }
+        ensures rest { self.new ≡ record self.old { connections = self.new.connections; shortage = self.new.shortage } }
+    {
+        self.connections.pass(now);
+        let had = self.shortage;
+        self.shortage = Shortage::default();
+        had
+    }
+
+    /// The next message for a worker; none if it is to take none, or the next one waited too long.
+    pub fn take(&mut self, worker: usize, now: u64) -> Option<TakenMessage>
+        ensures stopped { self.old.is_stopped ≡ true → (result ≡ None) × (self.new ≡ self.old) }
+        ensures message { IfSome result (λ t. queued_at (get (slots_of self.old.connections) (slot_of t)) ≡ Some (message_of t)) }
+        ensures in_time { IfSome result (λ t. is_late_in (bounds_of self.old.connections) now (get (slots_of self.old.connections) (slot_of t)) ≡ false) }
+        ensures happens { IfSome result (λ t. Happens 0 (slots_of self.old.connections) (slots_of self.new.connections) (slot_of t) taken) }
+        ensures peer { IfSome result (λ t. IfSome (get (slots_of self.old.connections) (slot_of t)) (λ c. peer_of t ≡ c.peer)) }
+        ensures first { IfSome result (λ t. queue_of self.old.connections worker ≡ slot_of t ∷ queue_of self.new.connections worker) }
+        ensures others { (other : ℕ) → other ≢ worker → queue_of self.new.connections other ≡ queue_of self.old.connections other }
+        ensures none { self.old.is_stopped ≡ false → IfNone result
+            (((queue_of self.old.connections worker ≡ []) × (self.new ≡ self.old))
+            ⊎ DropsLate now self.old.connections self.new.connections worker) }
+        ensures rest { self.new ≡ record self.old { connections = self.new.connections } }
+    {
+        if self.is_stopped {
+            return None;
+        }
+        self.connections.take(worker, now)
+    }
+
+    /// Whether something is left for the reactor: connections have ended, a client waits for room, or the follower is
+    /// to be asked.
+    pub fn wants_reactor(&self) -> bool
+        ensures value { result ≡ wants_reactor self.now }
+    {
+        self.has_newcomer || self.connections.has_changed() || self.asking.is_to_ask()
+    }
+
+    /// Whether something is to be done for a connection although nothing was reported: to read, if there was no room.
+    pub fn is_to_be_looked_at(&self, slot: usize, reads: bool) -> bool
+        ensures value { result ≡ is_looked_at reads (todo_in (get (slots_of self.now.connections) slot)) }
+    {
+        match self.connections.todo(slot) {
+            Todo::Write | Todo::Linger | Todo::Close => true,
+            Todo::Read(_) => reads,
+            Todo::Wait => false,
+        }
+    }
+
+    /// Whether nothing is left to do: as many connections as wanted were accepted, or no more can be, and each has ended; or
+    /// nobody is left to answer.
+    pub fn is_finished(&self, wanted: AcceptLimit, accepting: Accepting) -> bool
+        ensures value { result ≡ is_finished wanted accepting self.now }
+    {
+        let accepted = self.connections.accepted_count();
+        let has_all = !wanted.allows_more(accepted) || accepting.has_failed();
+        self.is_deserted || (has_all && self.connections.is_empty())
+    }
+
+    /// Whether the reactor has nothing left to do: the connections are finished, and no order is carried out or waits;
+    /// or nobody is left to answer.
+    pub fn is_done(&self, wanted: AcceptLimit, accepting: Accepting, has_orders: bool) -> bool
+        ensures value { result ≡ is_done wanted accepting has_orders self.now }
+    {
+        self.is_deserted || (self.is_finished(wanted, accepting) && !has_orders)
+    }
+
+    /// Ends a connection that waits for its client's next bytes.
+    pub fn end_if_reading(&mut self, slot: usize)
+        ensures reading { is_reading (todo_in (get (slots_of self.old.connections) slot)) ≡ true
+            → Happens 0 (slots_of self.old.connections) (slots_of self.new.connections) slot failed }
+        ensures others { is_reading (todo_in (get (slots_of self.old.connections) slot)) ≡ false → self.new ≡ self.old }
+        ensures rest { self.new ≡ record self.old { connections = self.new.connections } }
+    {
+        if matches!(self.connections.todo(slot), Todo::Read(_)) {
+            self.connections.fail(slot);
+        }
+    }
+
+    /// How many connections are in each stage, and whether the follower is asked about a change.
+    #[tactic(auto, using(crate::proofs::ControlLemmas::all_counted))]
+    pub fn standing(&self) -> ConnectionCounts
+        ensures value { IsCounted self.now result }
+        ensures all { sum_of result ≡ slab_len (slots_of self.now.connections) }
+        ensures behind { result.is_behind ≡ is_waited self.now.asking }
+    {
+        ConnectionCounts {
+            reading: self.connections.count(Counted::Reading),
+            waiting: self.connections.count(Counted::Waiting),
+            answering: self.connections.count(Counted::Answering),
+            confirming: self.connections.count(Counted::Confirming),
+            writing: self.connections.count(Counted::Writing),
+            ending: self.connections.count(Counted::Ending),
+            is_behind: self.is_waited_for(),
+        }
+    }
+
+    /// How many milliseconds to wait for the next event: none if there is something to do at once.
+    pub fn patience(&self, can_accept: bool, accepting: Accepting) -> u64
+        ensures value { result ≡ milliseconds_to_wait can_accept accepting self.now }
+    {
+        if can_accept || self.connections.has_changed() {
+            0
+        } else if self.connections.is_empty() && accepting.is_waiting() {
+            REST
+        } else if self.is_waited_for() {
+            SOON
+        } else {
+            TICK
+        }
+    }
+}
