@@ -10,11 +10,11 @@ use Rattle.chpw_workers.specs.Clocks.{moment_after}
 use Rattle.chpw_invocation.specs.declared.invocation.ServeOptions.{ServeOptions}
 use Rattle.chpw_start.specs.Opening.{IsOpening}
 use Rattle.chpw_start.specs.Raised.{IsRaisedWhereAsked}
-use Rattle.chpw_service.specs.ServiceRuns.{RunsTo, gives_moment, new_passes}
+use Rattle.chpw_desks.specs.ServiceRuns.{RunsTo, gives_moment, new_passes}
 use Rattle.chpw_start.specs.Rules.{AreRulesOf}
-use Rattle.chpw_service.specs.Staff.{AreStaff, ServiceWorker}
+use Rattle.chpw_desks.specs.Staff.{AreStaff, ServiceWorker}
 use Rattle.chpw_service.specs.WholeRuns.{IsServedByNewWorkers, IsServedFrom, IsWholeRun}
-use Rattle.chpw_service.specs.declared.followed.JournalLength.{JournalLength}
+use Rattle.chpw_desks.specs.declared.journals.JournalLength.{JournalLength}
 use Rattle.chpw_start.specs.declared.raising.RaiseReport.{RaiseReport}
 use Rattle.chpw_start.specs.declared.rules.Rules.{Rules}
 

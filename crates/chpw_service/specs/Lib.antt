@@ -1,13 +1,4 @@
-pub mod Answers
 pub mod Faults
-pub mod Following
-pub mod Orders
-pub mod Journals
-pub mod ServiceRuns
 pub mod Serving
-pub mod Staff
 pub mod Status
-pub mod Tallies
-pub mod Replacing
-pub mod Rereading
 pub mod WholeRuns

@@ -1,12 +1,11 @@
--- What a service asks of its pool, and whether its first history is full.
-use Rattle.std.specs.Prelude.{◌≡◌, ℕ, List, [], ◌∷◌, Bool, false, nat_le, length}
+-- What a service asks of its pool.
+use Rattle.std.specs.Prelude.{◌≡◌, ℕ, List}
 use Rattle.chpw_invocation.specs.declared.invocation.ConnectionLimit.{ConnectionLimit}
 use Rattle.chpw_invocation.specs.declared.invocation.ConnectionLimit.TheVariants as asked
 use Rattle.chpw_invocation.specs.declared.invocation.ServeOptions.{ServeOptions}
 use Rattle.chpw_transfers.specs.declared.accept_limit.AcceptLimit.{AcceptLimit}
 use Rattle.chpw_transfers.specs.declared.accept_limit.AcceptLimit.TheVariants as limit
 use Rattle.chpw_reactor.specs.declared.options.PoolOptions.{PoolOptions}
-use Rattle.chpw_book.specs.Passes.{PassView}
 
 -- after as many connections the pool ends, if there is a limit
 abbrev pub limit_asked : ConnectionLimit → AcceptLimit
@@ -20,8 +19,3 @@ pub record IsAskedFor (options : ServeOptions) (seed : List ℕ) (terms : PoolOp
   pub clients : terms.clients ≡ options.clients
   pub buffers : terms.buffers ≡ options.buffers
   pub idle : terms.idle ≡ options.idle
-
--- the first pass has as many receipts as a history may have entries, before any message is answered, because of a raise
-abbrev pub is_full_with : List PassView → ℕ → Bool
-is_full_with [] most = false
-is_full_with (p ∷ ps) most = nat_le most (length p.receipts)

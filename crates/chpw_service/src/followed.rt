@@ -1,80 +1,22 @@
 //! The follower of a service: where it is, and the reports of changes that it hasn't confirmed.
-ghost use Rattle.std.specs.Prelude.{◌≡◌, ◌||◌, ◌⊎◌, [], false, is_some, None, IfOk, IfErr};
+ghost use Rattle.std.specs.Prelude.{◌≡◌, ◌||◌, ◌⊎◌, [], false, is_some, None};
 ghost use Rattle.chpw_control.specs.Statuses.{IsTold};
-ghost use Rattle.chpw_start.specs.Faults.{IsOfJournal};
 ghost use Rattle.chpw_service.specs.Status.{IsStatusAnswer};
 
 use crate::status::{Readings, answer_with, status_of};
 use chpw_connections::Unconfirmed;
 use chpw_control::Time;
+use chpw_desks::{FollowerTerms, JournalLength};
 use chpw_invocation::VERSION;
-use chpw_journal::FileSink;
 use chpw_logging::{Log, Notice, is_first};
 use chpw_reactor::{Follower, StatusReporter};
 use chpw_serve::Clock as _;
-use chpw_start::{ServeFault, unread_fault};
-use chpw_table::JournalSink;
-use chpw_transfers::ConnectionCounts;
-use chpw_workers::{JournalEnd, MachineClock};
+use chpw_workers::MachineClock;
 use mio::net::{UnixListener, UnixStream};
 use std::alloc::Global;
-use std::fs::File;
 use std::net::{Net, TcpListener, TcpStream};
-use std::sync::atomic::{AtomicU64, Ordering};
-use std::sync::{Arc, Wait};
+use std::sync::Wait;
 use std::time::Clock;
-
-/// How long the journal is on the disk; without a follower no reply waits.
-#[derive(Drop)]
-pub struct JournalLength {
-    end: Arc<AtomicU64>,
-    has_follower: bool,
-}
-
-/// The length of the journal at a path, which this sink appends to, for a service with or without a follower.
-pub(crate) fn journal_length<'a>(
-    alloc: Global,
-    has_follower: bool,
-    path: &'a str,
-    sink: &mut FileSink<File>,
-) -> Result<JournalLength, ServeFault<'a>>
-    ensures failed { ⟦<FileSink<File> as JournalSink>⟧.failed sink.new ≡ ⟦<FileSink<File> as JournalSink>⟧.failed sink.old }
-    ensures follower { IfOk result (λ j. j.has_follower ≡ has_follower) }
-    ensures fault { IfErr result (IsOfJournal path.now) }
-{
-    match sink.show_end(alloc) {
-        Ok(end) => Ok(JournalLength { end, has_follower }),
-        Err(error) => Err(unread_fault(path, error)),
-    }
-}
-
-impl JournalLength {
-    /// In bytes.
-    pub(crate) fn bytes(&self) -> u64 {
-        self.end.load(Ordering::SeqCst)
-    }
-}
-
-impl JournalEnd for JournalLength {
-    ghost use Rattle.chpw_service.specs.Journals.{tells_end};
-
-    ghost ends = { tells_end };
-
-    fn journal_end(&self) -> Option<u64>
-        ensures follower { is_some result ≡ self.now.has_follower }
-    {
-        self.has_follower.then(|| self.bytes())
-    }
-}
-
-/// Where the follower is, and how long replies wait for it.
-#[derive(Clone, Copy, Drop)]
-pub struct FollowerTerms<'l> {
-    /// Its socket; none if no reply waits.
-    pub socket: Option<&'l str>,
-    /// In milliseconds.
-    pub wait: u32,
-}
 
 /// The service's side of its control socket.
 #[derive(Drop)]

@@ -14,11 +14,14 @@ ghost use Rattle.chpw_logging.specs.declared.logging.LogLines.{LogLines};
 ghost use Rattle.rand_chacha.specs.ChaCha.{key_of};
 
 use crate::control_socket::{control_socket, take_away};
-use crate::followed::{ControlTerms, FollowerTerms, JournalLength, journal_length};
-use crate::histories::{Opened, Opening, ServiceContext, first_opening, start_desk};
+use crate::followed::ControlTerms;
 use crate::running::{serve_fault_of, serve_from};
 use crate::service_manager::{notify_ready, notify_stopping};
 use chpw_book::{Desk, DeskName, Pass};
+use chpw_desks::{
+    FollowerTerms, JournalLength, Opened, Opening, ServiceContext, first_opening, journal_length,
+    start_desk,
+};
 use chpw_invocation::{ConnectionLimit, ServeOptions};
 use chpw_journal::{FileSink, Journal};
 use chpw_logging::{Log, Notice, log_of, time_of};

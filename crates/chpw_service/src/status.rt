@@ -4,9 +4,9 @@ ghost use Rattle.chpw_control.specs.Answers.{lines_text, ok_line};
 ghost use Rattle.chpw_control.specs.Statuses.{AreTold, IsTold, status_lines};
 ghost use Rattle.chpw_service.specs.Status.{IsStatusOf, follower_state, journal_state};
 
-use crate::answers::answer_or_empty;
 use chpw_control::{FollowerState, JournalState, Status, Time, status_answer};
 use chpw_logging::Facts;
+use chpw_orders::answer_or_empty;
 use chpw_table::Moment;
 use chpw_transfers::ConnectionCounts;
 use std::alloc::Global;

@@ -4,7 +4,7 @@ use Rattle.chpw_table.specs.declared.times.Moment.{Moment}
 use Rattle.chpw_book.specs.Starting.{table_of}
 use Rattle.chpw_service.specs.Faults.{IsOfService}
 use Rattle.chpw_start.specs.Opening.{IsOpening}
-use Rattle.chpw_service.specs.ServiceRuns.{gives_moment}
+use Rattle.chpw_desks.specs.ServiceRuns.{gives_moment}
 use Rattle.chpw_start.specs.Rules.{AreRulesOf}
 use Rattle.chpw_service.proofs.WholeRunLemmas.{whole_run}
 use Rattle.chpw_service.proofs.serving.serve_by.Goals as goal

@@ -7,7 +7,7 @@ use Rattle.rand_chacha.specs.ChaCha.{key_of}
 use Rattle.chpw_changelog.specs.Pens.{opening_table}
 use Rattle.chpw_book.specs.Passes.{new_pass}
 use Rattle.chpw_book.specs.Starting.{table_of, workers_of}
-use Rattle.chpw_service.specs.ServiceRuns.{new_passes}
+use Rattle.chpw_desks.specs.ServiceRuns.{new_passes}
 use Rattle.chpw_service.specs.WholeRuns.{IsServedByNewWorkers}
 use Rattle.chpw_logging.specs.declared.logging.LogLines.{LogLines}
 use Rattle.chpw_service.proofs.WholeRunLemmas.{served_from}

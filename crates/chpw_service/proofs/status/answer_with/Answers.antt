@@ -1,7 +1,7 @@
 use Rattle.std.proofs.Common.{◌++◌, ◌∷◌, []}
 use Rattle.chpw_control.specs.Answers.{lines_text, ok_line}
 use Rattle.chpw_control.specs.Statuses.{status_lines}
-use Rattle.chpw_service.proofs.AnswerLemmas.{text_or_empty}
+use Rattle.chpw_orders.proofs.AnswerLemmas.{text_or_empty}
 use Rattle.chpw_service.proofs.status.answer_with.Goals as goal
 
 pub returns : goal.returns

@@ -1,0 +1,7 @@
+pub mod Filled
+pub mod Following
+pub mod Journals
+pub mod Orders
+pub mod ServiceRuns
+pub mod Staff
+pub mod Tallies

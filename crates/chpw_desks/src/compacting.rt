@@ -1,0 +1,94 @@
+//! Replacing the journal by a compact one.
+ghost use Rattle.std.specs.Prelude.{◌≡◌, ◌≢◌, ◌<◌, ◌-◌, ◌^◌, OnOk, IfOk, IfErr, false};
+ghost use Rattle.chpw_book.specs.Starting.{table_of, workers_of};
+ghost use Rattle.chpw_reload.specs.Compacting.{GoesWith};
+ghost use Rattle.chpw_desks.specs.Following.{reopened};
+ghost use Rattle.chpw_orders.specs.Replacing.{compact_text};
+ghost use Rattle.chpw_orders.specs.declared.replacing.NotReplaced.TheVariants.{Unsafe};
+ghost use Rattle.chpw_start.specs.declared.fault.ServeFault.TheVariants.{Memory};
+
+use crate::context::ServiceContext;
+use crate::openings::{Opening, next_opening};
+use chpw_journal::FileSink;
+use chpw_orders::{
+    Compaction, JournalAt, JournalPlace, NotReplaced, answer_or_empty, compact_answer, go_on_in,
+    text_to_write,
+};
+use chpw_serve::Clock as _;
+use chpw_start::ServeFault;
+use chpw_table::{JournalSink, Table};
+use chpw_workers::MachineClock;
+use std::fs::{self, File, Files};
+use std::sync::Wait;
+use std::time::Clock;
+
+/// How many milliseconds a closed desk waits for the follower.
+const LONGEST_WAIT: u64 = 1_000;
+
+/// What the next desk opens with: the closed table, and a compact journal in place of the present one; or that journal,
+/// if there is no compact one. The caller at the control socket is answered.
+pub(crate) fn compact<
+    'a,
+    'l,
+    R: Files<File = File> + Wait + Clock + Eprint + AllocGlobal,
+    T: Clock,
+>(
+    rt: &R,
+    time: &T,
+    hall: &ServiceContext<'l, R>,
+    compaction: Compaction,
+    table: Table,
+    mut sink: FileSink<File>,
+) -> Result<Opening, ServeFault<'a>>
+    requires room { table.state.broken ≡ false
+        → ⟦<FileSink<File> as JournalSink>⟧.failed sink < 2 ^ 64 - 1 }
+    ensures table { IfOk result (λ next. table_of next.unnamed ≡ reopened table) }
+    ensures workers { IfOk result (λ next. workers_of next.unnamed ≡ hall.now.workers) }
+    ensures fault { IfErr result (λ fault. fault ≡ Memory) }
+{
+    hall.log
+        .tell_rollover(MachineClock::new(time).now(), &table);
+    let mut place = JournalAt {
+        rt,
+        path: hall.options.journal,
+    };
+    let replaced = replace(rt, hall, &mut place, &compaction.base, &table, &mut sink);
+    if !matches!(replaced, Ok(()) | Err(NotReplaced::Unsafe)) {
+        let _ = fs::remove_file(rt, compaction.copy.as_str());
+    }
+    let answer = compact_answer(rt.alloc(), hall.options.journal, replaced);
+    hall.engine
+        .answer_order(rt, answer_or_empty(rt.alloc(), answer));
+    next_opening(table, sink, hall.workers)
+}
+
+// Replaces the present journal by a compact one, once no reply waits for the follower.
+fn replace<'l, R: Wait + Clock + Eprint + AllocGlobal, P: JournalPlace>(
+    rt: &R,
+    hall: &ServiceContext<'l, R>,
+    place: &mut P,
+    base: &Table,
+    held: &Table,
+    sink: &mut FileSink<File>,
+) -> Result<(), NotReplaced>
+    ensures written { OnOk result (P.takes place.old (compact_text base.now.state held.now.state) place.new) }
+    ensures goes_with { OnOk result (GoesWith base.now.state held.now.state) }
+    ensures safe { OnOk result (sink.new.is_unsafe ≡ false) }
+    ensures unchanged { IfErr result (λ why. why ≢ Unsafe → sink.new ≡ sink.old) }
+    ensures failed { ⟦<FileSink<File> as JournalSink>⟧.failed sink.new ≡ ⟦<FileSink<File> as JournalSink>⟧.failed sink.old }
+{
+    let present = hall.journal.bytes();
+    let text = match text_to_write(rt.alloc(), hall.log.has_failed(), present, base, held) {
+        Ok(text) => text,
+        Err(why) => return Err(why),
+    };
+    if !hall.engine.waits_for_none(rt, LONGEST_WAIT) {
+        return Err(NotReplaced::Waited);
+    }
+    let Ok(new) = place.replace(&text) else {
+        return Err(NotReplaced::Unwritten);
+    };
+    let replaced = go_on_in(sink, new, text.len() as u64);
+    hall.engine.begin_marks_anew(rt);
+    replaced
+}

@@ -1,0 +1,139 @@
+//! Orders of callers at the control socket.
+ghost use Rattle.chpw_desks.specs.Orders.{BeginsCompaction, BeginsReload, IsCarriedOut, RefusesAtOnce, ReopensLog, TellsExposed};
+
+use crate::context::ServiceContext;
+use chpw_control::{Command, FileName};
+use chpw_orders::{
+    AfterClose, answer_or_empty, begin_compaction, compact_refusal, exposed_refusal,
+    prepare_refusal, read_anew, refusal, reopen_answer,
+};
+use chpw_serve::Clock as _;
+use chpw_start::{Exposure, exposure_at};
+use chpw_workers::{BackgroundTask, MachineClock};
+use std::alloc::Global;
+use std::fs::{File, Files};
+use std::net::Net;
+use std::sync::Wait;
+use std::time::Clock;
+
+/// Carries out the orders of callers at the control socket, while the workers of a desk answer messages.
+#[derive(Drop)]
+pub(crate) struct Orders<'s, 'l, R: Wait + Eprint, T> {
+    pub rt: &'s R,
+    pub time: &'s T,
+    pub hall: &'s ServiceContext<'l, R>,
+    /// The text of the configuration in force: the one that was read last, by the start or a reload.
+    pub in_force: &'s [u8],
+}
+
+impl<R: Files<File = File> + Net + Wait + Clock + Eprint + AllocGlobal, T: Clock> BackgroundTask
+    for Orders<'_, '_, R, T> {
+    ghost use Rattle.std.specs.Prelude.{IfSome};
+    ghost use Rattle.chpw_desks.specs.Orders.{IsDueBy};
+
+    ghost gives = { λ orders due. IfSome due (IsDueBy orders.hall.now.options.now) };
+
+    /// What is due once the desk is closed.
+    type Done = Option<AfterClose>;
+
+    /// Carries out one order after the other, until the workers are to take no more messages. If something is due after
+    /// the desk, that is at once; the thread that opens the next desk then answers the caller.
+    #[tactic(auto, using(crate::proofs::OrderLemmas::due_by))]
+    fn run(self) -> Option<AfterClose> {
+        let engine = &self.hall.engine;
+        for _ in self.rt.forever() {
+            match self.carry_out(engine.next_order(self.rt)?) {
+                Carried::Answered(answer) => engine.answer_order(self.rt, answer),
+                Carried::AfterClose(due) => {
+                    engine.stop(self.rt);
+                    return Some(due);
+                }
+            }
+        }
+        None
+    }
+}
+
+// The result of an order.
+#[derive(Drop)]
+enum Carried {
+    // It was carried out, or refused: the answer.
+    Answered(Vec<u8>),
+    // The rest of it is due once the desk is closed.
+    AfterClose(AfterClose),
+}
+
+impl<R: Files<File = File> + Net + Wait + Clock + Eprint + AllocGlobal, T: Clock> Orders<
+    '_,
+    '_,
+    R,
+    T,
+> {
+    fn carry_out(&self, command: Command) -> Carried
+        ensures carried { IsCarriedOut self.now.hall.now.options.now self.now.in_force.now command result }
+    {
+        match command {
+            Command::Reload => self.begin_reload(),
+            Command::ReopenLog => self.reopen_log(),
+            Command::Compact(copy) => self.begin_compaction(copy),
+            Command::Status | Command::Stop => not_an_order(self.rt.alloc()),
+        }
+    }
+
+    fn begin_reload(&self) -> Carried
+        ensures begins { BeginsReload self.now.hall.now.options.now result }
+    {
+        let options = self.hall.options;
+        if let Some(why) = exposure_at(self.rt, options, options.config) {
+            return exposed_answer(self.rt.alloc(), options.config, why);
+        }
+        match read_anew(self.rt, options) {
+            Ok(anew) => Carried::AfterClose(AfterClose::Reload(anew)),
+            Err(fault) => {
+                let answer = prepare_refusal(self.rt.alloc(), &fault);
+                Carried::Answered(answer_or_empty(self.rt.alloc(), answer))
+            }
+        }
+    }
+
+    fn reopen_log(&self) -> Carried
+        ensures reopens { ReopensLog self.now.hall.now.options.now result }
+    {
+        let options = self.hall.options;
+        if let Some(log) = options.log {
+            if let Some(why) = exposure_at(self.rt, options, log) {
+                return exposed_answer(self.rt.alloc(), log, why);
+            }
+        }
+        let now = MachineClock::new(self.time).now();
+        let answer = reopen_answer(self.rt.alloc(), self.hall.log.reopen(options, now));
+        Carried::Answered(answer_or_empty(self.rt.alloc(), answer))
+    }
+
+    fn begin_compaction(&self, copy: FileName) -> Carried
+        ensures begins { BeginsCompaction self.now.hall.now.options.now self.now.in_force.now copy result }
+    {
+        match begin_compaction(self.rt, self.hall.options, self.in_force, copy) {
+            Ok(compaction) => Carried::AfterClose(AfterClose::Compact(compaction)),
+            Err(fault) => {
+                let answer = compact_refusal(self.rt.alloc(), &fault);
+                Carried::Answered(answer_or_empty(self.rt.alloc(), answer))
+            }
+        }
+    }
+}
+
+// The answer where strict modes refuse the file at a path.
+fn exposed_answer(alloc: Global, file: &str, why: Exposure) -> Carried
+    ensures refuses { TellsExposed file.now why result }
+{
+    let answer = exposed_refusal(alloc, file, why);
+    Carried::Answered(answer_or_empty(alloc, answer))
+}
+
+// The answer to what is no order.
+fn not_an_order(alloc: Global) -> Carried
+    ensures refuses { RefusesAtOnce result }
+{
+    Carried::Answered(answer_or_empty(alloc, refusal(alloc, "not an order")))
+}

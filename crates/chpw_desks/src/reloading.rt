@@ -1,0 +1,103 @@
+//! Opening a desk after a reload.
+ghost use Rattle.std.specs.Prelude.{◌≡◌, ◌≤◌, ◌<◌, ◌-◌, ◌^◌, ℕ, List, Option, IfOk, IfErr, false};
+ghost use Rattle.chpw_reload.specs.Reloading.{IsReloaded};
+ghost use Rattle.chpw_desks.specs.Following.{TakesRules};
+ghost use Rattle.chpw_book.specs.Starting.{table_of, workers_of};
+ghost use Rattle.chpw_reload.specs.ReloadRuns.{GoesOn};
+ghost use Rattle.chpw_start.specs.declared.fault.ServeFault.TheVariants.{Memory};
+
+use crate::context::ServiceContext;
+use crate::openings::{Opening, next_opening};
+use chpw_book::UnnamedDesk;
+use chpw_journal::FileSink;
+use chpw_logging::Notice;
+use chpw_orders::{CheckedReload, PendingReload, answer_or_empty, reload_answer, reload_refusal};
+use chpw_reload::{Refused, Reloaded, finish};
+use chpw_rules::Name;
+use chpw_serve::Clock as _;
+use chpw_start::{Rules, ServeFault};
+use chpw_table::{JournalSink, Table};
+use chpw_workers::MachineClock;
+use std::alloc::Global;
+use std::fs::File;
+use std::sync::Wait;
+use std::time::Clock;
+
+/// What the next desk opens with when the configuration was reloaded: what the closed table becomes with it and the
+/// rest of the journal, by the new rules; or the closed table, by the present rules, if the reload is refused. The
+/// caller at the control socket is answered.
+#[tactic(auto, using(crate::proofs::ServiceRunLemmas::takes_new))]
+pub(crate) fn reload<'a, 'l, R: Wait + Clock + Eprint + AllocGlobal, T: Clock>(
+    rt: &R,
+    time: &T,
+    hall: &ServiceContext<'l, R>,
+    rules: &mut Rules,
+    anew: PendingReload,
+    table: Table,
+    sink: FileSink<File>,
+) -> Result<Opening, ServeFault<'a>>
+    requires room { table.state.broken ≡ false
+        → ⟦<FileSink<File> as JournalSink>⟧.failed sink < 2 ^ 64 - 1 }
+    ensures goes_on { IfOk result (λ next. GoesOn table.state (table_of next.unnamed).state) }
+    ensures rules { IfOk result (λ next. TakesRules anew table rules.old rules.new (table_of next.unnamed)) }
+    ensures workers { IfOk result (λ next. workers_of next.unnamed ≡ hall.now.workers) }
+    ensures fault { IfErr result (λ fault. fault ≡ Memory) }
+{
+    let PendingReload {
+        renewed,
+        rest,
+        rules: next_rules,
+    } = anew;
+    match made_anew(rt.alloc(), renewed, rest, table) {
+        Ok(Reloaded { table, lacked }) => {
+            *rules = next_rules;
+            tell_reloaded(rt, time, hall, &table, &lacked);
+            Ok(Opening {
+                unnamed: UnnamedDesk::of(table, hall.workers),
+                sink,
+            })
+        }
+        Err(Refused { fault, closed }) => {
+            hall.log
+                .tell_rollover(MachineClock::new(time).now(), &closed);
+            let answer = reload_refusal(rt.alloc(), &fault);
+            hall.engine
+                .answer_order(rt, answer_or_empty(rt.alloc(), answer));
+            next_opening(closed, sink, hall.workers)
+        }
+    }
+}
+
+// What a closed table becomes with the reloaded configuration and the rest of the journal.
+fn made_anew(
+    alloc: Global,
+    renewed: CheckedReload,
+    rest: File,
+    closed: Table,
+) -> Result<Reloaded, Refused>
+    ensures goes_on { IfOk result (λ next. GoesOn closed.state next.table.state) }
+    ensures broken { IfOk result (λ next. next.table.state.broken ≡ closed.state.broken) }
+    ensures reloaded { IfOk result (λ next. (bytes : Option (List ℕ)) × IsReloaded renewed bytes closed next) }
+    ensures unchanged { IfErr result (λ refused. refused.closed ≡ closed) }
+{
+    finish(alloc, renewed.into_renewal(), rest, closed)
+}
+
+// Reports the reload: in the log, to the caller at the control socket, and on standard error if the configuration lacks
+// principals.
+fn tell_reloaded<'l, R: Wait + Eprint + AllocGlobal, T: Clock>(
+    rt: &R,
+    time: &T,
+    hall: &ServiceContext<'l, R>,
+    table: &Table,
+    lacked: &[Name],
+) {
+    let now = MachineClock::new(time).now();
+    hall.log.tell_reload(now, table);
+    if !lacked.is_empty() {
+        hall.log.tell(Notice::Lacked(lacked.len() as u64));
+    }
+    let answer = reload_answer(rt.alloc(), lacked);
+    hall.engine
+        .answer_order(rt, answer_or_empty(rt.alloc(), answer));
+}

@@ -1,0 +1,47 @@
+//! The workers of a service. They are made once, before its first desk, and go from each desk to the next.
+ghost use Rattle.std.specs.Prelude.{◌≡◌, IfOk, length};
+ghost use Rattle.rand_chacha.specs.ChaCha.{key_of};
+ghost use Rattle.chpw_desks.specs.Staff.{AreStaff};
+
+use crate::context::ServiceContext;
+use chpw_logging::{LogLines, Logging};
+use chpw_reactor::Seat;
+use chpw_serve::WorkerWords;
+use chpw_workers::{MachineClock, Worker};
+use std::alloc::{AllocError, Global};
+use std::sync::Wait;
+use std::time::Clock;
+
+/// A worker of a service: its seat at the engine, what writes what came of its messages into the log, the machine's clock, and
+/// its random words.
+pub type ServiceWorker<'h, 'l, 't, R, T> = Worker<
+    Seat<'h, R>,
+    Logging<LogLines<'l, R>>,
+    MachineClock<'t, T>,
+    WorkerWords,
+>;
+
+/// The workers of a service before its first desk. Each has the seat of its number, of which no turn was taken; its lines in the
+/// log have that number; and its words are the seed's stream of that number, from the first one on.
+#[tactic(auto, using(crate::proofs::StaffLemmas::staff_more))]
+pub fn make_staff<'h, 'l, 't, R: Wait + Eprint, T: Clock>(
+    rt: &'h R,
+    alloc: Global,
+    time: &'t T,
+    hall: &'h ServiceContext<'l, R>,
+    seed: [u8; 32],
+) -> Result<Vec<ServiceWorker<'h, 'l, 't, R, T>>, AllocError>
+    ensures staff { IfOk result (λ staff. AreStaff (key_of seed) 0 staff.items) }
+    ensures count { IfOk result (λ staff. length staff.items ≡ hall.now.workers) }
+{
+    let mut staff = Vec::with_capacity(alloc, usize::from(hall.workers))?;
+    for number in 0..hall.workers {
+        staff.push(Worker {
+            inbox: Seat::new(rt, &hall.engine, usize::from(number)),
+            gate: Logging::new(LogLines { log: hall.log }, number),
+            clock: MachineClock::new(time),
+            words: WorkerWords::new(seed, u64::from(number)),
+        })?;
+    }
+    Ok(staff)
+}

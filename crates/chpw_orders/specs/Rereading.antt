@@ -1,0 +1,53 @@
+-- What a service reads of its files while it runs: for a reload, and for a compact journal.
+use Rattle.std.specs.Prelude.{◌≡◌, ◌≢◌, ◌⊎◌, ℕ, List, Option, Ok, Err}
+use Rattle.chpw_rules.specs.declared.config.Config.{Config}
+use Rattle.chpw_config.specs.declared.fault.ConfigFault.{ConfigFault}
+use Rattle.chpw_table.specs.Agreement.{Agrees, Held}
+use Rattle.chpw_report.specs.Held.{opening}
+use Rattle.chpw_reload.specs.Reloading.{IsPrepared, IsUnprepared}
+use Rattle.chpw_invocation.specs.declared.invocation.ServeOptions.{ServeOptions}
+use Rattle.chpw_start.specs.Faults.{IsOfBytes, IsOfSettings, IsUnread, Sets}
+use Rattle.chpw_start.specs.Rules.{AreRulesOf}
+use Rattle.chpw_start.specs.Telling.{IsOfText}
+use Rattle.chpw_orders.specs.declared.compacting.CompactFault.{CompactFault}
+use Rattle.chpw_orders.specs.declared.compacting.CompactFault.TheVariants.{Unread, Changed, NoCopy}
+use Rattle.chpw_start.specs.declared.fault.ServeFault.{ServeFault}
+use Rattle.chpw_orders.specs.declared.rereading.PendingReload.{PendingReload}
+use Rattle.chpw_orders.specs.declared.rereading.PrepareFault.{PrepareFault}
+use Rattle.chpw_orders.specs.declared.rereading.PrepareFault.TheVariants.{Start, Config as Unset, Reload}
+
+-- ---- a reload
+
+-- table and rules are those of one configuration
+pub record IsReadAnew (options : ServeOptions) (p : PendingReload) : Type 0 where
+  pub config : Config
+  pub journal : Option (List ℕ)
+  pub prepared : IsPrepared config journal p.renewed
+  pub rules : AreRulesOf config options p.rules
+
+-- the fault of these bytes of a configuration, in words; or memory was refused
+abbrev pub IsUnset : List ℕ → PrepareFault → Type 0
+IsUnset bytes (Start fault) = IsOfBytes bytes fault
+IsUnset bytes (Unset words) = (fault : ConfigFault) × Sets bytes (Err fault)
+IsUnset bytes (Reload fault) = ⊥
+
+-- a file's fault; the fault of some bytes of a configuration, in words; or a journal can't be replayed over one
+abbrev pub IsNotReadAnew : ServeOptions → PrepareFault → Type 0
+IsNotReadAnew o (Start fault) = IsOfSettings o.config.now fault ⊎ IsUnread o.journal.now fault
+IsNotReadAnew o (Unset words) = (bytes : List ℕ) × (fault : ConfigFault) × Sets bytes (Err fault)
+IsNotReadAnew o (Reload fault) = (config : Config) × (bytes : Option (List ℕ)) × IsUnprepared config bytes fault
+
+-- ---- a compact journal
+
+-- the table that the configuration of these bytes opens with
+pub record IsBase (bytes : List ℕ) (base : Held) : Type 0 where
+  pub config : Config
+  pub sets : Sets bytes (Ok config)
+  pub opens : Agrees base.state (opening config)
+
+-- a fault of the configuration's file, or one of the configuration in force and the journal; the file has other bytes
+-- than the configuration in force; or the copy of this name can't be made
+abbrev pub IsNotBegun : ServeOptions → List ℕ → List ℕ → CompactFault → Type 0
+IsNotBegun o in_force copy (Unread fault) = IsUnread o.config.now fault ⊎ IsOfText in_force o.journal.now fault
+IsNotBegun o in_force copy Changed = (bytes : List ℕ) × (bytes ≢ in_force)
+IsNotBegun o in_force copy (NoCopy path) = path ≡ copy

@@ -1,0 +1,104 @@
+//! A configuration that is read anew while the service runs.
+ghost use Rattle.std.specs.Prelude.{IfErr, IfOk};
+ghost use Rattle.chpw_start.specs.Faults.{IsOfBytes, IsUnread};
+ghost use Rattle.chpw_orders.specs.Rereading.{IsNotReadAnew, IsReadAnew, IsUnset};
+
+use crate::checked_reload::CheckedReload;
+use chpw_config::explain;
+use chpw_invocation::ServeOptions;
+use chpw_reload::{ReloadFault, prepare};
+use chpw_start::{
+    Rules, ServeFault, configuration_text, open_file, rules_of, settings, unread_fault,
+};
+use std::alloc::Global;
+use std::fs::{File, Files};
+use std::io::{Seek, SeekFrom};
+use std::str;
+
+/// A reload under way: the table that a start would open with now, the journal's file, read up to what that table has
+/// of it, and what the next desk is to serve by.
+#[derive(Drop)]
+pub struct PendingReload {
+    pub renewed: CheckedReload,
+    pub rest: File,
+    pub rules: Rules,
+}
+
+/// Why a configuration can't be reloaded.
+#[derive(Drop)]
+pub enum PrepareFault<'a> {
+    /// A file can't be read, or memory ran out.
+    Start(ServeFault<'a>),
+    /// The configuration has a fault, in the words of `check`.
+    Config(String),
+    /// The journal can't be replayed over it.
+    Reload(ReloadFault),
+}
+
+/// The configuration read again, with the journal so far replayed. Refused if a file can't be read, the configuration has a
+/// fault, or the journal can't be replayed over it, and where memory runs out.
+pub fn read_anew<'a, R: Files<File = File> + AllocGlobal>(
+    rt: &R,
+    options: &ServeOptions<'a>,
+) -> Result<PendingReload, PrepareFault<'a>>
+    ensures read { IfOk result (IsReadAnew options.now) }
+    ensures fault { IfErr result (IsNotReadAnew options.now) }
+{
+    let text = match configuration_text(rt, options.config) {
+        Ok(text) => text,
+        Err(fault) => return Err(PrepareFault::Start(fault)),
+    };
+    let config = match settings(rt.alloc(), &text) {
+        Ok(config) => config,
+        Err(fault) => return Err(unset_fault(rt.alloc(), &text, fault)),
+    };
+    let Ok(rules) = rules_of(rt.alloc(), &config, text, options) else {
+        return Err(PrepareFault::Start(ServeFault::Memory));
+    };
+    let journal = match open_file(rt, options.journal) {
+        Ok(journal) => journal,
+        Err(fault) => return Err(PrepareFault::Start(fault)),
+    };
+    let renewal = match prepare(rt.alloc(), config, journal) {
+        Ok(renewal) => renewal,
+        Err(fault) => return Err(PrepareFault::Reload(fault)),
+    };
+    let rest = match rest_of(rt, options.journal, renewal.kept) {
+        Ok(rest) => rest,
+        Err(fault) => return Err(PrepareFault::Start(fault)),
+    };
+    Ok(PendingReload {
+        renewed: CheckedReload::of(renewal),
+        rest,
+        rules,
+    })
+}
+
+// The file at a path, to be read from after this many bytes.
+fn rest_of<'a, R: Files<File = File>>(
+    rt: &R,
+    path: &'a str,
+    kept: u64,
+) -> Result<File, ServeFault<'a>>
+    ensures fault { IfErr result (IsUnread path.now) }
+{
+    let mut file = open_file(rt, path)?;
+    match file.seek(SeekFrom::Start(kept)) {
+        Ok(_) => Ok(file),
+        Err(error) => Err(unread_fault(path, error)),
+    }
+}
+
+// A fault of the configuration with this text.
+fn unset_fault<'a>(alloc: Global, text: &[u8], fault: ServeFault<'a>) -> PrepareFault<'a>
+    requires fault { IsOfBytes text.now fault }
+    ensures fault { IsUnset text.now result }
+{
+    match (fault, str::from_utf8(text)) {
+        (ServeFault::Config(fault), Ok(text)) => match explain(alloc, text, fault) {
+            Ok(words) => PrepareFault::Config(words),
+            Err(_) => PrepareFault::Start(ServeFault::Memory),
+        },
+        (fault, _) => PrepareFault::Start(fault),
+    }
+}
