@@ -2,17 +2,16 @@
 use Rattle.std.proofs.Common.{◌≡◌, ℕ, List, take, refl, ◌∙◌, subst, arith, Option, Some, None, IfSome, IfNone, inl, inr, ◌⊎◌}
 use Rattle.std.proofs.lemmas.List.{take_all, length-take}
 use Rattle.slab.specs.Slab.{Slab, get}
-use Rattle.chpw_connections.specs.Messages.{wanted_after}
-use Rattle.chpw_connections.specs.Stages.{Stage, reading, queued, answering, confirming, writing}
-use Rattle.chpw_connections.specs.Stages.{lingering, abandoned, ended, Event, came, failed, after, count_after}
-use Rattle.chpw_connections.specs.Stages.{since_after, stage, wanted_by, IsRoomFor, IsRoomBehind, Goes}
-use Rattle.chpw_connections.specs.Sets.{Comes, wanted_of}
+use Rattle.chpw_connection.specs.Messages.{wanted_after}
+use Rattle.chpw_connection.specs.Stages.{Stage, reading, queued, answering, confirming, writing, lingering, abandoned, ended, Event, came, failed, after}
+use Rattle.chpw_connection.specs.Stages.{count_after, since_after, stage, wanted_by, IsRoomFor, IsRoomBehind, Goes}
+use Rattle.chpw_connection.specs.Slot.{Comes, wanted_of}
 use Rattle.chpw_connections.specs.Room.{HappensWithRoom}
-use Rattle.chpw_connections.specs.declared.connection.Connection.{Connection}
-use Rattle.chpw_connections.specs.declared.connection.Incoming.{Incoming}
-use Rattle.chpw_connections.specs.declared.connection.Phase.{Phase}
-use Rattle.chpw_connections.specs.declared.connection.Phase.TheVariants as phase
-use Rattle.chpw_connections.specs.declared.room.EvictionRule.{EvictionRule}
+use Rattle.chpw_connection.specs.declared.connection.Connection.{Connection}
+use Rattle.chpw_connection.specs.declared.connection.Incoming.{Incoming}
+use Rattle.chpw_connection.specs.declared.connection.Phase.{Phase}
+use Rattle.chpw_connection.specs.declared.connection.Phase.TheVariants as phase
+use Rattle.chpw_connection.specs.declared.eviction.EvictionRule.{EvictionRule}
 
 -- one event does to a stage what the other does
 record Same (now count since : ℕ) (s : Stage) (e f : Event) : Type 0 where

@@ -1,8 +1,8 @@
 -- Whose reply is confirmed.
 use Rattle.std.proofs.Common.{◌≡◌, ◌≢◌, ℕ, ◌+◌, ◌<◌, ◌≤◌, sym, ◌∙◌, subst, arith, Option, below_more, le_refl}
 use Rattle.slab.specs.Slab.{Slab, get}
-use Rattle.chpw_connections.specs.Confirming.{Confirms}
-use Rattle.chpw_connections.specs.declared.connection.Connection.{Connection}
+use Rattle.chpw_connection.specs.Confirming.{Confirms}
+use Rattle.chpw_connection.specs.declared.connection.Connection.{Connection}
 
 -- below this slot each was looked at, and from it on none
 pub record ConfirmedBelow (mark now : ℕ) (old new : Slab Connection) (n : ℕ) : Type 0 where

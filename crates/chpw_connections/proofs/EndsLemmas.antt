@@ -1,6 +1,6 @@
 -- Those that were ended to make room are noted.
-use Rattle.std.proofs.Common.{◌≡◌, ◌≢◌, ℕ, List, [], ◌∷◌, ◌++◌, ◌+◌, refl, sym, ◌∙◌, ap, subst, arith}
-use Rattle.std.proofs.Common.{Bool, true, false, not, ◌&&◌, ◌==◌, nat_lt, cond, Option, Some, None}
+use Rattle.std.proofs.Common.{◌≡◌, ◌≢◌, ℕ, List, [], ◌∷◌, ◌++◌, ◌+◌, refl, sym, ◌∙◌, ap, subst, arith, Bool, true, false, not, ◌&&◌, ◌==◌, nat_lt, cond, Option}
+use Rattle.std.proofs.Common.{Some, None}
 use Rattle.std.proofs.Math.Logic.{⊎_elim}
 use Rattle.std.proofs.lemmas.Bool.{cases_eq}
 use Rattle.std.proofs.lemmas.Bool.Decides.{nat_tests}
@@ -8,18 +8,23 @@ use Rattle.std.proofs.lemmas.List.{append-nil}
 use Rattle.std.specs.declared.collections.VecDeque.{VecDeque}
 use Rattle.std.specs.declared.alloc.Global.{Global}
 use Rattle.slab.specs.Slab.{Slab, get}
-use Rattle.chpw_connections.specs.Stages.{Stage, reading, queued, answering, confirming, writing, lingering, abandoned, ended}
-use Rattle.chpw_connections.specs.Stages.{Event, came, failed, after, stage, received}
-use Rattle.chpw_connections.specs.Messages.{wanted_after}
-use Rattle.chpw_connections.specs.Holding.{held_by}
-use Rattle.chpw_connections.specs.Sets.{waits, Comes, Happens, is_ended, is_ended_in, is_reading, is_reading_in}
-use Rattle.chpw_connections.specs.Waiting.{times}
-use Rattle.chpw_connections.specs.Room.{is_held_back, is_among, gives_way_at, IsLongestBesides, MakesRoom}
-use Rattle.chpw_connections.specs.Noting.{NotesEach, slot_if, is_gone, is_gone_in, is_with_worker_in, was_put_out, EachPutOut, NotesEnds}
-use Rattle.chpw_connections.specs.declared.connection.Connection.{Connection}
-use Rattle.chpw_connections.specs.declared.room.EvictionRule.{EvictionRule}
-use Rattle.chpw_connections.proofs.QueueLemmas.{times_push_same, times_push_other}
-use Rattle.chpw_connections.proofs.RoomLemmas.{and_left, waits_from, ends_waiting, besides_other, besides_same, was_before}
+use Rattle.chpw_connection.specs.Stages.{Stage, reading, queued, answering, confirming, writing, lingering, abandoned, ended, Event, came, failed, after, stage}
+use Rattle.chpw_connection.specs.Stages.{received}
+use Rattle.chpw_connection.specs.Messages.{wanted_after}
+use Rattle.chpw_connection.specs.Holding.{held_by}
+use Rattle.chpw_connection.specs.Slot.{waits, Comes, is_ended, is_ended_in, is_reading, is_reading_in, is_gone, is_gone_in, is_with_worker_in}
+use Rattle.chpw_slots.specs.Slots.{Happens}
+use Rattle.chpw_slots.specs.Waiting.{times}
+use Rattle.chpw_connection.specs.Eviction.{is_held_back, is_among, gives_way_at}
+use Rattle.chpw_slots.specs.Longest.{IsLongestBesides}
+use Rattle.chpw_connections.specs.Room.{MakesRoom}
+use Rattle.chpw_connections.specs.Noting.{NotesEach, slot_if, was_put_out, EachPutOut, NotesEnds}
+use Rattle.chpw_connection.specs.declared.connection.Connection.{Connection}
+use Rattle.chpw_connection.specs.declared.eviction.EvictionRule.{EvictionRule}
+use Rattle.chpw_slots.proofs.QueueLemmas.{times_push_same, times_push_other}
+use Rattle.chpw_connection.proofs.EvictionLemmas.{and_left, waits_from, ends_waiting}
+use Rattle.chpw_slots.proofs.WaitLemmas.{besides_other, besides_same}
+use Rattle.chpw_connections.proofs.RoomLemmas.{was_before}
 use Rattle.chpw_connections.proofs.NoteLemmas.{notes_none, notes_then, notes_as}
 
 -- who waits for its client hasn't ended and isn't gone

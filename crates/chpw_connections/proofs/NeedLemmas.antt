@@ -1,21 +1,24 @@
 -- Nobody is put out beyond need.
-use Rattle.std.proofs.Common.{◌≡◌, ◌≢◌, ℕ, ◌+◌, ◌<◌, ◌≤◌, length, refl, sym, ◌∙◌, ap, subst, arith}
-use Rattle.std.proofs.Common.{true, Option, Some, None}
+use Rattle.std.proofs.Common.{◌≡◌, ◌≢◌, ℕ, ◌+◌, ◌<◌, ◌≤◌, length, refl, sym, ◌∙◌, ap, subst, arith, true, Option, Some, None}
 use Rattle.std.proofs.Math.Logic.{⊎_elim}
 use Rattle.std.proofs.lemmas.Bool.{cases_eq, cases_lt}
 use Rattle.std.proofs.lemmas.List.{get_or_past}
 use Rattle.std.proofs.lemmas.List.Sums.{get_or-le-sum_by}
 use Rattle.slab.specs.Slab.{Slab, get}
-use Rattle.chpw_connections.specs.Stages.{Event, failed}
-use Rattle.chpw_connections.specs.Holding.{held_at, held_in}
-use Rattle.chpw_connections.specs.Sets.{Comes, Happens}
-use Rattle.chpw_connections.specs.Room.{gives_way_at, gives_way_since, IsLongestBesides, MakesRoom}
-use Rattle.chpw_connections.specs.Room.{held_besides, IsNeeded}
-use Rattle.chpw_connections.specs.declared.connection.Connection.{Connection}
-use Rattle.chpw_connections.specs.declared.room.EvictionRule.{EvictionRule}
-use Rattle.chpw_connections.proofs.HeldLemmas.{changed_sum}
-use Rattle.chpw_connections.proofs.RoomLemmas.{waits_from, besides_other, besides_same, was_before}
-use Rattle.chpw_connections.proofs.GivenLemmas.{held_less}
+use Rattle.chpw_connection.specs.Stages.{Event, failed}
+use Rattle.chpw_connection.specs.Holding.{held_at}
+use Rattle.chpw_slots.specs.Slots.{held_in, Happens}
+use Rattle.chpw_connection.specs.Slot.{Comes}
+use Rattle.chpw_connection.specs.Eviction.{gives_way_at, gives_way_since}
+use Rattle.chpw_slots.specs.Longest.{IsLongestBesides}
+use Rattle.chpw_connections.specs.Room.{MakesRoom, held_besides, IsNeeded}
+use Rattle.chpw_connection.specs.declared.connection.Connection.{Connection}
+use Rattle.chpw_connection.specs.declared.eviction.EvictionRule.{EvictionRule}
+use Rattle.chpw_slots.proofs.HeldLemmas.{changed_sum}
+use Rattle.chpw_connection.proofs.EvictionLemmas.{waits_from}
+use Rattle.chpw_slots.proofs.WaitLemmas.{besides_other, besides_same}
+use Rattle.chpw_connections.proofs.RoomLemmas.{was_before}
+use Rattle.chpw_slots.proofs.GivenLemmas.{held_less}
 
 held_here_le : (slots : Slab Connection) (slot : ℕ) → held_at (get slots slot) ≤ held_in slots
 held_here_le slots slot =

@@ -1,18 +1,18 @@
 -- Which slots are noted.
-use Rattle.std.proofs.Common.{◌≡◌, ℕ, ◌+◌, ◌-◌, ◌<◌, ◌≤◌, List, [], ◌∷◌, ◌++◌, length, refl, sym, ◌∙◌, ap, subst, arith}
-use Rattle.std.proofs.Common.{Bool, true, false, cond, Option, Some, None, inl, inr}
-use Rattle.std.proofs.Common.{append_assoc, length-append, add-one}
+use Rattle.std.proofs.Common.{◌≡◌, ℕ, ◌+◌, ◌-◌, ◌<◌, ◌≤◌, List, [], ◌∷◌, ◌++◌, length, refl, sym, ◌∙◌, ap, subst, arith, Bool, true, false, cond, Option, Some}
+use Rattle.std.proofs.Common.{None, inl, inr, append_assoc, length-append, add-one}
 use Rattle.std.proofs.lemmas.List.{append-nil}
 use Rattle.std.specs.VecDeque.{deque_items, deque_len, deque_capacity}
 use Rattle.std.specs.declared.collections.VecDeque.{VecDeque}
 use Rattle.std.specs.declared.alloc.Global.{Global}
 use Rattle.slab.specs.Slab.{Slab, get}
-use Rattle.chpw_connections.specs.Orders.{Picks}
-use Rattle.chpw_connections.specs.Noting.{NotesEach, slots_below, slot_if, is_gone, is_gone_in}
-use Rattle.chpw_connections.specs.Stages.{Stage, reading, queued, answering, confirming, writing, lingering, abandoned, ended, stage}
-use Rattle.chpw_connections.specs.Sets.{time_of, is_late_at, is_late_in}
-use Rattle.chpw_connections.specs.declared.limits.ConnectionLimits.{ConnectionLimits}
-use Rattle.chpw_connections.specs.declared.connection.Connection.{Connection}
+use Rattle.chpw_slots.specs.Orders.{Picks}
+use Rattle.chpw_connections.specs.Noting.{NotesEach, slots_below, slot_if}
+use Rattle.chpw_connection.specs.Slot.{is_gone, is_gone_in}
+use Rattle.chpw_connection.specs.Stages.{Stage, reading, queued, answering, confirming, writing, lingering, abandoned, ended, stage}
+use Rattle.chpw_connection.specs.Late.{time_of, is_late_at, is_late_in}
+use Rattle.chpw_connection.specs.declared.limits.ConnectionLimits.{ConnectionLimits}
+use Rattle.chpw_connection.specs.declared.connection.Connection.{Connection}
 
 picks_behind : (c b d : List ℕ) → Picks c d → Picks c (b ++ d)
 picks_behind c [] d p = p

@@ -1,6 +1,6 @@
 -- Whose time is up.
-use Rattle.std.proofs.Common.{◌≡◌, ◌≢◌, ℕ, ◌+◌, ◌<◌, ◌≤◌, List, [], ◌∷◌, length, refl, sym, ◌∙◌, ap, subst, arith, Bool}
-use Rattle.std.proofs.Common.{true, false, not, ◌&&◌, cond, ◌==◌, nat_lt, None, Option, MatchBool, below_more, le_refl}
+use Rattle.std.proofs.Common.{◌≡◌, ◌≢◌, ℕ, ◌+◌, ◌<◌, ◌≤◌, List, [], ◌∷◌, length, refl, sym, ◌∙◌, ap, subst, arith, Bool, true, false, not, ◌&&◌, cond, ◌==◌}
+use Rattle.std.proofs.Common.{nat_lt, None, Option, MatchBool, below_more, le_refl}
 use Rattle.std.specs.List.{filter}
 use Rattle.std.proofs.Math.Logic.{⊎_elim}
 use Rattle.std.proofs.lemmas.Bool.{cases_eq, cases_lt}
@@ -8,10 +8,10 @@ use Rattle.std.proofs.lemmas.Bool.Decides.{nat_tests}
 use Rattle.std.proofs.lemmas.List.{get_or_past}
 use Rattle.std.proofs.lemmas.List.Elements.{filter_agree}
 use Rattle.slab.specs.Slab.{Slab, get}
-use Rattle.chpw_connections.specs.Sets.{Passes, is_late_in}
-use Rattle.chpw_connections.specs.Waiting.{queue_in, without, in_time, Leaves}
-use Rattle.chpw_connections.specs.declared.limits.ConnectionLimits.{ConnectionLimits}
-use Rattle.chpw_connections.specs.declared.connection.Connection.{Connection}
+use Rattle.chpw_connection.specs.Late.{Passes, is_late_in}
+use Rattle.chpw_slots.specs.Waiting.{queue_in, without, in_time, Leaves}
+use Rattle.chpw_connection.specs.declared.limits.ConnectionLimits.{ConnectionLimits}
+use Rattle.chpw_connection.specs.declared.connection.Connection.{Connection}
 
 -- below this slot each was looked at, and from it on none
 pub record PassedBelow (b : ConnectionLimits) (now : ℕ) (old new : Slab Connection) (n : ℕ) : Type 0 where

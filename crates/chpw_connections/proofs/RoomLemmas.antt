@@ -1,60 +1,18 @@
 -- Who is put out to make room.
-use Rattle.std.proofs.Common.{◌≡◌, ◌≢◌, ℕ, ◌≤◌, refl, sym, ◌∙◌, ap, subst, arith, Bool, true}
-use Rattle.std.proofs.Common.{false, ◌==◌, ◌&&◌, not, nat_lt, cond, Option, Some, None, inl, inr}
+use Rattle.std.proofs.Common.{◌≡◌, ◌≢◌, ℕ, ◌≤◌, refl, sym, ◌∙◌, ap, subst, arith, true, not, Option, Some, inl, inr}
 use Rattle.std.proofs.Math.Logic.{⊎_elim}
 use Rattle.std.proofs.lemmas.Bool.{cases_eq}
-use Rattle.std.proofs.lemmas.Bool.Decides.{nat_tests}
 use Rattle.slab.specs.Slab.{Slab, get}
-use Rattle.chpw_connections.specs.Stages.{Stage, reading, queued, answering, confirming, writing, lingering, abandoned, ended, Event, failed, after, stage}
-use Rattle.chpw_connections.specs.Holding.{held_by, begun_of}
-use Rattle.chpw_connections.specs.Sets.{waits, Comes, Happens}
-use Rattle.chpw_connections.specs.Room.{is_held_back, is_among, gives_way, gives_way_at, gives_way_since, waits_besides}
-use Rattle.chpw_connections.specs.Room.{IsLongestBesides, PutsOut, LongestFirst, MakesRoom, HappensWithRoom}
-use Rattle.chpw_connections.specs.declared.connection.Connection.{Connection}
-use Rattle.chpw_connections.specs.declared.room.EvictionRule.{EvictionRule}
-
--- what gives way since a moment gives way
-pub waits_from : (who : EvictionRule) (o : Option Connection) (since : ℕ) → gives_way_since who o ≡ Some since → gives_way_at who o ≡ true
-waits_from who None since is = absurd cc
-waits_from who (Some c) since is = by_test (gives_way who c) is
-  where
-    by_test : (t : Bool) → cond t (Some (begun_of c)) None ≡ Some since → t ≡ true
-    by_test true e = refl
-    by_test false e = absurd cc
-
-pub and_left : (a b : Bool) → (a && b) ≡ true → a ≡ true
-and_left true b e = refl
-and_left false b e = e
-
--- the slot that room is made for is left out, and no other
-pub besides_other : (slots : Slab Connection) (who : EvictionRule) (b k : ℕ) → k ≢ b → waits_besides slots (Some b) who k ≡ gives_way_since who (get slots k)
-besides_other slots who b k differs =
-    let e : (k == b) ≡ false = grind (arith, nat_tests) in
-    ap (λ (t : Bool). cond t None (gives_way_since who (get slots k))) e
-
-pub besides_same : (slots : Slab Connection) (who : EvictionRule) (b k : ℕ) → k ≡ b → waits_besides slots (Some b) who k ≡ None
-besides_same slots who b k same =
-    let e : (k == b) ≡ true = grind (arith, nat_tests) in
-    ap (λ (t : Bool). cond t None (gives_way_since who (get slots k))) e
-
--- who waits for its client ends, and waits no more
-pub ends_waiting : (count : ℕ) (s : Stage) → waits s ≡ true → after count s failed ≡ ended
-ends_waiting count (reading bytes) is = refl
-ends_waiting count (queued message) is = absurd cc
-ends_waiting count (answering m) is = absurd cc
-ends_waiting count (confirming reply last mark) is = absurd cc
-ends_waiting count (writing left last) is = refl
-ends_waiting count lingering is = refl
-ends_waiting count abandoned is = absurd cc
-ends_waiting count ended is = absurd cc
-
-pub out_waits_not : (who : EvictionRule) (old new : Option Connection) → gives_way_at who old ≡ true → Comes 0 failed old new → gives_way_at who new ≡ false
-out_waits_not who None new is comes = absurd cc
-out_waits_not who (Some c) None is comes = absurd comes
-out_waits_not who (Some c) (Some d) is comes =
-    let waited : waits (stage c) ≡ true = and_left (waits (stage c)) (nat_lt 0 (held_by c.phase) && (not (is_held_back c) && is_among who c)) is in
-    let over : waits (stage d) ≡ false = ap waits (comes.stage_is ∙ ends_waiting c.answered (stage c) waited) in
-    ap (λ (b : Bool). b && (nat_lt 0 (held_by d.phase) && (not (is_held_back d) && is_among who d))) over
+use Rattle.chpw_connection.specs.Stages.{Event, failed}
+use Rattle.chpw_connection.specs.Slot.{Comes}
+use Rattle.chpw_slots.specs.Slots.{Happens}
+use Rattle.chpw_connection.specs.Eviction.{gives_way_at, gives_way_since}
+use Rattle.chpw_slots.specs.Longest.{IsLongestBesides}
+use Rattle.chpw_connections.specs.Room.{PutsOut, LongestFirst, MakesRoom, HappensWithRoom}
+use Rattle.chpw_connection.specs.declared.connection.Connection.{Connection}
+use Rattle.chpw_connection.specs.declared.eviction.EvictionRule.{EvictionRule}
+use Rattle.chpw_connection.proofs.EvictionLemmas.{waits_from, out_waits_not}
+use Rattle.chpw_slots.proofs.WaitLemmas.{besides_other, besides_same}
 
 -- who waits was not put out before
 pub was_before : (who : EvictionRule) (old mid : Option Connection) → PutsOut who old mid → gives_way_at who mid ≡ true → mid ≡ old

@@ -1,13 +1,9 @@
 -- How many messages were dropped because they had waited too long for their workers.
-use Rattle.std.specs.Prelude.{ℕ, ◌+◌, min, Option, Bool, ◌&&◌, is_some, count_by, if◌then◌else◌}
+use Rattle.std.specs.Prelude.{ℕ, ◌+◌, min, Bool, count_by, if◌then◌else◌}
 use Rattle.slab.specs.Slab.{Slab}
-use Rattle.chpw_connections.specs.Sets.{queued_at, is_late_in}
-use Rattle.chpw_connections.specs.declared.limits.ConnectionLimits.{ConnectionLimits}
-use Rattle.chpw_connections.specs.declared.connection.Connection.{Connection}
-
--- its message waits for a worker, and has waited too long
-abbrev pub is_dropped_in : ConnectionLimits → ℕ → Option Connection → Bool
-is_dropped_in b now o = is_late_in b now o && is_some (queued_at o)
+use Rattle.chpw_connection.specs.declared.limits.ConnectionLimits.{ConnectionLimits}
+use Rattle.chpw_connection.specs.declared.connection.Connection.{Connection}
+use Rattle.chpw_connection.specs.Late.{is_dropped_in}
 
 -- how many such connections there are
 abbrev pub dropped_in : ConnectionLimits → ℕ → Slab Connection → ℕ

@@ -2,8 +2,8 @@
 use Rattle.std.specs.Prelude.{◌≡◌, ℕ, ◌<◌, List, [], ◌∷◌, ◌++◌, ◌⊎◌}
 use Rattle.std.specs.VecDeque.{deque_items, deque_len, deque_capacity}
 use Rattle.slab.specs.Slab.{Slab}
-use Rattle.chpw_connections.specs.declared.limits.ConnectionLimits.{ConnectionLimits}
-use Rattle.chpw_connections.specs.declared.connection.Connection.{Connection}
+use Rattle.chpw_connection.specs.declared.limits.ConnectionLimits.{ConnectionLimits}
+use Rattle.chpw_connection.specs.declared.connection.Connection.{Connection}
 use Rattle.chpw_connections.specs.declared.set.Connections.{Connections}
 
 -- the connections by their slots

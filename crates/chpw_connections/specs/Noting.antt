@@ -1,20 +1,17 @@
 -- Which slots a call notes for the caller.
-use Rattle.std.specs.Prelude.{◌≡◌, ℕ, zero, suc, ◌+◌, ◌<◌, ◌≤◌, ◌==◌, List, [], ◌∷◌, ◌++◌, length, Bool, true, false, not, ◌&&◌, ◌||◌}
-use Rattle.std.specs.Prelude.{Option, Some, None, if◌then◌else◌}
+use Rattle.std.specs.Prelude.{◌≡◌, ℕ, zero, suc, ◌+◌, ◌<◌, ◌≤◌, ◌==◌, List, [], ◌∷◌, ◌++◌, length, Bool, not, ◌&&◌, Option, Some, None, if◌then◌else◌}
 use Rattle.std.specs.List.{list_any}
 use Rattle.std.specs.VecDeque.{deque_items, deque_len, deque_capacity}
 use Rattle.std.specs.declared.collections.VecDeque.{VecDeque}
 use Rattle.std.specs.declared.alloc.Global.{Global}
 use Rattle.slab.specs.Slab.{Slab, get}
-use Rattle.chpw_connections.specs.Orders.{Picks}
-use Rattle.chpw_connections.specs.Waiting.{times}
-use Rattle.chpw_connections.specs.Stages.{Stage, abandoned, ended, stage}
-use Rattle.chpw_connections.specs.Sets.{is_ended_in, is_reading_in, is_lingering_in}
-use Rattle.chpw_connections.specs.Times.{is_with_worker}
-use Rattle.chpw_connections.specs.Confirming.{overdue_in}
-use Rattle.chpw_connections.specs.Room.{gives_way_at}
-use Rattle.chpw_connections.specs.declared.connection.Connection.{Connection}
-use Rattle.chpw_connections.specs.declared.room.EvictionRule.{EvictionRule}
+use Rattle.chpw_slots.specs.Orders.{Picks}
+use Rattle.chpw_slots.specs.Waiting.{times}
+use Rattle.chpw_connection.specs.Slot.{is_ended_in}
+use Rattle.chpw_connection.specs.Confirming.{overdue_in}
+use Rattle.chpw_connection.specs.Eviction.{gives_way_at}
+use Rattle.chpw_connection.specs.declared.connection.Connection.{Connection}
+use Rattle.chpw_connection.specs.declared.eviction.EvictionRule.{EvictionRule}
 use Rattle.chpw_connections.specs.declared.set.Connections.{Connections}
 
 -- the queue of the slots that are noted, with its room
@@ -49,25 +46,6 @@ slots_below test slots (suc n) = slots_below test slots n ++ slot_if (test (get 
 -- all whose connections pass a test, in order
 abbrev pub slots_where : (Option Connection → Bool) → Slab Connection → List ℕ
 slots_where test slots = slots_below test slots slots.capacity
-
--- there is no connection, or one that has ended or is gone: it can't fail any more
-abbrev pub is_gone : Stage → Bool
-is_gone abandoned = true
-is_gone ended = true
-is_gone s = false
-
-abbrev pub is_gone_in : Option Connection → Bool
-is_gone_in None = true
-is_gone_in (Some c) = is_gone (stage c)
-
--- a worker has its message, gone or not
-abbrev pub is_with_worker_in : Option Connection → Bool
-is_with_worker_in None = false
-is_with_worker_in (Some c) = is_with_worker (stage c)
-
--- it ends where its client closes its side
-abbrev pub ends_closed_in : Option Connection → Bool
-ends_closed_in o = is_reading_in o || is_lingering_in o
 
 -- the first slot whose reply has waited for this long for this mark
 pub record IsFirstOverdue (wait now : ℕ) (slots : Slab Connection) (mark slot : ℕ) : Type 0 where

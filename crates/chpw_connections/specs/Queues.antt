@@ -1,12 +1,13 @@
 -- The queues of a set of connections: which messages wait for which worker, in the order in which they came.
 use Rattle.std.specs.Prelude.{◌≡◌, ℕ, true, List, [], ◌∷◌, length}
 use Rattle.slab.specs.Slab.{get}
-use Rattle.chpw_connections.specs.Waiting.{lists_of, queue_in, times, times_for, waits_for}
+use Rattle.chpw_slots.specs.Waiting.{lists_of, queue_in, times, times_for, waits_for}
 use Rattle.chpw_connections.specs.Held.{slots_of, bounds_of, expired_by}
 use Rattle.chpw_connections.specs.Expiry.{and_more}
 use Rattle.chpw_connections.specs.Noting.{noted_by, NotesEach}
-use Rattle.chpw_connections.specs.Stages.{failed}
-use Rattle.chpw_connections.specs.Sets.{Happens, is_late_in}
+use Rattle.chpw_connection.specs.Stages.{failed}
+use Rattle.chpw_slots.specs.Slots.{Happens}
+use Rattle.chpw_connection.specs.Late.{is_late_in}
 use Rattle.chpw_connections.specs.declared.set.Connections.{Connections}
 
 -- the queues of all workers: the slots whose messages wait, the next one first

@@ -1,64 +1,15 @@
 -- Who is ended to make room, when connections would hold too much.
-use Rattle.std.specs.Prelude.{◌≡◌, ◌≢◌, ℕ, ◌+◌, ◌-◌, ◌/◌, ◌<◌, ◌≤◌, ◌==◌, Option, Some, None, Bool}
-use Rattle.std.specs.Prelude.{true, false, ◌&&◌, not, nat_lt, nat_le, if◌then◌else◌, ◌⊎◌, sum_by}
+use Rattle.std.specs.Prelude.{◌≡◌, ◌≢◌, ℕ, ◌+◌, ◌-◌, ◌/◌, ◌<◌, ◌≤◌, Option, Some, None, Bool, true, false, nat_lt, if◌then◌else◌, ◌⊎◌}
 use Rattle.slab.specs.Slab.{Slab, get}
-use Rattle.chpw_connections.specs.Holding.{held_by, held_at, held_in, size_by, growth_by, growth_at, begun_of}
-use Rattle.chpw_connections.specs.Stages.{Event, failed, stage}
-use Rattle.chpw_connections.specs.Sets.{waits, waits_since, Comes}
-use Rattle.chpw_connections.specs.declared.limits.ConnectionLimits.{ConnectionLimits}
-use Rattle.chpw_connections.specs.declared.connection.Connection.{Connection}
-use Rattle.chpw_connections.specs.declared.room.EvictionRule.{EvictionRule}
-
--- there is no room yet for all of the message that it reads: it waits for room, not for its client
-abbrev pub is_held_back : Connection → Bool
-is_held_back c = nat_lt 0 (growth_by c.phase)
-
--- its message or its reply is large enough, and has been under way for long enough
-abbrev pub is_among : EvictionRule → Connection → Bool
-is_among who c = nat_lt who.larger_than (size_by c.phase) && nat_le (begun_of c) who.begun_by
-
--- such a one that waits for its client and holds some bytes: ending one that holds none frees nothing
-abbrev pub gives_way : EvictionRule → Connection → Bool
-gives_way who c = waits (stage c) && (nat_lt 0 (held_by c.phase) && (not (is_held_back c) && is_among who c))
-
-abbrev pub gives_way_at : EvictionRule → Option Connection → Bool
-gives_way_at who None = false
-gives_way_at who (Some c) = gives_way who c
-
--- since when its message or reply has been under way, if it gives way
-abbrev pub gives_way_since : EvictionRule → Option Connection → Option ℕ
-gives_way_since who None = None
-gives_way_since who (Some c) = if gives_way who c then Some (begun_of c) else None
-
--- how many bytes its end would free
-abbrev pub given_at : EvictionRule → Option Connection → ℕ
-given_at who None = 0
-given_at who (Some c) = if gives_way who c then held_by c.phase else 0
-
--- how many bytes the ends of all that give way would free
-abbrev pub given_in : EvictionRule → Slab Connection → ℕ
-given_in who slots = sum_by (given_at who) slots.slots
-
--- how many would be held if all that give way had ended but the one in this slot
-abbrev pub staying_besides : EvictionRule → Slab Connection → ℕ → ℕ
-staying_besides who slots slot = held_in slots - (given_in who slots - given_at who (get slots slot))
-
--- this many more could be held within a bound, if they had
-abbrev pub has_room_besides : ℕ → EvictionRule → Slab Connection → ℕ → ℕ → Bool
-has_room_besides most who slots slot count = not (nat_lt most (staying_besides who slots slot + count))
-
--- since when a slot's connection waits for its client; if room for bytes is made for another one, if it gives way
-abbrev pub waits_besides : Slab Connection → Option ℕ → EvictionRule → ℕ → Option ℕ
-waits_besides slots None who slot = waits_since (get slots slot)
-waits_besides slots (Some besides) who slot = if slot == besides then None else gives_way_since who (get slots slot)
-
--- among these, this one has waited longest
-abbrev pub IsLongestBesides : Slab Connection → Option ℕ → EvictionRule → ℕ → Type 0
-IsLongestBesides slots besides who slot = (since : ℕ) × (waits_besides slots besides who slot ≡ Some since)
-    × ((other s : ℕ) → waits_besides slots besides who other ≡ Some s → since ≤ s)
-
-abbrev pub NobodyWaitsBesides : Slab Connection → Option ℕ → EvictionRule → Type 0
-NobodyWaitsBesides slots besides who = (slot : ℕ) → waits_besides slots besides who slot ≡ None
+use Rattle.chpw_connection.specs.Holding.{held_at, size_by, growth_at}
+use Rattle.chpw_slots.specs.Slots.{held_in}
+use Rattle.chpw_connection.specs.Stages.{Event, failed}
+use Rattle.chpw_connection.specs.Slot.{Comes}
+use Rattle.chpw_connection.specs.declared.limits.ConnectionLimits.{ConnectionLimits}
+use Rattle.chpw_connection.specs.declared.connection.Connection.{Connection}
+use Rattle.chpw_connection.specs.declared.eviction.EvictionRule.{EvictionRule}
+use Rattle.chpw_connection.specs.Eviction.{gives_way_at, gives_way_since}
+use Rattle.chpw_slots.specs.Longest.{has_room_besides}
 
 -- it is unchanged, or it gave way and was ended
 abbrev pub PutsOut : EvictionRule → Option Connection → Option Connection → Type 0

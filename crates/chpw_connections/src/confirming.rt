@@ -1,11 +1,11 @@
 //! Replies that wait until their changes are confirmed.
 ghost use Rattle.std.specs.Prelude.{◌≡◌, ◌≢◌, ◌≤◌, ◌<◌, ℕ, false, IfSome, IfNone, Some, None, ◌∷◌, []};
 ghost use Rattle.slab.specs.Slab.{get};
-ghost use Rattle.chpw_connections.specs.Holding.{held_in};
-ghost use Rattle.chpw_connections.specs.Stages.{released};
-ghost use Rattle.chpw_connections.specs.Sets.{Happens};
+ghost use Rattle.chpw_slots.specs.Slots.{held_in, Happens};
+ghost use Rattle.chpw_connection.specs.Stages.{released};
 ghost use Rattle.chpw_connections.specs.Queues.{queues_of};
-ghost use Rattle.chpw_connections.specs.Confirming.{is_confirmed_in, Confirms, overdue_in, ReleasesOverdue, NoneIsOverdue};
+ghost use Rattle.chpw_connection.specs.Confirming.{is_confirmed_in, Confirms, overdue_in};
+ghost use Rattle.chpw_connections.specs.Confirming.{ReleasesOverdue, NoneIsOverdue};
 ghost use Rattle.chpw_connections.specs.Held.{slots_of, accepted_by, removed_by, expired_by, bounds_of, Counts};
 ghost use Rattle.chpw_connections.specs.Noting.{noted_by, NotesEach, IsFirstOverdue, slot_if, slots_where};
 
@@ -106,7 +106,7 @@ impl Connections {
     }
 
     // The reply in a slot is to be written.
-    #[tactic(auto, using(crate::proofs::HoldsLemmas::holds_quiet))]
+    #[tactic(auto, using(chpw_slots::proofs::HoldsLemmas::holds_quiet))]
     fn release(&mut self, slot: usize, now: u64)
         ensures happens { Happens now (slots_of self.old) (slots_of self.new) slot released }
         ensures counts { Counts self.new (accepted_by self.old) (removed_by self.old) }

@@ -3,29 +3,26 @@ ghost use Rattle.std.specs.Prelude.{MatchBool, ◌≡◌, ◌≢◌, ◌+◌, �
 ghost use Rattle.std.specs.Prelude.{true, false, IfSome, IfNone, IsSome, IfOk, Some, None};
 ghost use Rattle.std.specs.Prelude.{[], if◌then◌else◌, is_some};
 ghost use Rattle.slab.specs.Slab.{get, slab_len, Updates};
-ghost use Rattle.chpw_connections.specs.Holding.{held_in};
-ghost use Rattle.chpw_connections.specs.Stages.{wrote, closed, failed};
-ghost use Rattle.chpw_connections.specs.Sets.{Happens, wanted_at, left_at, queued_at};
-ghost use Rattle.chpw_connections.specs.Sets.{is_late_in, Passes, is_lingering_in, is_ended_in};
-ghost use Rattle.chpw_connections.specs.Sets.{IsNew};
-ghost use Rattle.chpw_connections.specs.Expiry.{one_more, is_dropped_in, dropped_in, and_more};
+ghost use Rattle.chpw_slots.specs.Slots.{held_in, Happens, IsNew};
+ghost use Rattle.chpw_connection.specs.Stages.{wrote, closed, failed};
+ghost use Rattle.chpw_connection.specs.Slot.{wanted_at, left_at, queued_at, is_lingering_in, is_ended_in};
+ghost use Rattle.chpw_connection.specs.Late.{is_late_in, Passes, is_dropped_in};
+ghost use Rattle.chpw_connections.specs.Expiry.{one_more, dropped_in, and_more};
 ghost use Rattle.chpw_connections.specs.Queues.{queues_of, queue_of, workers_of};
-ghost use Rattle.chpw_connections.specs.Waiting.{in_time, Leaves};
+ghost use Rattle.chpw_slots.specs.Waiting.{in_time, Leaves};
 ghost use Rattle.chpw_connections.specs.Held.{slots_of, accepted_by, removed_by, expired_by, bounds_of, changed_of, Counts};
 ghost use Rattle.chpw_connections.specs.Noting.{noted_by, room_to_note, NotesEach, slot_if, slots_where};
-ghost use Rattle.chpw_connections.specs.Noting.{is_gone_in, ends_closed_in};
+ghost use Rattle.chpw_connection.specs.Slot.{is_gone_in, ends_closed_in};
 
-use crate::connection::{Connection, Phase};
-use crate::limits::ConnectionLimits;
 use crate::set::Connections;
-use crate::slots::Slots;
-use crate::waiting::Queues;
+use chpw_connection::{Connection, ConnectionLimits, Phase};
+use chpw_slots::{Queues, Slots};
 use std::alloc::{AllocError, Global};
 use std::collections::VecDeque;
 
 impl Connections {
     /// No connections yet, for this many workers, but at least one.
-    #[tactic(auto, using(crate::proofs::HoldsLemmas::holds_none))]
+    #[tactic(auto, using(chpw_slots::proofs::HoldsLemmas::holds_none))]
     pub fn new(
         alloc: Global,
         bounds: ConnectionLimits,
@@ -92,7 +89,7 @@ impl Connections {
 
     /// A connection of this peer was accepted: it is in this slot, which was free. None if there are as many as
     /// allowed, or after 18,446,744,073,709,551,615: more than can come in five hundred years.
-    #[tactic(auto, using(crate::proofs::HoldsLemmas::holds_accepted))]
+    #[tactic(auto, using(chpw_slots::proofs::HoldsLemmas::holds_accepted))]
     pub fn accept(&mut self, peer: [u8; 4], now: u64) -> Option<usize>
         ensures some { slab_len (slots_of self.old) < (bounds_of self.old).connections → accepted_by self.old < 18446744073709551615 → IsSome result }
         ensures accepted { IfSome result (λ slot. IsNew peer now (accepted_by self.old) (slots_of self.old) (slots_of self.new) slot) }
@@ -121,7 +118,7 @@ impl Connections {
     }
 
     /// The client closed its writing side, and all that it wrote was read.
-    #[tactic(auto, using(crate::proofs::HoldsLemmas::holds_quiet))]
+    #[tactic(auto, using(chpw_slots::proofs::HoldsLemmas::holds_quiet))]
     pub fn input_ended(&mut self, slot: usize)
         ensures happens { Happens 0 (slots_of self.old) (slots_of self.new) slot closed }
         ensures counts { Counts self.new (accepted_by self.old) (removed_by self.old) }
@@ -162,7 +159,7 @@ impl Connections {
     }
 
     /// `count` bytes of a connection's reply were written.
-    #[tactic(auto, using(crate::proofs::HoldsLemmas::holds_quiet))]
+    #[tactic(auto, using(chpw_slots::proofs::HoldsLemmas::holds_quiet))]
     pub fn wrote(&mut self, slot: usize, count: usize, now: u64)
         ensures happens { Happens now (slots_of self.old) (slots_of self.new) slot (wrote count) }
         ensures counts { Counts self.new (accepted_by self.old) (removed_by self.old) }
@@ -196,7 +193,7 @@ impl Connections {
     }
 
     /// Removes a connection that has ended; whether it had. Its slot is free then.
-    #[tactic(auto, using(crate::proofs::HoldsLemmas::holds_removed))]
+    #[tactic(auto, using(chpw_slots::proofs::HoldsLemmas::holds_removed))]
     pub fn remove(&mut self, slot: usize) -> bool
         ensures value { result ≡ is_ended_in (get (slots_of self.old) slot) }
         ensures freed { result ≡ true → Updates (slots_of self.old) (slots_of self.new) slot None }

@@ -4,29 +4,17 @@
 #![tactic(auto)]
 
 mod confirming;
-mod connection;
 mod connections;
-mod counting;
 pub mod laws;
-mod limits;
-mod longest;
-mod message;
 mod noted;
 mod phases;
 mod queues;
 mod receiving;
-mod remembered;
 mod room;
 mod set;
-mod slots;
 mod taking;
-mod todo;
-mod waiting;
 
+pub use chpw_connection::{ConnectionLimits, Counted, MAX_MESSAGES, Todo};
 pub use confirming::Unconfirmed;
-pub use connection::MAX_MESSAGES;
-pub use counting::Counted;
-pub use limits::ConnectionLimits;
 pub use set::Connections;
 pub use taking::{Reply, TakenMessage, Turn};
-pub use todo::Todo;

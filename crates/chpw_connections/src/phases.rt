@@ -1,14 +1,32 @@
-//! The stage of the connection in a slot.
+//! In which stages connections are, and what is to be done for them.
 ghost use Rattle.std.specs.Prelude.{◌≡◌, is_some};
 ghost use Rattle.slab.specs.Slab.{get};
-ghost use Rattle.chpw_connections.specs.Sets.{queued_at, is_reading_in, is_answering_in};
+ghost use Rattle.chpw_connection.specs.Slot.{queued_at, is_reading_in, is_answering_in, is_with_worker_in, is_gone_in};
+ghost use Rattle.chpw_connection.specs.Todos.{todo_in};
+ghost use Rattle.chpw_slots.specs.Counting.{count_in};
 ghost use Rattle.chpw_connections.specs.Held.{slots_of};
-ghost use Rattle.chpw_connections.specs.Noting.{is_with_worker_in, is_gone_in};
 
-use crate::connection::Phase;
 use crate::set::Connections;
+use chpw_connection::{Counted, Phase, Todo};
 
 impl Connections {
+    /// What is to be done for the connection in a slot.
+    pub fn todo(&self, slot: usize) -> Todo
+        ensures value { result ≡ todo_in (get (slots_of self.now) slot) }
+    {
+        match self.slots.get(slot) {
+            None => Todo::Wait,
+            Some(connection) => connection.todo(),
+        }
+    }
+
+    /// How many are in this stage.
+    pub fn count(&self, which: Counted) -> usize
+        ensures value { result ≡ count_in which (slots_of self.now) }
+    {
+        self.slots.count(which)
+    }
+
     /// Whether the connection in a slot reads a message.
     pub(crate) fn is_reading(&self, slot: usize) -> bool
         ensures value { result ≡ is_reading_in (get (slots_of self.now) slot) }

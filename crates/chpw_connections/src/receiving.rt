@@ -2,18 +2,19 @@
 ghost use Rattle.std.specs.Prelude.{◌≡◌, ◌≢◌, ◌+◌, ◌<◌, ◌≤◌, ◌&&◌, ◌%◌, ℕ, true, false, IfSome, IfNone, Some, None, ◌⊎◌};
 ghost use Rattle.std.specs.Prelude.{◌∷◌, ◌++◌, []};
 ghost use Rattle.slab.specs.Slab.{get};
-ghost use Rattle.chpw_connections.specs.Holding.{held_in, growth_at};
-ghost use Rattle.chpw_connections.specs.Stages.{came, failed};
-ghost use Rattle.chpw_connections.specs.Sets.{Happens, wanted_at, is_ended_in, is_reading_in};
+ghost use Rattle.chpw_slots.specs.Slots.{held_in, Happens};
+ghost use Rattle.chpw_connection.specs.Holding.{growth_at};
+ghost use Rattle.chpw_connection.specs.Stages.{came, failed};
+ghost use Rattle.chpw_connection.specs.Slot.{wanted_at, is_ended_in, is_reading_in};
 ghost use Rattle.chpw_connections.specs.Room.{HappensWithRoom, IsNeeded, read_within, for_message, is_large_in};
 ghost use Rattle.chpw_connections.specs.Room.{has_room_to_read as has_room_to_read_in};
 ghost use Rattle.chpw_connections.specs.Queues.{queues_of, queue_of, workers_of};
-ghost use Rattle.chpw_connections.specs.Waiting.{waits_for, Becomes, Leaves};
+ghost use Rattle.chpw_slots.specs.Waiting.{waits_for, Becomes, Leaves};
 ghost use Rattle.chpw_connections.specs.Held.{slots_of, accepted_by, removed_by, expired_by, bounds_of, Counts};
 ghost use Rattle.chpw_connections.specs.Noting.{noted_by, NotesEnds, slot_if};
 
-use crate::message::at_most;
 use crate::set::Connections;
+use chpw_connection::at_most;
 
 impl Connections {
     /// These bytes of a connection's message came, of which those count that are wanted. If the message is complete
@@ -22,7 +23,7 @@ impl Connections {
     /// have been under way for the bounds' grace, the longest first: for a large message only other large ones, and
     /// nobody if that isn't enough. Without room or memory for them the connection is ended. Bytes for a free slot, and
     /// for a connection that wants none now, change nothing.
-    #[tactic(auto, using(crate::proofs::ReadingLemmas::unwanted_unread))]
+    #[tactic(auto, using(chpw_connection::proofs::ReadingLemmas::unwanted_unread))]
     pub fn receive(&mut self, slot: usize, bytes: &[u8], now: u64) -> Option<usize>
         ensures queued { IfSome result (λ worker. HappensWithRoom (for_message (bounds_of self.old) now
             (get (slots_of self.old) slot)) now (slots_of self.old) (slots_of self.new) slot (came bytes.now)) }

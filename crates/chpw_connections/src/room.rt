@@ -1,27 +1,22 @@
 //! How much room there is, and who is ended to make more.
 ghost use Rattle.std.specs.Prelude.{◌≡◌, ◌+◌, ◌≤◌, ◌<◌, ℕ, not, nat_lt, true, false, ◌^◌, ◌&&◌, ◌∷◌, [], IfSome, IfNone};
-ghost use Rattle.chpw_connections.specs.Holding.{held_in, growth_at};
-ghost use Rattle.chpw_connections.specs.Stages.{failed};
-ghost use Rattle.chpw_connections.specs.Sets.{Happens, IsLongest, NobodyWaits, is_answering_in};
+ghost use Rattle.chpw_slots.specs.Slots.{held_in, Happens};
+ghost use Rattle.chpw_connection.specs.Holding.{growth_at};
+ghost use Rattle.chpw_connection.specs.Stages.{failed};
+ghost use Rattle.chpw_slots.specs.Longest.{IsLongest, NobodyWaits, has_room_besides};
+ghost use Rattle.chpw_connection.specs.Slot.{is_answering_in};
 ghost use Rattle.slab.specs.Slab.{get};
 ghost use Rattle.chpw_connections.specs.Room.{MakesRoom, IsNeeded, is_large_in, read_within, for_message, for_reply};
-ghost use Rattle.chpw_connections.specs.Room.{has_room_besides, has_room_to_read as has_room_to_read_in};
+ghost use Rattle.chpw_connections.specs.Room.{has_room_to_read as has_room_to_read_in};
 ghost use Rattle.chpw_connections.specs.Queues.{queues_of};
 ghost use Rattle.chpw_connections.specs.Held.{slots_of, accepted_by, removed_by, expired_by, bounds_of, Counts};
 ghost use Rattle.chpw_connections.specs.Noting.{noted_by, NotesEach, NotesEnds};
 
 use crate::set::Connections;
+use chpw_connection::EvictionRule;
 
 /// A message of more bytes is a large one.
 const LARGEST_SMALL: usize = 4_096;
-
-/// Who may be ended to make room: connections with a message or reply of more than `larger_than` bytes that has been
-/// under way since `begun_by` or longer.
-#[derive(Clone, Copy, PartialEq, Eq, Debug, Default, Drop)]
-pub(crate) struct EvictionRule {
-    pub larger_than: usize,
-    pub begun_by: u64,
-}
 
 impl Connections {
     /// How many bytes of messages and replies they hold together: never more than allowed.
@@ -33,7 +28,7 @@ impl Connections {
     }
 
     /// Ends the connection that has waited longest for its client, to make room: its slot, if there was one.
-    #[tactic(auto, using(crate::proofs::HoldsLemmas::longest_not_queued))]
+    #[tactic(auto, using(chpw_slots::proofs::HoldsLemmas::longest_not_queued))]
     pub fn make_room(&mut self) -> Option<usize>
         ensures ended { IfSome result (λ slot. IsLongest (slots_of self.old) slot
             × Happens 0 (slots_of self.old) (slots_of self.new) slot failed) }

@@ -1,11 +1,10 @@
 //! What a set of connections is.
 ghost use Rattle.std.specs.Prelude.{◌≡◌, ◌+◌, ◌≤◌};
 ghost use Rattle.slab.specs.Slab.{slab_len};
-ghost use Rattle.chpw_connections.specs.Waiting.{lists_of, Holds};
+ghost use Rattle.chpw_slots.specs.Waiting.{lists_of, Holds};
 
-use crate::limits::ConnectionLimits;
-use crate::slots::Slots;
-use crate::waiting::Queues;
+use chpw_connection::ConnectionLimits;
+use chpw_slots::{Queues, Slots};
 use std::alloc::Global;
 use std::collections::VecDeque;
 

@@ -2,20 +2,21 @@
 ghost use Rattle.std.specs.Prelude.{◌≡◌, ◌≢◌, ◌+◌, ◌≤◌, ◌&&◌, ℕ, not, true, false, IfSome, IfNone, IsSome, Some, ◌⊎◌};
 ghost use Rattle.std.specs.Prelude.{◌∷◌, [], length, drop};
 ghost use Rattle.slab.specs.Slab.{get};
-ghost use Rattle.chpw_connections.specs.Holding.{held_in};
-ghost use Rattle.chpw_connections.specs.Messages.{IsPiece};
-ghost use Rattle.chpw_connections.specs.Stages.{taken as is_taken, replied, deferred, unanswered};
-ghost use Rattle.chpw_connections.specs.Sets.{Happens, queued_at, is_late_in, is_answering_in};
-ghost use Rattle.chpw_connections.specs.Room.{HappensWithRoom, IsNeeded, has_room_besides, for_reply};
+ghost use Rattle.chpw_slots.specs.Slots.{held_in, Happens};
+ghost use Rattle.chpw_connection.specs.Messages.{IsPiece};
+ghost use Rattle.chpw_connection.specs.Stages.{taken as is_taken, replied, deferred, unanswered};
+ghost use Rattle.chpw_connection.specs.Slot.{queued_at, is_answering_in, is_with_worker_in};
+ghost use Rattle.chpw_connection.specs.Late.{is_late_in};
+ghost use Rattle.chpw_connections.specs.Room.{HappensWithRoom, IsNeeded, for_reply};
+ghost use Rattle.chpw_slots.specs.Longest.{has_room_besides};
 ghost use Rattle.chpw_connections.specs.Queues.{queues_of, queue_of, workers_of, DropsLate};
-ghost use Rattle.chpw_connections.specs.Waiting.{Becomes};
+ghost use Rattle.chpw_slots.specs.Waiting.{Becomes};
 ghost use Rattle.chpw_connections.specs.Held.{slots_of, accepted_by, removed_by, expired_by, bounds_of, Counts};
-ghost use Rattle.chpw_connections.specs.Noting.{noted_by, NotesEach, NotesEnds, slot_if, is_with_worker_in};
-ghost use Rattle.chpw_connections.specs.Messages.{IsPiece};
+ghost use Rattle.chpw_connections.specs.Noting.{noted_by, NotesEach, NotesEnds, slot_if};
 ghost use Rattle.chpw_connections.specs.Turns.{slot_of, peer_of, message_of};
 
-use crate::message::WholeMessage;
 use crate::set::Connections;
+use chpw_connection::WholeMessage;
 
 /// A message that a worker took, with its peer. Only `Connections::take` makes one, and it is used up by what the worker
 /// did about it: by `answer`, `defer` or `leave_unanswered`. So each is answered once, and its reply goes to the
@@ -42,7 +43,7 @@ impl TakenMessage {
     }
 
     /// Its length in four bytes, and then its bytes; of one that is too long its length alone.
-    #[tactic(auto, using(crate::proofs::PieceLemmas::whole_is_piece))]
+    #[tactic(auto, using(chpw_connection::proofs::PieceLemmas::whole_is_piece))]
     pub fn message(&self) -> &[u8]
         ensures value { result.now ≡ message_of self.now }
         ensures piece { IsPiece (message_of self.now) }
@@ -228,7 +229,7 @@ impl Connections {
     }
 
     // The connection in a slot, whose message a worker has, ends without a reply.
-    #[tactic(auto, using(crate::proofs::HoldsLemmas::holds_quiet))]
+    #[tactic(auto, using(chpw_slots::proofs::HoldsLemmas::holds_quiet))]
     fn end_unanswered(&mut self, slot: usize, now: u64)
         ensures happens { Happens now (slots_of self.old) (slots_of self.new) slot unanswered }
         ensures counts { Counts self.new (accepted_by self.old) (removed_by self.old) }

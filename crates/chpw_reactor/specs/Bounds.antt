@@ -1,6 +1,6 @@
 -- What connections hold, in bytes and milliseconds.
 use Rattle.std.specs.Prelude.{◌*◌}
-use Rattle.chpw_connections.specs.declared.limits.ConnectionLimits.{ConnectionLimits}
+use Rattle.chpw_connection.specs.declared.limits.ConnectionLimits.{ConnectionLimits}
 use Rattle.chpw_reactor.specs.declared.options.PoolOptions.{PoolOptions}
 
 -- a message under way is left alone for a second, waits at most five seconds for its worker, and an end at most a

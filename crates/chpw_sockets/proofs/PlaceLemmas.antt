@@ -1,8 +1,8 @@
 -- What stands at the places of a list behind a write at one of them.
 use Rattle.std.proofs.Common.{◌≡◌, ℕ, zero, suc, ◌<◌, ◌≤◌, List, [], ◌∷◌, ◌++◌, length, take, set, slice_get, refl, ap, subst, arith, Option, Some, None}
 use Rattle.slab.specs.Slab.{Slab}
-use Rattle.chpw_connections.specs.declared.limits.ConnectionLimits.{ConnectionLimits}
-use Rattle.chpw_connections.specs.declared.connection.Connection.{Connection}
+use Rattle.chpw_connection.specs.declared.limits.ConnectionLimits.{ConnectionLimits}
+use Rattle.chpw_connection.specs.declared.connection.Connection.{Connection}
 use Rattle.chpw_datagrams.specs.declared.sender.Sender.{Sender}
 use Rattle.chpw_sockets.specs.Deciding.{IsDecided, IsPlaced, IsQueued, QueuesThis}
 use Rattle.chpw_transfers.specs.Datagrams.{TakesDatagram}

@@ -1,10 +1,10 @@
 -- What is sent for a connection that came as a datagram, and for a datagram that comes.
 use Rattle.std.proofs.Common.{◌≡◌, ℕ, List, refl, sym, ◌∙◌, ap, subst, Option, Some, None, inl, inr}
 use Rattle.slab.specs.Slab.{Slab}
-use Rattle.chpw_connections.specs.declared.connection.Connection.{Connection}
-use Rattle.chpw_connections.specs.declared.limits.ConnectionLimits.{ConnectionLimits}
-use Rattle.chpw_connections.specs.declared.todo.Todo.{Todo}
-use Rattle.chpw_connections.specs.declared.todo.Todo.TheVariants as todo
+use Rattle.chpw_connection.specs.declared.connection.Connection.{Connection}
+use Rattle.chpw_connection.specs.declared.limits.ConnectionLimits.{ConnectionLimits}
+use Rattle.chpw_connection.specs.declared.todo.Todo.{Todo}
+use Rattle.chpw_connection.specs.declared.todo.Todo.TheVariants as todo
 use Rattle.chpw_datagrams.specs.declared.sender.Sender.{Sender}
 use Rattle.chpw_sockets.specs.Deciding.{QueuesThis}
 use Rattle.chpw_sockets.specs.Replying.{Post, PostsAt, PostsBy, IsReceived, IsTaken, Resends}

@@ -2,10 +2,10 @@
 use Rattle.std.proofs.Common.{◌≡◌, ◌≢◌, ℕ, List, refl, subst, Option, Some, None, ◌⊎◌, inr}
 use Rattle.std.specs.Io.KnownBytes.{Keeps}
 use Rattle.slab.specs.Slab.{Slab}
-use Rattle.chpw_connections.specs.declared.limits.ConnectionLimits.{ConnectionLimits}
-use Rattle.chpw_connections.specs.declared.connection.Connection.{Connection}
-use Rattle.chpw_connections.specs.declared.todo.Todo.{Todo}
-use Rattle.chpw_connections.specs.declared.todo.Todo.TheVariants as todo
+use Rattle.chpw_connection.specs.declared.limits.ConnectionLimits.{ConnectionLimits}
+use Rattle.chpw_connection.specs.declared.connection.Connection.{Connection}
+use Rattle.chpw_connection.specs.declared.todo.Todo.{Todo}
+use Rattle.chpw_connection.specs.declared.todo.Todo.TheVariants as todo
 use Rattle.chpw_transfers.specs.Steps.{Told, Steps, StepsUntold, LetsGo, TakesNone}
 
 keeps : (known : Option (List ℕ)) → Keeps known known

@@ -2,9 +2,9 @@
 use Rattle.std.specs.Prelude.{◌≡◌, ◌⊎◌, ℕ, List, false}
 use Rattle.slab.specs.Slab.{Slab, slab_len}
 use Rattle.chpw_connections.specs.Held.{slots_of}
-use Rattle.chpw_connections.specs.Sets.{Happens, IsNew}
-use Rattle.chpw_connections.specs.Stages.{failed}
-use Rattle.chpw_connections.specs.declared.connection.Connection.{Connection}
+use Rattle.chpw_slots.specs.Slots.{Happens, IsNew}
+use Rattle.chpw_connection.specs.Stages.{failed}
+use Rattle.chpw_connection.specs.declared.connection.Connection.{Connection}
 use Rattle.chpw_follower.specs.Asks.{at_start}
 use Rattle.chpw_transfers.specs.declared.state.State.{State}
 

@@ -1,8 +1,8 @@
 -- What stands at the places of the connections' sockets, and what stays there.
 use Rattle.std.specs.Prelude.{◌≡◌, ℕ, List, length, Option, Some, None, IsSomeAnd, Result, Ok, Err, Bool, true, false, is_some}
 use Rattle.std.specs.declared.io.Error.{Error}
-use Rattle.chpw_connections.specs.declared.todo.Todo.{Todo}
-use Rattle.chpw_connections.specs.declared.todo.Todo.TheVariants as todo
+use Rattle.chpw_connection.specs.declared.todo.Todo.{Todo}
+use Rattle.chpw_connection.specs.declared.todo.Todo.TheVariants as todo
 use Rattle.chpw_transfers.specs.Steps.{Told, untold}
 use Rattle.chpw_sockets.specs.declared.sockets.Socket.{Socket}
 use Rattle.chpw_sockets.specs.declared.places.Sockets.{Sockets}

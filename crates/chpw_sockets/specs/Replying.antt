@@ -2,12 +2,13 @@
 use Rattle.std.specs.Prelude.{◌≡◌, ℕ, ◌⊎◌, List, [], length, nat_lt, Option, Some, None, MatchBool}
 use Rattle.std.specs.declared.net.socket_addr.SocketAddr.{SocketAddr}
 use Rattle.slab.specs.Slab.{Slab, get}
-use Rattle.chpw_connections.specs.Sets.{Happens, left_at}
-use Rattle.chpw_connections.specs.Stages.{failed, wrote}
-use Rattle.chpw_connections.specs.declared.connection.Connection.{Connection}
-use Rattle.chpw_connections.specs.declared.limits.ConnectionLimits.{ConnectionLimits}
-use Rattle.chpw_connections.specs.declared.todo.Todo.{Todo}
-use Rattle.chpw_connections.specs.declared.todo.Todo.TheVariants as todo
+use Rattle.chpw_slots.specs.Slots.{Happens}
+use Rattle.chpw_connection.specs.Slot.{left_at}
+use Rattle.chpw_connection.specs.Stages.{failed, wrote}
+use Rattle.chpw_connection.specs.declared.connection.Connection.{Connection}
+use Rattle.chpw_connection.specs.declared.limits.ConnectionLimits.{ConnectionLimits}
+use Rattle.chpw_connection.specs.declared.todo.Todo.{Todo}
+use Rattle.chpw_connection.specs.declared.todo.Todo.TheVariants as todo
 use Rattle.chpw_datagrams.specs.Answers.{Answer, reply_for}
 use Rattle.chpw_datagrams.specs.Senders.{IsAnswered}
 use Rattle.chpw_datagrams.specs.declared.sender.Sender.{Sender}

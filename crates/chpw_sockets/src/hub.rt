@@ -4,10 +4,11 @@ ghost use Rattle.std.specs.Prelude.{◌≡◌, ◌≢◌, ◌<◌, ◌==◌, ◌
 ghost use Rattle.std.specs.Prelude.{IfSome, IfOk, IfErr, Err, None, is_err, is_some, false, true};
 ghost use Rattle.chpw_connections.specs.Held.{slots_of, bounds_of, accepted_by};
 ghost use Rattle.chpw_connections.specs.Queues.{workers_of};
-ghost use Rattle.chpw_connections.specs.Todos.{todo_in};
-ghost use Rattle.chpw_connections.specs.declared.todo.Todo.TheVariants as todo;
-ghost use Rattle.chpw_connections.specs.Sets.{Happens, IsLongest, NobodyWaits};
-ghost use Rattle.chpw_connections.specs.Stages.{failed};
+ghost use Rattle.chpw_connection.specs.Todos.{todo_in};
+ghost use Rattle.chpw_connection.specs.declared.todo.Todo.TheVariants as todo;
+ghost use Rattle.chpw_slots.specs.Slots.{Happens};
+ghost use Rattle.chpw_slots.specs.Longest.{IsLongest, NobodyWaits};
+ghost use Rattle.chpw_connection.specs.Stages.{failed};
 ghost use Rattle.chpw_connections.specs.Turns.{slot_of};
 ghost use Rattle.chpw_transfers.specs.Steps.{IsCalled, StepsUntold, RunsTo, Answers};
 ghost use Rattle.chpw_transfers.specs.Datagrams.{DropsDatagram};

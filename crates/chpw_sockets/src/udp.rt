@@ -3,9 +3,10 @@ ghost use Rattle.std.specs.Prelude.{◌≡◌, ◌≢◌, ◌≤◌, ◌<◌, �
 ghost use Rattle.slab.specs.Slab.{get};
 ghost use Rattle.chpw_connections.specs.Held.{slots_of, bounds_of};
 ghost use Rattle.chpw_connections.specs.Queues.{workers_of};
-ghost use Rattle.chpw_connections.specs.Sets.{Happens, left_at};
-ghost use Rattle.chpw_connections.specs.Stages.{closed};
-ghost use Rattle.chpw_connections.specs.declared.todo.Todo.TheVariants as todo;
+ghost use Rattle.chpw_slots.specs.Slots.{Happens};
+ghost use Rattle.chpw_connection.specs.Slot.{left_at};
+ghost use Rattle.chpw_connection.specs.Stages.{closed};
+ghost use Rattle.chpw_connection.specs.declared.todo.Todo.TheVariants as todo;
 ghost use Rattle.chpw_sockets.specs.Addresses.{sender_in, IsAddressOf};
 ghost use Rattle.chpw_transfers.specs.Datagrams.{in_datagram};
 ghost use Rattle.chpw_sockets.specs.Deciding.{is_same_datagram, IsUnanswered, KeepsReply};

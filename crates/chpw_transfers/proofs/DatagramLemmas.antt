@@ -8,17 +8,19 @@ use Rattle.std.proofs.lemmas.List.{take_all}
 use Rattle.std.proofs.lemmas.Nat.{from_be_bytes-to_be_bytes_4}
 use Rattle.slab.specs.Slab.{Slab, get, Updates}
 use Rattle.chpw_frame.specs.Stream.{sent, longest, stated_length}
-use Rattle.chpw_connections.proofs.PieceLemmas.{wanted_long, wanted_whole}
-use Rattle.chpw_connections.proofs.RoomLemmas.{and_left, ends_waiting}
-use Rattle.chpw_connections.specs.Holding.{held_by}
-use Rattle.chpw_connections.specs.Messages.{wanted_after}
-use Rattle.chpw_connections.specs.Room.{PutsOut, HappensWithRoom, for_message, gives_way_at, has_room_to_read, is_held_back, is_among}
-use Rattle.chpw_connections.specs.Sets.{Comes, Happens, IsNew, wanted_at, is_ended, is_ended_in, queued_at, queued_by, waits}
-use Rattle.chpw_connections.specs.Stages.{Stage, reading, queued, answering, confirming, writing, lingering}
-use Rattle.chpw_connections.specs.Stages.{abandoned, ended, came, failed, after, stage, read_to, received, wanted_by}
-use Rattle.chpw_connections.specs.Waiting.{waits_for}
-use Rattle.chpw_connections.specs.declared.connection.Connection.{Connection}
-use Rattle.chpw_connections.specs.declared.limits.ConnectionLimits.{ConnectionLimits}
+use Rattle.chpw_connection.proofs.PieceLemmas.{wanted_long, wanted_whole}
+use Rattle.chpw_connection.proofs.EvictionLemmas.{and_left, ends_waiting}
+use Rattle.chpw_connection.specs.Holding.{held_by}
+use Rattle.chpw_connection.specs.Messages.{wanted_after}
+use Rattle.chpw_connections.specs.Room.{PutsOut, HappensWithRoom, for_message, has_room_to_read}
+use Rattle.chpw_connection.specs.Eviction.{gives_way_at, is_held_back, is_among}
+use Rattle.chpw_connection.specs.Slot.{Comes, wanted_at, is_ended, is_ended_in, queued_at, queued_by, waits}
+use Rattle.chpw_slots.specs.Slots.{Happens, IsNew}
+use Rattle.chpw_connection.specs.Stages.{Stage, reading, queued, answering, confirming, writing, lingering}
+use Rattle.chpw_connection.specs.Stages.{abandoned, ended, came, failed, after, stage, read_to, received, wanted_by}
+use Rattle.chpw_slots.specs.Waiting.{waits_for}
+use Rattle.chpw_connection.specs.declared.connection.Connection.{Connection}
+use Rattle.chpw_connection.specs.declared.limits.ConnectionLimits.{ConnectionLimits}
 use Rattle.chpw_transfers.specs.Datagrams.{TakesDatagram, length_before, GaveWay, StaysOrGivesWay, DropsDatagram, BeginsAndDrops}
 use Rattle.chpw_transfers.specs.Datagrams.{EndsNoMore, CameOrFailed, CameIfRead}
 

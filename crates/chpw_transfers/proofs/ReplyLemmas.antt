@@ -1,11 +1,13 @@
 -- A reply that waits for a confirmation, or for which there is no room.
 use Rattle.std.proofs.Common.{◌≡◌, ℕ, length, refl, sym, subst, Bool, true, false, ◌&&◌, MatchBool, Option, Some}
 use Rattle.slab.specs.Slab.{Slab, get}
-use Rattle.chpw_connections.specs.Room.{HappensWithRoom, has_room_besides, for_reply}
-use Rattle.chpw_connections.specs.Sets.{Happens, is_answering_in}
-use Rattle.chpw_connections.specs.Stages.{deferred, unanswered}
-use Rattle.chpw_connections.specs.declared.connection.Connection.{Connection}
-use Rattle.chpw_connections.specs.declared.limits.ConnectionLimits.{ConnectionLimits}
+use Rattle.chpw_connections.specs.Room.{HappensWithRoom, for_reply}
+use Rattle.chpw_slots.specs.Longest.{has_room_besides}
+use Rattle.chpw_slots.specs.Slots.{Happens}
+use Rattle.chpw_connection.specs.Slot.{is_answering_in}
+use Rattle.chpw_connection.specs.Stages.{deferred, unanswered}
+use Rattle.chpw_connection.specs.declared.connection.Connection.{Connection}
+use Rattle.chpw_connection.specs.declared.limits.ConnectionLimits.{ConnectionLimits}
 use Rattle.chpw_transfers.specs.Steps.{IsAnswered}
 use Rattle.chpw_connections.specs.declared.taking.Reply.{Reply}
 

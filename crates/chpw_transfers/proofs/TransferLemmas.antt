@@ -5,9 +5,9 @@ use Rattle.std.specs.Io.{ReadsAtMost}
 use Rattle.std.specs.Io.KnownBytes.{Appends, Consumes, Keeps, ReadConsumes, WriteAppends}
 use Rattle.std.specs.declared.io.Error.{Error}
 use Rattle.slab.specs.Slab.{Slab, get}
-use Rattle.chpw_connections.specs.Sets.{left_at, wanted_at}
-use Rattle.chpw_connections.specs.declared.connection.Connection.{Connection}
-use Rattle.chpw_connections.specs.declared.limits.ConnectionLimits.{ConnectionLimits}
+use Rattle.chpw_connection.specs.Slot.{left_at, wanted_at}
+use Rattle.chpw_connection.specs.declared.connection.Connection.{Connection}
+use Rattle.chpw_connection.specs.declared.limits.ConnectionLimits.{ConnectionLimits}
 use Rattle.chpw_transfers.specs.Steps.{Gives, GivesNone, LetsGo, Takes, TakesNone}
 use Rattle.chpw_transfers.specs.Transfers.{ComesOfDrain, ComesOfMessageRead, ComesOfReplyWrite, IsOf, IsRead, IsWithin, IsWritten}
 use Rattle.chpw_transfers.specs.declared.state.Progress.{Progress}

@@ -4,13 +4,15 @@ use Rattle.std.specs.Prelude.{◌≡◌, ◌≢◌, ℕ, ◌⊎◌, List, length
 use Rattle.std.specs.Int.{to_be_bytes, w32}
 use Rattle.slab.specs.Slab.{Slab, get}
 use Rattle.chpw_frame.specs.Stream.{sent}
-use Rattle.chpw_connections.specs.Holding.{growth_at}
-use Rattle.chpw_connections.specs.Stages.{came, failed}
-use Rattle.chpw_connections.specs.Sets.{Comes, IsNew, queued_at}
-use Rattle.chpw_connections.specs.Room.{HappensWithRoom, for_message, gives_way_at, has_room_to_read, IsNeeded, is_large_in, read_within}
-use Rattle.chpw_connections.specs.Waiting.{waits_for}
-use Rattle.chpw_connections.specs.declared.limits.ConnectionLimits.{ConnectionLimits}
-use Rattle.chpw_connections.specs.declared.connection.Connection.{Connection}
+use Rattle.chpw_connection.specs.Holding.{growth_at}
+use Rattle.chpw_connection.specs.Stages.{came, failed}
+use Rattle.chpw_connection.specs.Slot.{Comes, queued_at}
+use Rattle.chpw_slots.specs.Slots.{IsNew}
+use Rattle.chpw_connections.specs.Room.{HappensWithRoom, for_message, has_room_to_read, IsNeeded, is_large_in, read_within}
+use Rattle.chpw_connection.specs.Eviction.{gives_way_at}
+use Rattle.chpw_slots.specs.Waiting.{waits_for}
+use Rattle.chpw_connection.specs.declared.limits.ConnectionLimits.{ConnectionLimits}
+use Rattle.chpw_connection.specs.declared.connection.Connection.{Connection}
 use Rattle.chpw_transfers.specs.declared.state.Progress.{Progress}
 use Rattle.chpw_transfers.specs.declared.state.Progress.TheVariants as progress
 

@@ -1,9 +1,10 @@
 -- Replies that wait for the follower.
 use Rattle.std.specs.Prelude.{◌≡◌, ℕ, Bool, ◌||◌, Option, Some, None, is_some, if◌then◌else◌}
 use Rattle.slab.specs.Slab.{Slab, get}
-use Rattle.chpw_connections.specs.Confirming.{Confirms, ReleasesOverdue, NoneIsOverdue}
+use Rattle.chpw_connection.specs.Confirming.{Confirms}
+use Rattle.chpw_connections.specs.Confirming.{ReleasesOverdue, NoneIsOverdue}
 use Rattle.chpw_connections.specs.declared.confirming.Unconfirmed.{Unconfirmed}
-use Rattle.chpw_connections.specs.declared.connection.Connection.{Connection}
+use Rattle.chpw_connection.specs.declared.connection.Connection.{Connection}
 use Rattle.chpw_follower.specs.Asks.{State, has_mark, after_want, asks_now}
 use Rattle.chpw_connections.specs.declared.taking.Reply.{Reply}
 

@@ -3,8 +3,8 @@ use Rattle.std.specs.Prelude.{◌≡◌, ℕ, ◌+◌, ◌-◌, ◌==◌, nat_lt
 use Rattle.std.specs.Prelude.{Bool, true, false, not, ◌||◌, ◌&&◌, if◌then◌else◌}
 use Rattle.slab.specs.Slab.{slab_len}
 use Rattle.chpw_connections.specs.Held.{slots_of, accepted_by, changed_of}
-use Rattle.chpw_connections.specs.declared.todo.Todo.{Todo}
-use Rattle.chpw_connections.specs.declared.todo.Todo.TheVariants as todo
+use Rattle.chpw_connection.specs.declared.todo.Todo.{Todo}
+use Rattle.chpw_connection.specs.declared.todo.Todo.TheVariants as todo
 use Rattle.chpw_transfers.specs.Accepting.{is_waiting, has_failed}
 use Rattle.chpw_transfers.specs.Bounded.{allows_more}
 use Rattle.chpw_transfers.specs.declared.accepting.Accepting.{Accepting}

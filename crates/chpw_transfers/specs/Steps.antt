@@ -3,16 +3,18 @@
 use Rattle.std.specs.Prelude.{◌≡◌, ℕ, ◌≤◌, List, length, take, Option, Some, None, Bool, true, not, ◌&&◌, MatchBool, if◌then◌else◌, ◌⊎◌}
 use Rattle.std.specs.Io.KnownBytes.{Appends, Consumes, Keeps}
 use Rattle.slab.specs.Slab.{Slab, get, Updates}
-use Rattle.chpw_connections.specs.Stages.{Event, came, replied, deferred, unanswered, wrote, closed, failed}
-use Rattle.chpw_connections.specs.Sets.{Happens, wanted_at, left_at, is_answering_in}
-use Rattle.chpw_connections.specs.Room.{HappensWithRoom, has_room_besides, has_room_to_read, is_large_in, for_message, for_reply}
-use Rattle.chpw_connections.specs.declared.limits.ConnectionLimits.{ConnectionLimits}
-use Rattle.chpw_connections.specs.declared.connection.Connection.{Connection}
-use Rattle.chpw_connections.specs.Todos.{todo_in}
-use Rattle.chpw_connections.specs.declared.todo.Todo.{Todo}
-use Rattle.chpw_connections.specs.declared.todo.Todo.TheVariants as todo
+use Rattle.chpw_connection.specs.Stages.{Event, came, replied, deferred, unanswered, wrote, closed, failed}
+use Rattle.chpw_slots.specs.Slots.{Happens}
+use Rattle.chpw_connection.specs.Slot.{wanted_at, left_at, is_answering_in}
+use Rattle.chpw_connections.specs.Room.{HappensWithRoom, has_room_to_read, is_large_in, for_message, for_reply}
+use Rattle.chpw_slots.specs.Longest.{has_room_besides}
+use Rattle.chpw_connection.specs.declared.limits.ConnectionLimits.{ConnectionLimits}
+use Rattle.chpw_connection.specs.declared.connection.Connection.{Connection}
+use Rattle.chpw_connection.specs.Todos.{todo_in}
+use Rattle.chpw_connection.specs.declared.todo.Todo.{Todo}
+use Rattle.chpw_connection.specs.declared.todo.Todo.TheVariants as todo
 use Rattle.chpw_connections.specs.Held.{bounds_of, slots_of}
-use Rattle.chpw_connections.specs.Waiting.{waits_for}
+use Rattle.chpw_slots.specs.Waiting.{waits_for}
 use Rattle.chpw_transfers.specs.declared.state.Progress.{Progress}
 use Rattle.chpw_transfers.specs.declared.state.Progress.TheVariants as progress
 use Rattle.chpw_transfers.specs.declared.state.State.{State}

@@ -7,10 +7,11 @@ use Rattle.std.specs.declared.io.Error.{Error}
 use Rattle.std.specs.declared.io.ErrorKind.{ErrorKind}
 use Rattle.std.specs.declared.io.ErrorKind.TheVariants.{Interrupted, WouldBlock}
 use Rattle.slab.specs.Slab.{Slab, get}
-use Rattle.chpw_connections.specs.Sets.{Happens, left_at}
-use Rattle.chpw_connections.specs.Stages.{closed, failed, wrote}
-use Rattle.chpw_connections.specs.declared.connection.Connection.{Connection}
-use Rattle.chpw_connections.specs.declared.limits.ConnectionLimits.{ConnectionLimits}
+use Rattle.chpw_slots.specs.Slots.{Happens}
+use Rattle.chpw_connection.specs.Slot.{left_at}
+use Rattle.chpw_connection.specs.Stages.{closed, failed, wrote}
+use Rattle.chpw_connection.specs.declared.connection.Connection.{Connection}
+use Rattle.chpw_connection.specs.declared.limits.ConnectionLimits.{ConnectionLimits}
 use Rattle.chpw_transfers.specs.Datagrams.{CameOrFailed}
 use Rattle.chpw_transfers.specs.declared.state.Progress.{Progress}
 use Rattle.chpw_transfers.specs.declared.state.Progress.TheVariants as progress

@@ -2,9 +2,9 @@
 ghost use Rattle.std.specs.Prelude.{◌≡◌, ◌<◌, ◌||◌, if◌then◌else◌, nat_lt};
 ghost use Rattle.std.specs.Prelude.{IfOk, OnOk, OnErr, is_some, Some, None, true, false, Ok};
 ghost use Rattle.chpw_connections.specs.Held.{slots_of, bounds_of};
-ghost use Rattle.chpw_connections.specs.Counting.{count_in};
+ghost use Rattle.chpw_slots.specs.Counting.{count_in};
 ghost use Rattle.chpw_connections.specs.Turns.{slot_of};
-ghost use Rattle.chpw_connections.specs.declared.counting.Counted.TheVariants as counted;
+ghost use Rattle.chpw_connection.specs.declared.counting.Counted.TheVariants as counted;
 ghost use Rattle.chpw_follower.specs.Asks.{asked_by, at_start, after_ask, after_bytes, after_loss, confirmed_by};
 ghost use Rattle.chpw_transfers.specs.Following.{awaited, asking_after, Releases, ReleasesOne, is_waited_for as is_waited};
 ghost use Rattle.chpw_transfers.specs.Steps.{IsAnswered};

@@ -6,7 +6,7 @@ use Rattle.std.specs.Io.KnownBytes.{Appends}
 use Rattle.std.proofs.lemmas.List.{length-drop, drop_all}
 use Rattle.chpw_frame.specs.Stream.{Piece, message, ended, cut_off, too_long, next_piece, after_piece, sent}
 use Rattle.chpw_frame.specs.Receiving.{TakesPiece}
-use Rattle.chpw_connections.specs.Messages.{IsPiece}
+use Rattle.chpw_connection.specs.Messages.{IsPiece}
 use Rattle.chpw_table.specs.declared.times.Moment.{Moment}
 use Rattle.chpw_table.specs.declared.history.Receipt.{Receipt}
 use Rattle.chpw_table.specs.Replies.{Answer}

@@ -1,6 +1,6 @@
 //! A worker's turns at a desk.
 ghost use Rattle.std.specs.Prelude.{◌≡◌, ◌++◌, ℕ, List, Option, Some, [], length};
-ghost use Rattle.chpw_connections.specs.Messages.{IsPiece};
+ghost use Rattle.chpw_connection.specs.Messages.{IsPiece};
 ghost use Rattle.chpw_serve.specs.Answering.{Answering, Unanswered};
 ghost use Rattle.chpw_serve.specs.Serving.{stream_state, message_too_long, IsServed};
 ghost use Rattle.chpw_serve.specs.declared.serving.Ended.{Ended};

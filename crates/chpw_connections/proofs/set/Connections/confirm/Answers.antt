@@ -1,6 +1,6 @@
 use Rattle.std.proofs.Common.{rules, ℕ, ◌≡◌, ◌∙◌, ap, arith, le_refl}
 use Rattle.chpw_connections.specs.Held.{slots_of}
-use Rattle.chpw_connections.specs.Confirming.{is_confirmed_in}
+use Rattle.chpw_connection.specs.Confirming.{is_confirmed_in}
 use Rattle.chpw_connections.specs.Noting.{noted_by, slots_below, slots_where}
 use Rattle.chpw_connections.proofs.NoteLemmas.{notes_as, notes_next, test_noted}
 use Rattle.chpw_connections.proofs.ConfirmLemmas.{confirmed_next}

@@ -1,8 +1,8 @@
 use Rattle.std.proofs.Common.{◌≡◌, ◌≤◌}
-use Rattle.chpw_connections.specs.Holding.{held_in}
+use Rattle.chpw_slots.specs.Slots.{held_in}
 use Rattle.chpw_connections.specs.Held.{slots_of, bounds_of, accepted_by, removed_by, expired_by, Counts}
 use Rattle.chpw_connections.specs.Queues.{queues_of}
-use Rattle.chpw_connections.specs.Confirming.{is_confirmed_in}
+use Rattle.chpw_connection.specs.Confirming.{is_confirmed_in}
 use Rattle.chpw_connections.specs.Noting.{noted_by, NotesEach, slots_below}
 use Rattle.chpw_connections.proofs.ConfirmLemmas.{ConfirmedBelow}
 use Rattle.chpw_connections.proofs.set.Connections.confirm.Given as goal

@@ -1,12 +1,13 @@
 use Rattle.std.proofs.Common.{◌≡◌, ℕ, length, refl, sym, ◌∙◌, ap, subst, arith, inl, false, ◌&&◌}
 use Rattle.slab.specs.Slab.{get}
-use Rattle.chpw_connections.specs.Stages.{deferred, unanswered}
-use Rattle.chpw_connections.specs.Waiting.{lists_of}
-use Rattle.chpw_connections.proofs.HoldsLemmas.{holds_quiet}
+use Rattle.chpw_connection.specs.Stages.{deferred, unanswered}
+use Rattle.chpw_slots.specs.Waiting.{lists_of}
+use Rattle.chpw_slots.proofs.HoldsLemmas.{holds_quiet}
 use Rattle.chpw_connections.proofs.RoomLemmas.{happens_with_room}
 use Rattle.chpw_connections.specs.Held.{slots_of, bounds_of}
-use Rattle.chpw_connections.specs.Room.{IsNeeded, has_room_besides, for_reply}
-use Rattle.chpw_connections.specs.Sets.{is_answering_in}
+use Rattle.chpw_connections.specs.Room.{IsNeeded, for_reply}
+use Rattle.chpw_slots.specs.Longest.{has_room_besides}
+use Rattle.chpw_connection.specs.Slot.{is_answering_in}
 use Rattle.chpw_connections.specs.Noting.{noted_by}
 use Rattle.chpw_connections.proofs.NeedLemmas.{needed_still}
 use Rattle.chpw_connections.proofs.EndsLemmas.{unsent_noted}

@@ -1,6 +1,6 @@
 use Rattle.std.proofs.Common.{◌∙◌, subst, sym}
-use Rattle.chpw_connections.specs.Waiting.{lists_of, Leaves}
-use Rattle.chpw_connections.proofs.HoldsLemmas.{leaves_by, same_by, holds_failed}
+use Rattle.chpw_slots.specs.Waiting.{lists_of, Leaves}
+use Rattle.chpw_slots.proofs.HoldsLemmas.{leaves_by, same_by, holds_failed}
 use Rattle.chpw_connections.proofs.set.Connections.fail.Goals as goal
 
 pub invariant_of-self-clause-waiting : goal.invariant_of-self-clause-waiting

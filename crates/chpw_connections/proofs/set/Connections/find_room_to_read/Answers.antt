@@ -1,9 +1,9 @@
 use Rattle.std.proofs.Common.{ℕ, ◌∙◌, ap, ap₂}
 use Rattle.chpw_connections.specs.Held.{slots_of}
 use Rattle.slab.specs.Slab.{get}
-use Rattle.chpw_connections.specs.Holding.{growth_at}
-use Rattle.chpw_connections.specs.Room.{has_room_besides}
-use Rattle.chpw_connections.specs.declared.room.EvictionRule.{EvictionRule}
+use Rattle.chpw_connection.specs.Holding.{growth_at}
+use Rattle.chpw_slots.specs.Longest.{has_room_besides}
+use Rattle.chpw_connection.specs.declared.eviction.EvictionRule.{EvictionRule}
 use Rattle.chpw_connections.proofs.set.Connections.find_room_to_read.Goals as goal
 
 pub returns-clause-value : goal.returns-clause-value

@@ -1,7 +1,7 @@
 use Rattle.std.proofs.Common.{◌≡◌, ℕ, ◌<◌, None}
 use Rattle.slab.specs.Slab.{get}
 use Rattle.chpw_connections.specs.Held.{slots_of}
-use Rattle.chpw_connections.specs.Confirming.{overdue_in}
+use Rattle.chpw_connection.specs.Confirming.{overdue_in}
 use Rattle.chpw_connections.proofs.set.Connections.first_overdue.Given as goal
 
 abbrev pub invariant-loop-slot : goal.invariant-loop-slot

@@ -1,7 +1,7 @@
 use Rattle.std.proofs.Common.{length, ℕ, ap, ◌≡◌, ◌≤◌, ◌∙◌, arith, rules, sym, refl, le_refl}
 use Rattle.chpw_connections.specs.Held.{slots_of, bounds_of, expired_by}
 use Rattle.chpw_connections.specs.Queues.{queues_of, queue_of}
-use Rattle.chpw_connections.specs.Sets.{is_late_in}
+use Rattle.chpw_connection.specs.Late.{is_late_in}
 use Rattle.chpw_connections.specs.Noting.{noted_by, slots_below, slots_where}
 use Rattle.chpw_connections.proofs.NoteLemmas.{notes_as, notes_first, notes_next, late_noted}
 use Rattle.chpw_connections.proofs.PassLemmas.{passed_next, left_first, left_step, left_last}

@@ -1,7 +1,7 @@
 use Rattle.std.proofs.Common.{◌≡◌, ℕ, ◌≤◌}
 use Rattle.slab.specs.Slab.{get}
-use Rattle.chpw_connections.specs.Sets.{is_late_in}
-use Rattle.chpw_connections.specs.Holding.{held_in}
+use Rattle.chpw_connection.specs.Late.{is_late_in}
+use Rattle.chpw_slots.specs.Slots.{held_in}
 use Rattle.chpw_connections.specs.Held.{slots_of, bounds_of, accepted_by, removed_by, expired_by, Counts}
 use Rattle.chpw_connections.specs.Queues.{queue_of, workers_of}
 use Rattle.chpw_connections.proofs.PassLemmas.{PassedBelow, left_below}

@@ -1,11 +1,12 @@
 use Rattle.std.proofs.Common.{rules, arith, le_refl, refl, ◌∙◌, ap, Bool, not, [], ◌∷◌}
 use Rattle.std.proofs.lemmas.Bool.Decides.{nat_tests}
 use Rattle.chpw_connections.specs.Held.{slots_of}
-use Rattle.chpw_connections.proofs.HoldsLemmas.{longest_besides_not_queued}
+use Rattle.chpw_slots.proofs.HoldsLemmas.{longest_besides_not_queued}
 use Rattle.chpw_connections.proofs.RoomLemmas.{room_start, room_next}
-use Rattle.chpw_connections.proofs.GivenLemmas.{room_stays, fewer_held, nobody_room}
+use Rattle.chpw_slots.proofs.GivenLemmas.{room_stays, fewer_held, nobody_room}
 use Rattle.slab.specs.Slab.{get}
-use Rattle.chpw_connections.specs.Noting.{noted_by, slot_if, is_gone_in}
+use Rattle.chpw_connections.specs.Noting.{noted_by, slot_if}
+use Rattle.chpw_connection.specs.Slot.{is_gone_in}
 use Rattle.chpw_connections.proofs.NoteLemmas.{notes_as}
 use Rattle.chpw_connections.proofs.EndsLemmas.{ends_none, ends_next, can_fail}
 use Rattle.chpw_connections.proofs.NeedLemmas.{needed_none, needed_next}

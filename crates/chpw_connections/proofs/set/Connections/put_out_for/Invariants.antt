@@ -1,8 +1,9 @@
 use Rattle.std.proofs.Common.{◌≡◌, true, [], ◌≤◌}
 use Rattle.chpw_connections.specs.Held.{slots_of, bounds_of, accepted_by, removed_by, expired_by, Counts}
-use Rattle.chpw_connections.specs.Holding.{held_in}
+use Rattle.chpw_slots.specs.Slots.{held_in}
 use Rattle.chpw_connections.specs.Queues.{queues_of}
-use Rattle.chpw_connections.specs.Room.{MakesRoom, IsNeeded, has_room_besides}
+use Rattle.chpw_connections.specs.Room.{MakesRoom, IsNeeded}
+use Rattle.chpw_slots.specs.Longest.{has_room_besides}
 use Rattle.chpw_connections.specs.Noting.{noted_by, NotesEnds}
 use Rattle.chpw_connections.proofs.set.Connections.put_out_for.Given as goal
 

@@ -1,17 +1,17 @@
 use Rattle.std.proofs.Common.{◌≡◌, ℕ, ◌%◌, List, ◌∷◌, ◌++◌, [], length, ◌∙◌, ap, sym, subst, inl, inr}
-use Rattle.chpw_connections.specs.Waiting.{lists_of, queue_in, Holds, Becomes}
-use Rattle.chpw_connections.proofs.HoldsLemmas.{holds_failed_quietly, holds_came, holds_joined}
+use Rattle.chpw_slots.specs.Waiting.{lists_of, queue_in, Holds, Becomes}
+use Rattle.chpw_slots.proofs.HoldsLemmas.{holds_failed_quietly, holds_came, holds_joined}
 use Rattle.chpw_connections.proofs.RoomLemmas.{happens_with_room}
-use Rattle.chpw_connections.specs.Stages.{came, failed}
+use Rattle.chpw_connection.specs.Stages.{came, failed}
 use Rattle.chpw_connections.specs.Held.{slots_of, bounds_of}
-use Rattle.chpw_connections.specs.Sets.{Happens}
+use Rattle.chpw_slots.specs.Slots.{Happens}
 use Rattle.slab.specs.Slab.{Slab, get}
 use Rattle.chpw_connections.specs.Room.{for_message, read_within, is_large_in}
-use Rattle.chpw_connections.specs.Holding.{growth_at}
+use Rattle.chpw_connection.specs.Holding.{growth_at}
 use Rattle.chpw_connections.specs.Noting.{noted_by}
 use Rattle.chpw_connections.proofs.NeedLemmas.{needed_still}
 use Rattle.chpw_connections.proofs.EndsLemmas.{ended_noted, failed_noted, read_noted}
-use Rattle.chpw_connections.specs.declared.connection.Connection.{Connection}
+use Rattle.chpw_connection.specs.declared.connection.Connection.{Connection}
 use Rattle.chpw_connections.proofs.set.Connections.receive_wanted.Goals as goal
 
 pub invariant_of-self-in-Err-clause-waiting : goal.invariant_of-self-in-Err-clause-waiting

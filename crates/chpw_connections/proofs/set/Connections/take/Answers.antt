@@ -1,11 +1,12 @@
 use Rattle.std.proofs.Common.{◌∙◌, sym, ap, inr, rules, Bool, not, [], ◌∷◌}
 use Rattle.slab.specs.Slab.{get}
 use Rattle.chpw_connections.specs.Held.{slots_of, bounds_of}
-use Rattle.chpw_connections.specs.Noting.{noted_by, slot_if, is_gone_in}
+use Rattle.chpw_connections.specs.Noting.{noted_by, slot_if}
+use Rattle.chpw_connection.specs.Slot.{is_gone_in}
 use Rattle.chpw_connections.proofs.NoteLemmas.{notes_as, late_can_fail}
-use Rattle.chpw_connections.specs.Waiting.{lists_of}
+use Rattle.chpw_slots.specs.Waiting.{lists_of}
 use Rattle.chpw_connections.specs.Queues.{queues_of}
-use Rattle.chpw_connections.proofs.HoldsLemmas.{front_leaves, others_stay}
+use Rattle.chpw_slots.proofs.HoldsLemmas.{front_leaves, others_stay}
 use Rattle.chpw_connections.proofs.set.Connections.take.Goals as goal
 
 pub returns-then-is_late-clause-others : goal.returns-then-is_late-clause-others

@@ -1,6 +1,6 @@
 use Rattle.std.proofs.Common.{drop}
-use Rattle.chpw_connections.specs.Waiting.{lists_of, queue_in}
-use Rattle.chpw_connections.proofs.HoldsLemmas.{front_queued, holds_taken}
+use Rattle.chpw_slots.specs.Waiting.{lists_of, queue_in}
+use Rattle.chpw_slots.proofs.HoldsLemmas.{front_queued, holds_taken}
 use Rattle.chpw_connections.proofs.set.Connections.take_first.Goals as goal
 
 pub invariant_of-self-clause-waiting : goal.invariant_of-self-clause-waiting

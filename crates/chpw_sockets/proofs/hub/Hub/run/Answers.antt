@@ -1,7 +1,7 @@
 use Rattle.std.proofs.Common.{refl, rules, ◌∙◌, slice_get}
 use Rattle.slab.specs.Slab.{get}
 use Rattle.chpw_connections.specs.Held.{slots_of, bounds_of}
-use Rattle.chpw_connections.specs.Todos.{todo_in}
+use Rattle.chpw_connection.specs.Todos.{todo_in}
 use Rattle.chpw_transfers.specs.Steps.{stays}
 use Rattle.chpw_sockets.proofs.RunLemmas.{remains, remains_on, runs_on}
 use Rattle.chpw_sockets.proofs.hub.Hub.run.Goals as goal

@@ -2,8 +2,8 @@ use Rattle.std.proofs.Common.{◌≡◌, ap, slice_get, Some, rules, arith}
 use Rattle.std.proofs.lemmas.Option.{slice_get_read}
 use Rattle.slab.specs.Slab.{get}
 use Rattle.chpw_connections.specs.Held.{slots_of}
-use Rattle.chpw_connections.specs.Todos.{todo_in}
-use Rattle.chpw_connections.specs.declared.todo.Todo.TheVariants as todo
+use Rattle.chpw_connection.specs.Todos.{todo_in}
+use Rattle.chpw_connection.specs.declared.todo.Todo.TheVariants as todo
 use Rattle.chpw_sockets.specs.Replying.{post_at}
 use Rattle.chpw_sockets.proofs.PostLemmas.{unposted, removed, posted}
 use Rattle.chpw_sockets.proofs.places.Sockets.step.Goals as goal

@@ -1,7 +1,7 @@
 use Rattle.std.proofs.Common.{◌≤◌, length, rules, arith, length-take, subst}
 use Rattle.slab.specs.Slab.{get}
 use Rattle.chpw_connections.specs.Held.{slots_of, bounds_of}
-use Rattle.chpw_connections.specs.Sets.{wanted_at}
+use Rattle.chpw_connection.specs.Slot.{wanted_at}
 use Rattle.chpw_connections.specs.declared.set.Connections.{Connections}
 use Rattle.chpw_transfers.specs.Transfers.{ComesOfMessageRead}
 use Rattle.chpw_transfers.proofs.TransferLemmas.{is_read, reads}

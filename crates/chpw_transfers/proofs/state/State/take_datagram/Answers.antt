@@ -2,7 +2,7 @@ use Rattle.std.proofs.Common.{ℕ, ◌≡◌, ◌∙◌, sym, ap, subst, length,
 use Rattle.slab.specs.Slab.{get}
 use Rattle.chpw_connections.specs.Held.{slots_of, bounds_of, accepted_by}
 use Rattle.chpw_connections.specs.Queues.{workers_of}
-use Rattle.chpw_connections.specs.Waiting.{waits_for}
+use Rattle.chpw_slots.specs.Waiting.{waits_for}
 use Rattle.chpw_transfers.specs.Datagrams.{CameOrFailed}
 use Rattle.chpw_transfers.proofs.DatagramLemmas.{takes, drops, begins}
 use Rattle.chpw_transfers.specs.declared.state.State.{State}

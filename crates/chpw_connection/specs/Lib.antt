@@ -1,0 +1,13 @@
+pub mod Confirming
+pub mod Counting
+pub mod Eviction
+pub mod Holding
+pub mod Late
+pub mod Lives
+pub mod Messages
+pub mod Reading
+pub mod Slot
+pub mod Stages
+pub mod Times
+pub mod Todos
+pub mod Unchanged

@@ -1,5 +1,0 @@
-use Rattle.chpw_connections.proofs.slots.Slots.longest_besides.Given as goal
-use Rattle.chpw_connections.proofs.WaitLemmas.{IsLongestBelow}
-
-abbrev pub invariant-loop-slot : goal.invariant-loop-slot
-invariant-loop-slot l = IsLongestBelow l.self.connections l.besides l.who l.longest l.slot

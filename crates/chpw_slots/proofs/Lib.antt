@@ -1,0 +1,7 @@
+pub mod CountLemmas
+pub mod GivenLemmas
+pub mod HeldLemmas
+pub mod HoldsLemmas
+pub mod OrderLemmas
+pub mod QueueLemmas
+pub mod WaitLemmas
