@@ -3,7 +3,7 @@ use Rattle.chpw_snapshots.proofs.RiseLemmas.{no_older, no_lower}
 use Rattle.chpw_book.proofs.ChangeLemmas.{accepted_on, changes_counted, beginnings}
 use Rattle.chpw_book.proofs.KeptLemmas.{kept_list, known_before}
 use Rattle.chpw_book.proofs.RiseLemmas.{versions_rise}
-use Rattle.chpw_book.proofs.ShownLemmas.{histories_shown}
+use Rattle.chpw_book.proofs.ShownLemmas.{histories_shown, lookups_of_histories}
 
 pub ruleset change_laws = (
   accepted_on,
@@ -15,4 +15,5 @@ pub ruleset change_laws = (
   no_older,
   no_lower,
   histories_shown,
+  lookups_of_histories,
 )

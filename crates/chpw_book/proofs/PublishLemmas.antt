@@ -1,7 +1,8 @@
 -- The published list goes on with the history.
 use Rattle.std.proofs.Common.{◌≡◌, ℕ, ◌+◌, ◌^◌, ◌<◌, List, [], ◌∷◌, ◌++◌, ◌≤◌, length, length-append, Bool, true, false}
-use Rattle.std.proofs.Common.{◌&&◌, ◌||◌, Option, None, refl, sym, ◌∙◌, ap, subst, arith, if◌then◌else◌, append-nil}
+use Rattle.std.proofs.Common.{◌&&◌, ◌||◌, Option, None, Some, refl, sym, ◌∙◌, ap, subst, arith, if◌then◌else◌, append-nil}
 use Rattle.std.proofs.lemmas.List.Sums.{count_by-le-length}
+use Rattle.std.specs.Prelude.{IfSome}
 use mathlib.Core.List.{IsPrefix}
 use Rattle.chpw_rules.specs.declared.name.Name.{Name}
 use Rattle.chpw_table.specs.declared.times.Moment.{Moment}
@@ -23,6 +24,7 @@ use Rattle.chpw_table.specs.Agreement.{Agrees}
 use Rattle.chpw_table.specs.Preparing.{IsNextRow}
 use Rattle.chpw_table.proofs.DoneLemmas.{done_key_row, done_whole}
 use Rattle.chpw_snapshots.specs.Known.{Known, PublishedList}
+use Rattle.chpw_snapshots.specs.Histories.{AreAccepted}
 use Rattle.chpw_book.proofs.ChangeLemmas.{accepted_on, changes_counted}
 use Rattle.chpw_book.proofs.KeptLemmas.{kept_list}
 use Rattle.chpw_book.specs.Passes.{PassView}
@@ -96,6 +98,20 @@ published_next opening workers b later mine mid s t now event p h =
     subst (λ (es : List Entry). IsPublished opening es later.table.state.broken (published (is_accepted event) t)) (sym h.grows.history)
     (published_at opening b.history h.entry b.table.state later.table.state.broken event s t p h.linearized.0.agrees
     (ap (λ (e : Entry). e.event) h.enters.entry_is) h.pending (is_accepted event) refl)
+
+joined_accepted : (opening : State) (es : List Entry) (waiting : Option Accepted) (list : List Accepted) → IsLegal opening es
+    → joined waiting list ≡ accepted opening es → IfSome waiting (λ change. AreAccepted opening (list ++ change ∷ []))
+joined_accepted opening es None list legal is = tt
+joined_accepted opening es (Some c) list legal is = record { history = es; legal = legal; list_is = is }
+
+-- so the list with the change that waits is what the history accepted, which has the event's entry
+pub accepted_next : (opening : State) (workers : ℕ) (b later : RecordedView) (mine mid : PassView) (s t : PublishedList) (now : Moment) (event : Event)
+    → IsPublished opening b.history b.table.state.broken s → IsRecorded opening workers b later mine mid s t now event
+    → is_accepted event ≡ true → IfSome t.waiting (λ change. AreAccepted opening (t.list ++ change ∷ []))
+accepted_next opening workers b later mine mid s t now event p h done =
+    let q = published_next opening workers b later mine mid s t now event p h in
+    joined_accepted opening later.history t.waiting t.list h.linearized.1.legal
+    (subst (λ (d : Bool). (published d t).list ≡ accepted opening later.history) done q.list)
 
 -- it has room for one more
 pub list_room : (opening : State) (workers : ℕ) (b later : RecordedView) (mine mid : PassView) (s t : PublishedList) (now : Moment) (event : Event)

@@ -1,14 +1,16 @@
 -- A lookup after the accepted changes shows what the table shows.
-use Rattle.std.proofs.Common.{◌≡◌, ℕ, ◌+◌, List, length, map, Option, Some, None, refl, sym, ◌∙◌, ap}
+use Rattle.std.proofs.Common.{◌≡◌, ℕ, ◌+◌, List, length, map, Option, Some, None, refl, sym, ◌∙◌, ap, subst}
 use Rattle.std.specs.Prelude.{option_map}
+use mathlib.Core.List.{IsPrefix}
 use Rattle.chpw_table.specs.declared.change.Accepted.{Accepted}
 use Rattle.chpw_record.specs.declared.key.KeyRow.{KeyRow}
 use Rattle.chpw_table.specs.State.{State, keys_held, new_count}
 use Rattle.chpw_table.specs.Decision.{newest_kvno}
 use Rattle.chpw_table.specs.Versions.{Shown, accepted, shown_count, shown_keys}
 use Rattle.chpw_table.proofs.VersionLemmas.{shows_held, shows_count}
-use Rattle.chpw_snapshots.specs.Rows.{lookup_with}
-use Rattle.chpw_book.specs.ShownLaws.{LookupsShowHistories}
+use Rattle.chpw_snapshots.specs.Rows.{lookup_with, lookup_after}
+use Rattle.chpw_book.specs.ShownLaws.{LookupsShowHistories, LookupsAreOfHistories}
+use Rattle.chpw_book.proofs.ChangeLemmas.{beginnings}
 
 keys_shown : (policy seen : ℕ) (held : Option (List KeyRow))
     → option_map (lookup_with policy seen) (option_map shown_keys held)
@@ -32,3 +34,17 @@ histories_shown opening t history name legal agrees seen =
     ∙ (ap (λ (n : ℕ). option_map (lookup_with n count) (option_map shown_keys (keys_held t.state name))) (sym same)
     ∙ (ap (λ (n : ℕ). option_map (lookup_with (new_count t.state) n) (option_map shown_keys (keys_held t.state name))) (sym seen)
     ∙ keys_shown (new_count t.state) t.seen (keys_held t.state name))))
+
+pub lookups_of_histories : LookupsAreOfHistories
+lookups_of_histories opening mine more name found h =
+    let a = h.accepted in
+    record {
+      history = a.history;
+      legal = a.legal;
+      list_is = a.list_is;
+      shows = λ t agrees seen. h.shown
+          ∙ (ap (λ (l : List Accepted). lookup_after opening l name) a.list_is
+          ∙ histories_shown opening t a.history name a.legal agrees (seen ∙ ap (λ (l : List Accepted). opening.seen + length l) a.list_is));
+      saw = beginnings opening.state a.history mine.seen (subst (λ (l : List Accepted). IsPrefix mine.seen l) a.list_is h.later);
+      told = beginnings opening.state a.history mine.told (subst (λ (l : List Accepted). IsPrefix mine.told l) a.list_is h.after);
+    }

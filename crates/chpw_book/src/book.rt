@@ -1,5 +1,5 @@
 //! What is under the lock: the table with its history, and the versions that lookups show.
-ghost use Rattle.std.specs.Prelude.{◌≡◌, ◌+◌, ◌-◌, ◌^◌, ◌<◌, ◌≤◌, [], All, IfOk, IfErr, IfSome, IfNone, OnErr, IsSome, length, map, true, false};
+ghost use Rattle.std.specs.Prelude.{◌≡◌, ◌+◌, ◌-◌, ◌^◌, ◌<◌, ◌≤◌, ◌++◌, ◌∷◌, [], All, IfOk, IfErr, IfSome, IfNone, OnErr, IsSome, length, map, true, false};
 ghost use Rattle.std.specs.List.{range_with_len};
 ghost use mathlib.Core.List.{IsPrefix};
 ghost use Rattle.chpw_changelog.specs.Pens.{opening_state};
@@ -21,6 +21,7 @@ ghost use Rattle.chpw_table.specs.History.{missing};
 ghost use Rattle.chpw_book.specs.Passes.{new_pass};
 ghost use Rattle.chpw_book.specs.Starting.{IsNamed, table_of, workers_of};
 ghost use Rattle.chpw_book.specs.Publishing.{new_book, published, told_list};
+ghost use Rattle.chpw_snapshots.specs.Histories.{AreAccepted};
 
 use crate::closing::{BookRefused, CloseFault, Closed};
 use crate::naming::DeskName;
@@ -303,7 +304,7 @@ impl<D: DeskName, S: JournalSink> Book<D, S> {
     }
 }
 
-// After this verdict: the prepared change is published, and the pass learns it.
+// After this verdict: the prepared change, which the history accepted, is published, and the pass learns it.
 fn tell<D: DeskName, R: Wait>(
     rt: &R,
     snapshots: &mut SnapshotWriter<D>,
@@ -311,6 +312,8 @@ fn tell<D: DeskName, R: Wait>(
     verdict: Verdict,
 )
     requires waits { is_done verdict ≡ true → IsSome snapshots.old.waiting }
+    requires accepted { is_done verdict ≡ true → IfSome snapshots.old.waiting (λ change.
+        AreAccepted (opening_state D.root) (snapshots.old.list ++ change ∷ [])) }
     requires room { length snapshots.old.list + 1 < 2 ^ 31 }
     requires told { IsPrefix pass.old.place.told snapshots.old.list }
     ensures snapshots { snapshots.new ≡ published (is_done verdict) snapshots.old }
@@ -324,7 +327,8 @@ fn tell<D: DeskName, R: Wait>(
     }
 }
 
-// After this verdict on a raise: the prepared change is published if the count was raised, and the pass learns the list.
+// After this verdict on a raise: the prepared change, which the history accepted, is published if the count was raised,
+// and the pass learns the list.
 fn tell_raise<D: DeskName, R: Wait>(
     rt: &R,
     snapshots: &mut SnapshotWriter<D>,
@@ -332,6 +336,8 @@ fn tell_raise<D: DeskName, R: Wait>(
     verdict: RaiseVerdict,
 )
     requires waits { is_raised verdict ≡ true → IsSome snapshots.old.waiting }
+    requires accepted { is_raised verdict ≡ true → IfSome snapshots.old.waiting (λ change.
+        AreAccepted (opening_state D.root) (snapshots.old.list ++ change ∷ [])) }
     requires room { length snapshots.old.list + 1 < 2 ^ 31 }
     requires told { IsPrefix pass.old.place.told snapshots.old.list }
     ensures snapshots { snapshots.new ≡ published (is_raised verdict) snapshots.old }

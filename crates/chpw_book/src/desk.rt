@@ -171,9 +171,9 @@ impl<D: DeskName, S: JournalSink> Desk<D, S> {
         raise_noted(pass, raised)
     }
 
-    /// What a table shows of a name after some list of accepted changes that begins with all that the pass has seen and
-    /// learnt; none for an unknown name. It takes no lock and waits for nobody. The counts are at least 1. After
-    /// `NotEntered` the pass is unchanged.
+    /// What a table shows of a name after the accepted changes of some legal history from the opening, which begin with
+    /// all that the pass has seen and learnt; none for an unknown name. It takes no lock and waits for nobody. The counts
+    /// are at least 1. After `NotEntered` the pass is unchanged.
     pub fn lookup(&self, pass: &mut Pass<D>, name: &Name) -> Result<Option<Lookup>, NotEntered>
         ensures found { IfOk result (λ found. LooksUp (opening_table D.root) pass.old.place
             pass.new.place name.now found) }

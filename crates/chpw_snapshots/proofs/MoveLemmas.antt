@@ -26,6 +26,7 @@ use Rattle.chpw_snapshots.specs.declared.snapshot.Operation.{Operation}
 use Rattle.chpw_snapshots.specs.declared.view.View.{View}
 use Rattle.chpw_snapshots.specs.Rows.{Rowed, names_of_rows, names_of, rows_after, shown_in, IsPositive, ShowsOpening, lookup_with, lookup_after}
 use Rattle.chpw_snapshots.specs.Rising.{IsNextVersion}
+use Rattle.chpw_snapshots.specs.Histories.{AreAccepted}
 use Rattle.chpw_snapshots.specs.Following.{applied, IsNumberOf, HasNumber, CanBeShown, list_by, list_shown, ShowsList}
 use Rattle.chpw_snapshots.specs.Following.{IsRuled, Publishes, IsTied, Looked, Published, Settled, unknown, log_of}
 use Rattle.chpw_snapshots.proofs.RiseLemmas.{next_on}
@@ -115,8 +116,9 @@ positive_after opening list (Count n) r policy next is =
 pub goes_on : (b : LogbookName) (r : List LogEntry) (list : List Accepted) (x : Snapshot) (o : Operation)
     → ShowsList b r list x
     → o.seen.book ≡ b → changes_in r o.seen.log ≡ list → CanBeShown (opening_state r) list o.change
+    → AreAccepted (opening_state r) (list ++ named (opening_state r) o.change ∷ [])
     → length list + 1 < 2147483648 → ShowsList b r (list ++ named (opening_state r) o.change ∷ []) (applied x o)
-goes_on b r list x o is ob ol can room =
+goes_on b r list x o is ob ol can done room =
     let c : Accepted = named (opening_state r) o.change in
     let a = length-append list (c ∷ []) in
     let i = is.len_is in
@@ -135,6 +137,7 @@ goes_on b r list x o is ob ol can room =
       policy = policy_after (opening_state r) list o.change x.rows is.policy;
       shows = λ name. shows_after (opening_state r) list o.change x.rows is.names is.kept can.0 name (is.shows name);
       rise = next_on (opening_state r) [] list c is.rise can.1;
+      accepted = done;
       positive = positive_after (opening_state r) list o.change x.rows is.policy can.1 is.positive;
       last = λ h. ap (λ l. l ++ c ∷ []) (sym ol);
     }
@@ -142,8 +145,9 @@ goes_on b r list x o is ob ol can room =
 -- the writer, which knows the whole list, makes the change of one operation
 pub published_at : (seat : ℕ) (b : LogbookName) (r : List LogEntry) (v : View) (x : Snapshot)
     (list : List Accepted) (o : Operation) → Publishes b r v x list → o.seen.book ≡ b → changes_in r o.seen.log ≡ list
-    → CanBeShown (opening_state r) list o.change → length list + 1 < 2147483648 → TurnsAt IsRuled seat v x (applied x o) Published
-published_at seat b r v x list o sh ob ol can room views (all, is, each) at =
+    → CanBeShown (opening_state r) list o.change → AreAccepted (opening_state r) (list ++ named (opening_state r) o.change ∷ [])
+    → length list + 1 < 2147483648 → TurnsAt IsRuled seat v x (applied x o) Published
+published_at seat b r v x list o sh ob ol can done room views (all, is, each) at =
     let mine = each seat v at sh.0.0 in
     let pre : IsPrefix list all = subst (λ (l : List Accepted). IsPrefix l all) sh.1 mine.2 in
     let long : length list ≡ length all = sym sh.2.len_is ∙ is.len_is in
@@ -153,7 +157,7 @@ published_at seat b r v x list o sh ob ol can room views (all, is, each) at =
     let w : View = record v { front = v.front ++ named (opening_state v.root) o.change ∷ [] } in
     let next : ShowsList y.root.book y.root.log (list ++ c ∷ []) y =
     renamed b y.root.book r y.root.log (list ++ c ∷ []) y
-    (sym sh.2.root_book) (sym sh.2.root_log) (goes_on b r list x o sh.2 ob ol can room) in
+    (sym sh.2.root_book) (sym sh.2.root_log) (goes_on b r list x o sh.2 ob ol can done room) in
     let told : w.front ≡ list ++ c ∷ [] =
     ap (λ (l : List Accepted). l ++ named (opening_state v.root) o.change ∷ []) sh.1
     ∙ ap (λ l. list ++ named (opening_state l) o.change ∷ []) sh.0.2 in
@@ -171,16 +175,17 @@ published_at seat b r v x list o sh ob ol can room views (all, is, each) at =
 
 pub published_after : (b : LogbookName) (r : List LogEntry) (v w : View) (x y : Snapshot)
     (list : List Accepted) (o : Operation) → Publishes b r v x list → o.seen.book ≡ b → changes_in r o.seen.log ≡ list
-    → CanBeShown (opening_state r) list o.change → length list + 1 < 2147483648
+    → CanBeShown (opening_state r) list o.change → AreAccepted (opening_state r) (list ++ named (opening_state r) o.change ∷ [])
+    → length list + 1 < 2147483648
     → y ≡ applied x o → Published v x y w → Publishes b r w y (list ++ named (opening_state r) o.change ∷ [])
-published_after b r v w x y list o sh ob ol can room is told =
+published_after b r v w x y list o sh ob ol can done room is told =
     let c : Accepted = named (opening_state r) o.change in (
       (ap (λ (z : View). z.known) told ∙ sh.0.0, ap log_of told ∙ sh.0.1, ap (λ (z : View). z.root) told ∙ sh.0.2),
       ap (λ (z : View). z.front) told
           ∙ (ap (λ (l : List Accepted). l ++ named (opening_state v.root) y.last ∷ []) sh.1
           ∙ (ap (λ l. list ++ named (opening_state l) y.last ∷ []) sh.0.2
           ∙ ap (λ (z : Snapshot). list ++ named (opening_state r) z.last ∷ []) is)),
-      subst (λ (z : Snapshot). ShowsList b r (list ++ c ∷ []) z) (sym is) (goes_on b r list x o sh.2 ob ol can room),
+      subst (λ (z : Snapshot). ShowsList b r (list ++ c ∷ []) z) (sym is) (goes_on b r list x o sh.2 ob ol can done room),
     )
 
 pub settles : (seat : ℕ) (v : View) (x y : Snapshot) → y ≡ x → TurnsAt IsRuled seat v x y Settled
@@ -217,6 +222,7 @@ opening_version r rows x n same log seen shows =
       policy = all.policy;
       shows = all.shows;
       rise = tt;
+      accepted = record { history = []; legal = tt; list_is = refl };
       positive = all.positive;
       last = λ h. absurd (omega arith);
     }

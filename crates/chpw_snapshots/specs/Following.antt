@@ -21,6 +21,7 @@ use Rattle.chpw_snapshots.specs.declared.snapshot.Operation.{Operation}
 use Rattle.chpw_snapshots.specs.declared.view.View.{View}
 use Rattle.chpw_snapshots.specs.Rows.{rows_after, names_of_rows, names_of, shown_in, IsPositive}
 use Rattle.chpw_snapshots.specs.Rising.{IsNextVersion, AreNextVersions}
+use Rattle.chpw_snapshots.specs.Histories.{AreAccepted}
 
 -- one more operation
 abbrev pub applied : Snapshot → Operation → Snapshot
@@ -62,8 +63,8 @@ list_of root s = list_by (changes_in root s.seen.log) (named (opening_state root
 abbrev pub IsKnown : LogbookName → List LogEntry → ShownPrefix → Type 0
 IsKnown log root s = (s.seen.book ≡ log) × (s.len ≡ length (list_of root s))
 
--- The version is of the list named by this log and root, and shows these changes of it, along which
--- versions rise. Its rows count them, and those that the table had accepted before.
+-- The version is of the list named by this log and root, and shows these changes of it, which a legal
+-- history accepted and along which versions rise. Its rows count them, and those that the table had accepted before.
 pub record ShowsList (log : LogbookName) (root : List LogEntry) (list : List Accepted) (x : Snapshot) : Type 0 where
   pub root_book : x.root.book ≡ log
   pub root_log : x.root.log ≡ root
@@ -76,6 +77,7 @@ pub record ShowsList (log : LogbookName) (root : List LogEntry) (list : List Acc
   pub policy : x.rows.policy ≡ shown_count (opening_state root) list
   pub shows : (name : Name) → shown_in x.rows.rows name ≡ shown (opening_state root) list name
   pub rise : AreNextVersions (opening_state root) [] list
+  pub accepted : AreAccepted (opening_state root) list
   pub positive : IsPositive x.rows
   pub last : 0 < length list → list ≡ changes_in root x.seen.log ++ named (opening_state root) x.last ∷ []
 

@@ -7,6 +7,7 @@ use Rattle.chpw_table.specs.Agreement.{Held}
 use Rattle.chpw_table.specs.declared.change.Accepted.{Accepted}
 use Rattle.chpw_snapshots.specs.Known.{Known}
 use Rattle.chpw_snapshots.specs.Rows.{lookup_after}
+use Rattle.chpw_snapshots.specs.Histories.{AreAccepted}
 
 -- A lookup of this name at a place that knew `mine`, and then knows `more`.
 pub record LooksUp (opening : Held) (mine more : Known) (name : Name) (found : Option Lookup) : Type 0 where
@@ -14,6 +15,8 @@ pub record LooksUp (opening : Held) (mine more : Known) (name : Name) (found : O
   pub later : IsPrefix mine.seen more.seen
   -- and with all that the place has learnt
   pub after : IsPrefix mine.told more.seen
+  -- that list is the accepted changes of a legal history from the opening, already when it is shown
+  pub accepted : AreAccepted opening.state more.seen
   -- it shows what the opening and that list show of the name
   pub shown : found ≡ lookup_after opening more.seen name
   -- Whatever version a beginning of that list shows of the name, it shows that one or a later one. So no

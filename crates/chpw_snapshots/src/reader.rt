@@ -45,8 +45,9 @@ impl<D: LogName> Model for SnapshotReader<D> {
 pub struct NotEntered;
 
 impl<D: LogName> SnapshotReader<D> {
-    /// What a table shows of a name after some list of accepted changes that begins with all that this place has seen
-    /// and with all that it has learnt; none for an unknown name. No lookup shows an older version than one before it.
+    /// What a table shows of a name after the accepted changes of some legal history from the opening, which begin with
+    /// all that this place has seen and with all that it has learnt; none for an unknown name. Each change was accepted
+    /// before it was published, so that this holds at the lookup. No lookup shows an older version than one before it.
     /// It takes no lock, waits for nobody, and takes no memory of its own. After `NotEntered` the place is unchanged.
     pub fn lookup(&mut self, name: &Name) -> Result<Option<Lookup>, NotEntered>
         ensures found { IfOk result (λ found.

@@ -7,6 +7,7 @@ ghost use Rattle.chpw_changelog.specs.Changes.{named};
 ghost use Rattle.chpw_changelog.specs.Pens.{opening_state, opening_table};
 ghost use Rattle.chpw_snapshots.specs.Rows.{ShowsOpening, names_of};
 ghost use Rattle.chpw_snapshots.specs.Rising.{IsNextVersion};
+ghost use Rattle.chpw_snapshots.specs.Histories.{AreAccepted};
 ghost use Rattle.chpw_snapshots.specs.Following.{CanBeShown, IsNumberOf};
 
 use crate::reader::SnapshotReader;
@@ -179,9 +180,12 @@ impl<D: LogName> SnapshotWriter<D> {
     }
 
     /// Publishes the prepared change: it joins the list. It takes no memory and doesn't fail, but waits for readers of
-    /// the copy that it changes. If none is prepared, nothing changes.
+    /// the copy that it changes. If none is prepared, nothing changes. The change was accepted by now: the list with it
+    /// is the accepted changes of a legal history, which each lookup says of what it shows.
     pub fn publish<R: Wait>(&mut self, rt: &R) -> Front<D>
         requires room { length self.old.list + 1 < 2 ^ 31 }
+        requires accepted { IfSome self.old.waiting (λ change.
+            AreAccepted (opening_state D.root) (self.old.list ++ change ∷ [])) }
         ensures list { IfSome self.old.waiting (λ change.
             self.new ≡ record { list = self.old.list ++ change ∷ []; waiting = None }) }
         ensures unchanged { IfNone self.old.waiting (self.new ≡ self.old) }

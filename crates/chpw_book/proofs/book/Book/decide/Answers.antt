@@ -4,13 +4,18 @@ use Rattle.chpw_changelog.specs.Pens.{opening_state}
 use Rattle.chpw_book.specs.Recorded.{RecordedView}
 use Rattle.chpw_table.proofs.AgreementLemmas.{agrees_itself}
 use Rattle.chpw_book.proofs.CallLemmas.{asks_of_first}
-use Rattle.chpw_book.proofs.PublishLemmas.{published_next, list_room, adds_next}
+use Rattle.chpw_book.proofs.PublishLemmas.{published_next, accepted_next, list_room, adds_next}
 use Rattle.chpw_book.proofs.book.Book.decide.Goals as goal
 
 pub tell-requires-clause-room : goal.tell-requires-clause-room
 tell-requires-clause-room g c =
     list_room (opening_state g.D.LogName.root) g.D.DeskName.workers c.self.inside.recorded c.decide.new.self _
     _ c.has.new.self _ _ _ (rw c.has.ensures.same c.self.invariant) c.in_ok-verdict.ensures.recorded
+
+pub tell-requires-clause-accepted : goal.tell-requires-clause-accepted
+tell-requires-clause-accepted g c done =
+    accepted_next (opening_state g.D.LogName.root) g.D.DeskName.workers c.self.inside.recorded c.decide.new.self _
+    _ c.has.new.self _ _ _ (rw c.has.ensures.same c.self.invariant) c.in_ok-verdict.ensures.recorded done
 
 pub invariant_of-self-2 : goal.invariant_of-self-2
 invariant_of-self-2 g c =

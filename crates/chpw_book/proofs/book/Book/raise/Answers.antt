@@ -1,13 +1,18 @@
 use Rattle.std.proofs.Common.{rules}
 use mathlib.Core.List.{IsPrefix}
 use Rattle.chpw_changelog.specs.Pens.{opening_state}
-use Rattle.chpw_book.proofs.PublishLemmas.{published_next, list_room, adds_next}
+use Rattle.chpw_book.proofs.PublishLemmas.{published_next, accepted_next, list_room, adds_next}
 use Rattle.chpw_book.proofs.book.Book.raise.Goals as goal
 
 pub tell_raise-requires-clause-room : goal.tell_raise-requires-clause-room
 tell_raise-requires-clause-room g c =
     list_room (opening_state g.D.LogName.root) g.D.DeskName.workers c.self.inside.recorded c.raise.new.self _
     _ c.has.new.self _ _ _ (rw c.has.ensures.same c.self.invariant) c.in_ok-verdict.ensures.recorded
+
+pub tell_raise-requires-clause-accepted : goal.tell_raise-requires-clause-accepted
+tell_raise-requires-clause-accepted g c done =
+    accepted_next (opening_state g.D.LogName.root) g.D.DeskName.workers c.self.inside.recorded c.raise.new.self _
+    _ c.has.new.self _ _ _ (rw c.has.ensures.same c.self.invariant) c.in_ok-verdict.ensures.recorded done
 
 pub invariant_of-self-2 : goal.invariant_of-self-2
 invariant_of-self-2 g c =

@@ -8,6 +8,7 @@ use Rattle.chpw_snapshots.specs.declared.snapshot.Snapshot.{Snapshot}
 use Rattle.chpw_changelog.specs.Pens.{opening_state, opening_table}
 use Rattle.chpw_snapshots.specs.Rows.{IsPositive, lookup_with, shown_in, lookup_after}
 use Rattle.chpw_snapshots.specs.Rising.{AreNextVersions}
+use Rattle.chpw_snapshots.specs.Histories.{AreAccepted}
 use Rattle.chpw_snapshots.specs.Following.{IsOf, ShowsList, log_of, list_of, list_shown, front_by}
 use Rattle.chpw_changelog.proofs.ListLemmas.{prefix_trans}
 use Rattle.chpw_snapshots.proofs.MoveLemmas.{looks, of_some, renamed, shown_list, shown_by, begins_shown}
@@ -76,6 +77,7 @@ returns-else-not-begins-clause-found g c =
     record {
       later = subst (λ (l : List Accepted). IsPrefix l (list_of r c.shown_prefix-shown.result)) (ap (λ (k : Known). k.seen) c.self.view_is) later;
       after = subst (λ (l : List Accepted). IsPrefix c.args.self.now.told l) (sym shown_is) begins;
+      accepted = subst (λ (l : List Accepted). AreAccepted (opening_state r) l) list shows.accepted;
       shown = found;
       rises = lookup_rises (opening_table r) (list_of r c.shown_prefix-shown.result) name c.lookup-found.result rise found;
       positive = c.lookup-found.ensures.positive (subst (λ (z : Snapshot). IsPositive z.rows) (sym c.get-version.ensures) shows.positive);

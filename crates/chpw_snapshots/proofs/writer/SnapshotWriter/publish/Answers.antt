@@ -1,4 +1,5 @@
 use Rattle.std.proofs.Common.{◌≡◌, ◌∙◌, ◌+◌, ◌<◌, ◌++◌, ◌∷◌, [], List, length, drop, sym, ap, subst, Option, None}
+use Rattle.std.specs.Prelude.{IfSome, option_map}
 use Rattle.left_right.specs.Sides.{view}
 use Rattle.crossbeam_utils.specs.Register.{TurnsAt}
 use Rattle.chpw_table.specs.declared.change.Accepted.{Accepted}
@@ -7,6 +8,7 @@ use Rattle.chpw_changelog.specs.Changes.{named}
 use Rattle.chpw_changelog.specs.Pens.{opening_state}
 use Rattle.chpw_snapshots.specs.declared.snapshot.Snapshot.{Snapshot}
 use Rattle.chpw_snapshots.specs.Known.{PublishedList}
+use Rattle.chpw_snapshots.specs.Histories.{AreAccepted}
 use Rattle.chpw_snapshots.specs.Following.{Publishes, IsWaiting, IsRuled, Published}
 use Rattle.chpw_snapshots.proofs.MoveLemmas.{of_some, put_some, ok_case, published_at, published_after}
 use Rattle.chpw_snapshots.proofs.writer.SnapshotWriter.publish.Goals as goal
@@ -23,9 +25,15 @@ publish_as-writer-requires g c next is =
     let waits = subst (λ (o : Option NumberedChange). IsWaiting b r list (drop w.behind w.log.items) o) c.in-Some.is inv.1 in
     let room : length list + 1 < 2147483648 = subst (λ (l : List Accepted). length l + 1 < 2147483648)
     (sym (ap (λ (s : PublishedList). s.list) c.self.view_is)) c.requires.room in
+    let accepts = subst (λ (s : PublishedList). IfSome s.waiting (λ change. AreAccepted (opening_state r) (s.list ++ change ∷ [])))
+    (sym c.self.view_is) c.requires.accepted in
+    let made : AreAccepted (opening_state r) (list ++ named (opening_state r) c.in-Some.change ∷ []) =
+    subst (λ (o : Option NumberedChange). IfSome (option_map (named (opening_state r)) o) (λ change. AreAccepted (opening_state r) (list ++ change ∷ []))) c.in-Some.is accepts in
+    let done : AreAccepted (opening_state r) (list ++ named (opening_state r) waits.0.change ∷ []) =
+    subst (λ (n : NumberedChange). AreAccepted (opening_state r) (list ++ named (opening_state r) n ∷ [])) (sym waits.2) made in
     let after = rw waits.1 at is in
     subst (λ (y : Snapshot). TurnsAt IsRuled w.desk.place.id (view w.desk.place) w.desk.shown.value y Published) (sym after)
-    (published_at w.desk.place.id b r (view w.desk.place) w.desk.shown.value list waits.0 inv.0 waits.3 waits.4 waits.5 room)
+    (published_at w.desk.place.id b r (view w.desk.place) w.desk.shown.value list waits.0 inv.0 waits.3 waits.4 waits.5 done room)
 
 pub invariant_of-self : goal.invariant_of-self
 invariant_of-self g c =
@@ -39,13 +47,19 @@ invariant_of-self g c =
     let waits = subst (λ (o : Option NumberedChange). IsWaiting b r list (drop w.behind w.log.items) o) c.in-Some.is inv.1 in
     let room : length list + 1 < 2147483648 = subst (λ (l : List Accepted). length l + 1 < 2147483648)
     (sym (ap (λ (s : PublishedList). s.list) c.self.view_is)) c.requires.room in
+    let accepts = subst (λ (s : PublishedList). IfSome s.waiting (λ change. AreAccepted (opening_state r) (s.list ++ change ∷ [])))
+    (sym c.self.view_is) c.requires.accepted in
+    let made : AreAccepted (opening_state r) (list ++ named (opening_state r) c.in-Some.change ∷ []) =
+    subst (λ (o : Option NumberedChange). IfSome (option_map (named (opening_state r)) o) (λ change. AreAccepted (opening_state r) (list ++ change ∷ []))) c.in-Some.is accepts in
+    let done : AreAccepted (opening_state r) (list ++ named (opening_state r) waits.0.change ∷ []) =
+    subst (λ (n : NumberedChange). AreAccepted (opening_state r) (list ++ named (opening_state r) n ∷ [])) (sym waits.2) made in
     let values = ok_case c.publish_as-writer.result.1 _ _ (c.publish_as-writer.ensures.succeeds tt) c.publish_as-writer.ensures.values in
     let rule = ok_case c.publish_as-writer.result.1 _ _ (c.publish_as-writer.ensures.succeeds tt) c.publish_as-writer.ensures.rule in
     let x = w.desk.shown.value in
     let y = c.publish_as-writer.result.0.desk.shown.value in
     let after = rw waits.1 at values.1.0 in
     let all = published_after b r (view w.desk.place) (view c.publish_as-writer.result.0.desk.place)
-    x y list waits.0 inv.0 waits.3 waits.4 waits.5 room after rule.1 in
+    x y list waits.0 inv.0 waits.3 waits.4 waits.5 done room after rule.1 in
     let longer : list ++ named (opening_state r) waits.0.change ∷ [] ≡ c.append.new.self =
     ap (λ (n : NumberedChange). list ++ named (opening_state r) n ∷ []) waits.2 ∙ sym c.append.ensures.value in
     let all' = subst (λ (l : List Accepted). Publishes b r (view c.publish_as-writer.result.0.desk.place) y l) longer all in
