@@ -111,7 +111,7 @@ fn show_journal<R: Files<File = File>>(
     rt: &R,
     alloc: Global,
     text: &mut String,
-    journal: &Journal,
+    journal: &Journal<File>,
 ) -> Result<(), Refusal> {
     if journal.found {
         text.push_str("found, ")?;
@@ -171,7 +171,7 @@ fn shown_locked<R: Files<File = File>>(
     rt: &R,
     alloc: Global,
     text: &mut String,
-) -> Result<Journal, Refusal> {
+) -> Result<Journal<File>, Refusal> {
     let locked = JournalFile::lock(rt, SCRATCH)?;
     let found = if locked.found { "found" } else { "new" };
     match show_found(rt, alloc, text, found) {

@@ -1,5 +1,6 @@
 -- The whole run of a service, put together from its parts.
 use Rattle.std.proofs.Common.{◌≡◌, ℕ, List, Option, is_some, length, subst, sym}
+use Rattle.std.specs.declared.fs.File.{File}
 use Rattle.chpw_rules.specs.declared.config.Config.{Config}
 use Rattle.chpw_table.specs.Agreement.{Held}
 use Rattle.chpw_table.specs.declared.times.Moment.{Moment}
@@ -48,16 +49,17 @@ module _ {R L : Type 0} (options : ServeOptions) (key : List ℕ) (rules : Rules
       }
 
 -- and that is what its files say
-pub whole_run : {R L : Type 0} (options : ServeOptions) (config : Config) (rules : Rules) (started since : Moment) (found : Journal)
-    (journal : JournalLength) (seed : List ℕ) (table : Held) → AreRulesOf config options rules
-    → IsOpening gives_moment config (moment_after 0) started found → journal.has_follower ≡ is_some options.follower
+pub whole_run : {R L : Type 0} (options : ServeOptions) (config : Config) (rules : Rules) (given : Option (List ℕ)) (started since : Moment)
+    (found : Journal File) (journal : JournalLength) (seed : List ℕ) (table : Held) → AreRulesOf config options rules
+    → IsOpening gives_moment config given (moment_after 0) started found → journal.has_follower ≡ is_some options.follower
     → table ≡ found.table → IsServedFrom R L journal options (key_of seed) table rules since → IsWholeRun R L options
-whole_run {R} {L} options config rules started since found journal seed table are opening follower tables served =
+whole_run {R} {L} options config rules given started since found journal seed table are opening follower tables served =
     record {
       config = config;
       rules = rules;
       rules_are = are;
       started = started;
+      given = given;
       found = found;
       opening = opening;
       journal = journal;

@@ -1,5 +1,6 @@
 -- THE WHOLE RUN of a service, from the text of its configuration to the table that its last desk left.
 use Rattle.std.specs.Prelude.{◌≡◌, ℕ, List, Option, is_some, length}
+use Rattle.std.specs.declared.fs.File.{File}
 use Rattle.rand_chacha.specs.ChaCha.{key_of}
 use Rattle.chpw_rules.specs.declared.config.Config.{Config}
 use Rattle.chpw_table.specs.Agreement.{Held}
@@ -36,15 +37,16 @@ pub record IsServedFrom (R L : Type 0) (journal : JournalLength) (options : Serv
   pub raised : IsRaisedWhereAsked gives_moment opening.state before after (new_passes options.workers) passes options.raise told
   pub served : IsServedByNewWorkers R L journal options key options.workers opening passes rules
 
--- there is a configuration that a text sets, by whose rules messages are answered, and with whose table, restored from the journal, the
--- first desk opens
+-- there is a configuration that a text sets, by whose rules messages are answered, and with whose table, restored from what the
+-- journal's file gave, the first desk opens
 pub record IsWholeRun (R L : Type 0) (options : ServeOptions) : Type 0 where
   pub config : Config
   pub rules : Rules
   pub rules_are : AreRulesOf config options rules
   pub started : Moment
-  pub found : Journal
-  pub opening : IsOpening gives_moment config (moment_after 0) started found
+  pub given : Option (List ℕ)
+  pub found : Journal File
+  pub opening : IsOpening gives_moment config given (moment_after 0) started found
   pub journal : JournalLength
   pub follower : journal.has_follower ≡ is_some options.follower
   pub seed : List ℕ

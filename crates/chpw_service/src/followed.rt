@@ -11,6 +11,7 @@ use chpw_invocation::VERSION;
 use chpw_logging::{Log, Notice, is_first};
 use chpw_reactor::{Follower, StatusReporter};
 use chpw_serve::Clock as _;
+use chpw_transfers::ConnectionCounts;
 use chpw_workers::MachineClock;
 use mio::net::{UnixListener, UnixStream};
 use std::alloc::Global;

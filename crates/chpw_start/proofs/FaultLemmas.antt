@@ -15,10 +15,10 @@ unopened CannotRead h = tt
 unopened CannotWrite h = tt
 unopened (Restore fault) h = absurd h
 
-pub unrestored : (before : Held) (fault : OpenFault) → IsUnrestored before fault → IsOfFile fault
-unrestored before CannotRead h = absurd h
-unrestored before CannotWrite h = tt
-unrestored before (Restore fault) h = (before, h.0, h.1)
+pub unrestored : (before : Held) (given : Option (List ℕ)) (fault : OpenFault) → IsUnrestored before given fault → IsOfFile fault
+unrestored before given CannotRead h = absurd h
+unrestored before given CannotWrite h = tt
+unrestored before given (Restore fault) h = (before, given, h)
 
 pub unheld : (config : Config) (journal : Option (List ℕ)) (fault : RestoreFault)
     → fault ≢ restore.Memory → IsHeldFault config journal fault → IsOfRecords fault

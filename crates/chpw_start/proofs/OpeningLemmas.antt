@@ -1,25 +1,61 @@
 -- A journal restored onto the table of a configuration.
-use Rattle.std.proofs.Common.{◌≡◌, ◌∙◌, sym, subst, Bool}
+use Rattle.std.proofs.Common.{◌≡◌, ◌∙◌, refl, sym, subst, ap, absurd, ℕ, List, Option, Bool, true, false, MatchBool}
 use Rattle.chpw_rules.specs.declared.config.Config.{Config}
 use Rattle.chpw_table.specs.Agreement.{Held, Agrees}
+use Rattle.chpw_table.specs.State.{State}
 use Rattle.chpw_table.specs.declared.times.Moment.{Moment}
-use Rattle.chpw_journal.specs.JournalFile.{IsOpened}
+use Rattle.chpw_journal.specs.JournalFile.{IsBegun, IsOpened, IsReopened}
+use Rattle.chpw_journal.specs.JournalText.{restored}
 use Rattle.chpw_journal.specs.declared.journal_file.Journal.{Journal}
 use Rattle.chpw_start.specs.Opening.{IsOpening, opening_at}
 
-pub opens : {C : Type 0} (gives : C → Moment → C → Type 0) (config : Config) (before after : C)
-    (start : Moment) (found : Bool) (t : Held) (j : Journal)
+module _ {C F : Type 0} (gives : C → Moment → C → Type 0) (config : Config) (given : Option (List ℕ)) (before after : C)
+    (start : Moment) (t : Held) (clock : gives before start after)
+    (counts : (t.events ≡ 0) × (t.seen ≡ 0) × (t.max_entries ≡ config.max_entries)) where
+  opening : Bool → State
+  opening found = opening_at config start.seconds found
+
+  -- of a file that was there
+  again : (j : Journal F) → j.found ≡ true → Agrees t.state (opening true) → IsReopened t given j
+      → IsOpening gives config given before after j
+  again j found agrees opened =
+      let read = opened.read.1 in
+      let reading = read.reading (opening true) agrees in
+      record {
+        start = start;
+        clock = clock;
+        records = read.whole_records;
+        next = rw found reading.0.next;
+        found = λ is. record { torn = read.rest; all = (opened.read.0, read.read, read.end); read = reading };
+        table = rw (found, opened.table) (read.table (opening true) agrees);
+        made = λ new. absurd (cc);
+        counts = (rw opened.table (read.events ∙ counts.0), rw opened.table (read.seen ∙ counts.1), rw opened.table (read.max_entries ∙ counts.2));
+      }
+
+  -- of a new one
+  begun : (j : Journal F) → j.found ≡ false → Agrees t.state (opening false) → IsBegun t j → IsOpening gives config given before after j
+  begun j new agrees begins =
+      let here : Agrees j.table.state (opening j.found) = rw (new, begins.0) agrees in
+      record {
+        start = start;
+        clock = clock;
+        records = [];
+        next = tt;
+        found = λ found. absurd (cc);
+        table = here;
+        made = λ is. rw begins.0 agrees;
+        counts = (rw begins.0 counts.0, rw begins.0 counts.1, rw begins.0 counts.2);
+      }
+
+  at : (b : Bool) (j : Journal F) → j.found ≡ b → Agrees t.state (opening b) → MatchBool b (IsReopened t given j) (IsBegun t j)
+      → IsOpening gives config given before after j
+  at true j found agrees opened = again j found agrees opened
+  at false j new agrees opened = begun j new agrees opened
+
+pub opens : {C F : Type 0} (gives : C → Moment → C → Type 0) (config : Config) (given : Option (List ℕ)) (before after : C)
+    (start : Moment) (found : Bool) (t : Held) (j : Journal F)
     → gives before start after → Agrees t.state (opening_at config start.seconds found)
     → (t.events ≡ 0) × (t.seen ≡ 0) × (t.max_entries ≡ config.max_entries)
-    → j.found ≡ found → IsOpened t j → IsOpening gives config before after j
-opens gives config before after start found t j given agrees counts is opened =
-    let here : Agrees t.state (opening_at config start.seconds j.found) = rw is agrees in
-    record {
-      start = start;
-      given = given;
-      records = opened.records;
-      next = opened.next (opening_at config start.seconds j.found) here;
-      table = opened.table (opening_at config start.seconds j.found) here;
-      made = λ made. subst (λ (h : Held). Agrees h.state (opening_at config start.seconds j.found)) (sym (opened.made made)) here;
-      counts = (opened.events ∙ counts.0, opened.seen ∙ counts.1, opened.max_entries ∙ counts.2);
-    }
+    → j.found ≡ found → IsOpened t given j → IsOpening gives config given before after j
+opens gives config given before after start found t j clock agrees counts is opened =
+    at gives config given before after start t clock counts j.found j refl (rw is agrees) opened

@@ -1,8 +1,9 @@
 //! The table that a service starts with.
-ghost use Rattle.std.specs.Prelude.{◌≡◌, IfOk, IfErr, true};
+ghost use Rattle.std.specs.Prelude.{◌≡◌, ℕ, List, Option, IfOk, IfErr, true};
 ghost use Rattle.chpw_rules.specs.Fitting.{config_fits};
 ghost use Rattle.chpw_table.specs.Agreement.{Agrees};
 ghost use Rattle.chpw_table.specs.Times.{IsTime};
+ghost use Rattle.chpw_journal.specs.JournalFile.{given_by};
 ghost use Rattle.chpw_start.specs.Faults.{IsOfFile, IsOfJournal, line_of, open_line};
 ghost use Rattle.chpw_start.specs.Modes.{can_be_journal};
 ghost use Rattle.chpw_start.specs.Opening.{IsOpening, opening_at};
@@ -10,36 +11,55 @@ ghost use Rattle.chpw_start.specs.declared.fault.ServeFault.TheVariants.{Memory}
 
 use crate::fault::ServeFault;
 use crate::line_output::{Kind, kind_of};
-use chpw_journal::{FileSink, Journal, JournalFile, OpenFault, RestoreFault, quiet_after};
+use chpw_journal::{
+    FileSink, Journal, JournalFile, OpenFault, RestoreFault, SyncedFile, quiet_after,
+};
 use chpw_rules::Config;
 use chpw_serve::Clock;
 use chpw_table::{JournalSink, Moment, Table};
 use std::alloc::Global;
 use std::fs::{File, Files};
+use std::io::Read;
 
 /// The journal at a path, and the table restored from it. The table is quiet for 300 seconds from its start on if there
 /// was a journal. The start is read from the clock once no other process has the journal. A journal that isn't a
 /// regular file is refused before it is opened.
-#[tactic(auto, using(crate::proofs::FaultLemmas::unopened, crate::proofs::FaultLemmas::unrestored))]
+#[tactic(auto, using(crate::proofs::FaultLemmas::unopened))]
 pub fn open_table<'a, R: Files<File = File>, C: Clock>(
     rt: &R,
     alloc: Global,
     config: Config,
     path: &'a str,
     clock: &mut C,
-) -> Result<Journal, ServeFault<'a>>
+) -> Result<Journal<File>, ServeFault<'a>>
     requires fits { config_fits config ≡ true }
-    ensures opened { IfOk result (IsOpening C.gives config clock.old clock.new) }
+    ensures opened { IfOk result (λ j. (given : Option (List ℕ)) × IsOpening C.gives config given clock.old clock.new j) }
     ensures fresh { IfOk result (λ j. ⟦<FileSink<File> as JournalSink>⟧.failed j.sink ≡ 0) }
     ensures fault { IfErr result (IsOfJournal path.now) }
 {
     if !can_be_journal(kind_of(rt, path)) {
         return Err(ServeFault::CannotRead(path));
     }
-    let file = match JournalFile::lock(rt, path) {
-        Ok(file) => file,
-        Err(fault) => return Err(journal_fault(path, fault)),
-    };
+    match JournalFile::lock(rt, path) {
+        Ok(file) => table_from(alloc, config, file, path, clock),
+        Err(fault) => Err(journal_fault(path, fault)),
+    }
+}
+
+// The table restored from the journal in this file, which is at its beginning: with the records of all that it gives.
+#[tactic(auto, using(crate::proofs::FaultLemmas::unrestored))]
+fn table_from<'a, F: SyncedFile + Read + Drop, C: Clock>(
+    alloc: Global,
+    config: Config,
+    file: JournalFile<F>,
+    path: &'a str,
+    clock: &mut C,
+) -> Result<Journal<F>, ServeFault<'a>>
+    requires fits { config_fits config ≡ true }
+    ensures opened { IfOk result (IsOpening C.gives config (given_by F.remaining file) clock.old clock.new) }
+    ensures fresh { IfOk result (λ j. ⟦<FileSink<F> as JournalSink>⟧.failed j.sink ≡ 0) }
+    ensures fault { IfErr result (IsOfJournal path.now) }
+{
     let start = clock.now();
     let table = opening_table(alloc, config, start, file.found)?;
     match file.restore(alloc, table) {

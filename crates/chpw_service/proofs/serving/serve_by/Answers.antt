@@ -37,10 +37,11 @@ returns-clause-run g c =
       max_entries = ruled.max_entries;
       text = ruled.sets;
     } in
-    let opening = subst (λ (before : Moment). IsOpening gives_moment config before c.open_table.new.clock found) c.new-clock.ensures.start
-    c.in_ok-table.ensures.opened in
+    let opened = c.in_ok-table.ensures.opened in
+    let opening = subst (λ (before : Moment). IsOpening gives_moment config opened.0 before c.open_table.new.clock found)
+    c.new-clock.ensures.start opened.1 in
     on_ok_weaker c.serve_opened-ended.result
-    (λ served. whole_run options config c.in-Ok.rules c.open_table.new.clock c.now-since.new.self found c.in_ok-journal.journal
+    (λ served. whole_run options config c.in-Ok.rules opened.0 c.open_table.new.clock c.now-since.new.self found c.in_ok-journal.journal
     c.terms_of.result.seed (table_of c.first_opening-opening.result.unnamed) rules opening
     (c.in_ok-journal.ensures.follower ∙ c.is_some-has_follower.ensures)
     c.first_opening-opening.ensures.table served)
