@@ -12,7 +12,7 @@ OWNER = re.compile(r"^(?:pub(?:\([a-z]+\))? )?(?:unsafe )?(impl|trait)\b((?:.|\n
 TYPE = re.compile(r"^\s*(?:pub(?:\([a-z]+\))? )?(?:struct|enum|trait|union|type) (\w+)", re.MULTILINE)
 REUSED = re.compile(r"^pub use (\w+)::(?:(\w+)::)?(?:\{([^}]*)\}|(\w+));", re.MULTILINE)
 VALUE = re.compile(r"^\s*(?:pub(?:\([a-z]+\))? )?(?:const|static) (\w+)", re.MULTILINE)
-GHOST = re.compile(r"^\s+ghost (\w+)(?: =|:)", re.MULTILINE)
+GHOST = re.compile(r"^\s+(?:pub )?ghost (\w+)(?: =|:)", re.MULTILINE)
 MEMBER = re.compile(r"^    (?:pub(?:\([a-z]+\))? )?(\w+)(?:\s*[:({,]|$)", re.MULTILINE)
 DEFINITION = re.compile(r"^\s*(?:pub )?(?:abbrev|unfoldable|record|data|def|law)\b(?: pub| rec)* ([^\s:(]+)", re.MULTILINE)
 FIELD = re.compile(r"^\s+pub ([\w']+) :", re.MULTILINE)

@@ -6,6 +6,7 @@ pub mod Pieces
 pub mod Connections
 pub mod Callers
 pub mod Seats
+pub mod TakenOrders
 pub mod CallerLives
 pub mod Answers
 pub mod Endings

@@ -6,6 +6,7 @@ ghost use Rattle.chpw_control.specs.Dialogs.{at_start};
 ghost use Rattle.chpw_control.specs.Callers.{asking, closed, expired, failed, told, taken, wrote};
 ghost use Rattle.chpw_control.specs.Seats.{AreKept, Happens, HappensToHear, IsNew, IsFirst, NobodyWaits, waiting_at};
 ghost use Rattle.chpw_control.specs.Seats.{number_in, left_at, is_late, is_order, is_over_at, waiting_of, earlier};
+ghost use Rattle.chpw_control.specs.TakenOrders.{command_in, is_numbered, number_of, slot_of};
 
 use crate::caller::Caller;
 use crate::command::Command;
@@ -22,6 +23,25 @@ pub(crate) struct Seat {
     pub caller: Caller,
     pub since: u64,
     pub number: u64,
+}
+
+/// An order that is being carried out. Only `Callers::next_order` makes one, and it is used up by its answer
+/// (`Callers::answer_order`): so each is answered once, and its answer goes to the caller who gave it. It can't be
+/// dropped.
+pub struct TakenOrder {
+    command: Command,
+    slot: usize,
+    // The caller's: no other in that slot has it.
+    number: u64,
+}
+
+impl TakenOrder {
+    /// What is to be done.
+    pub fn command(&self) -> &Command
+        ensures value { result.now ≡ command_in self.now }
+    {
+        &self.command
+    }
 }
 
 /// All callers at the control socket, each in a slot of its own.
@@ -185,11 +205,14 @@ impl Callers {
     /// The next order, unless one is being carried out: that of the caller who was accepted first. It is being carried
     /// out from now on.
     #[tactic(auto, using(crate::proofs::SeatLemmas::kind_of))]
-    pub fn next_order(&mut self) -> Option<Command>
-        ensures first { IfSome result (λ command. IfSome self.new.ordering (λ slot. IsFirst self.old.seats true slot
-            × (waiting_at true (get self.old.seats slot) ≡ Some command) × Happens self.old.seats self.new.seats slot taken)) }
-        ensures kind { IfSome result (λ command. is_order command ≡ true) }
-        ensures idle { OnSome result ((self.old.ordering ≡ None) × (self.new.ordering ≢ None)) }
+    pub fn next_order(&mut self) -> Option<TakenOrder>
+        ensures first { IfSome result (λ order. IsFirst self.old.seats true (slot_of order)) }
+        ensures command { IfSome result (λ order. waiting_at true (get self.old.seats (slot_of order)) ≡ Some (command_in order)) }
+        ensures number { IfSome result (λ order. number_in self.old.seats true (slot_of order) ≡ Some (number_of order)) }
+        ensures kind { IfSome result (λ order. is_order (command_in order) ≡ true) }
+        ensures taken { IfSome result (λ order. Happens self.old.seats self.new.seats (slot_of order) taken) }
+        ensures ordering { IfSome result (λ order. self.new.ordering ≡ Some (slot_of order)) }
+        ensures idle { OnSome result (self.old.ordering ≡ None) }
         ensures none { IfNone result (self.new ≡ self.old) }
         ensures all { IfNone result (IfNone self.old.ordering (NobodyWaits self.old.seats true)) }
         ensures kept { AreKept self.old self.new }
@@ -198,9 +221,14 @@ impl Callers {
             return None;
         }
         let slot = self.first_waiting(true)?;
+        let number = self.number_waiting(slot, true)?;
         let command = self.take(slot)?;
         self.ordering = Some(slot);
-        Some(command)
+        Some(TakenOrder {
+            command,
+            slot,
+            number,
+        })
     }
 
     /// Whether a caller waits with an order, or with a question.
@@ -276,15 +304,34 @@ impl Callers {
         }
     }
 
-    /// The answer to the order is to be written, and the next one may be carried out.
-    pub fn answer_order(&mut self, answer: Vec<u8>)
-        ensures happens { IfSome self.old.ordering (λ slot. Happens self.old.seats self.new.seats slot (told answer.items)) }
+    /// The answer to an order is to be written, and the next one may be carried out. It goes to the caller who gave the
+    /// order, and to nobody else: if that caller is there no more, nobody is answered.
+    pub fn answer_order(&mut self, order: TakenOrder, answer: Vec<u8>)
+        ensures happens { is_numbered (number_of order) (get self.old.seats (slot_of order)) ≡ true
+            → Happens self.old.seats self.new.seats (slot_of order) (told answer.items) }
+        ensures others { is_numbered (number_of order) (get self.old.seats (slot_of order)) ≡ false
+            → self.new.seats ≡ self.old.seats }
         ensures over { self.new.ordering ≡ None }
-        ensures none { IfNone self.old.ordering (self.new ≡ self.old) }
         ensures kept { AreKept self.old self.new }
     {
-        if let Some(slot) = self.ordering.take() {
+        let TakenOrder {
+            command: _,
+            slot,
+            number,
+        } = order;
+        self.ordering = None;
+        if self.is_numbered(slot, number) {
             self.answer(slot, answer);
+        }
+    }
+
+    // Whether the caller in a slot has this number.
+    fn is_numbered(&self, slot: usize, number: u64) -> bool
+        ensures value { result ≡ is_numbered number (get self.now.seats slot) }
+    {
+        match self.seats.get(slot) {
+            None => false,
+            Some(seat) => seat.number == number,
         }
     }
 

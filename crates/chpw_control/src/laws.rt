@@ -2,6 +2,7 @@
 ghost use Rattle.chpw_control.specs.CallerLives.{Served};
 ghost use Rattle.chpw_control.specs.Connections.{Once, Piecewise, OnlyItsLine};
 ghost use Rattle.chpw_control.specs.Endings.{CutOff, EndsBadly, EndsWell};
+ghost use Rattle.chpw_control.specs.TakenOrders.{StaysForItsAnswer};
 
 /// A connection gives at most one command, or one fault.
 #[tactic(auto, using(crate::proofs::ConnectionLemmas::once))]
@@ -26,6 +27,13 @@ pub fn only_its_line()
 #[tactic(auto, using(crate::proofs::CallerLemmas::all_served))]
 pub fn one_answer()
     ensures { Served }
+{}
+
+/// A caller whose command is being carried out is not finished before it has its answer, even if it has hung up: its
+/// slot is given to nobody else meanwhile.
+#[tactic(auto, using(crate::proofs::TakenOrderLemmas::stays))]
+pub fn stays_for_its_answer()
+    ensures { StaysForItsAnswer }
 {}
 
 /// An answer to a command that was carried out ends with `ok`.

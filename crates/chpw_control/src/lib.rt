@@ -16,7 +16,7 @@ mod telling;
 mod time;
 
 pub use answer::{ended_ok, put_error, put_line, put_ok};
-pub use callers::Callers;
+pub use callers::{Callers, TakenOrder};
 pub use command::Command;
 pub use dialog::Dialog;
 pub use fault::ControlFault;

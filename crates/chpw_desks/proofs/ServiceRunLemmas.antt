@@ -20,6 +20,8 @@ use Rattle.chpw_book.specs.Passes.{PassView}
 use Rattle.chpw_reactor.specs.Engines.{seat_turns}
 use Rattle.chpw_workers.specs.Desks.{AreInOrder, ServedDesk}
 use Rattle.chpw_invocation.specs.declared.invocation.ServeOptions.{ServeOptions}
+use Rattle.chpw_control.specs.TakenOrders.{command_in}
+use Rattle.chpw_desks.proofs.OrderLemmas.{reload_by}
 use Rattle.chpw_desks.specs.Following.{DoesWhatIsDue, TakesRules}
 use Rattle.chpw_desks.specs.Journals.{tells_end}
 use Rattle.chpw_desks.specs.Orders.{IsDueBy}
@@ -29,8 +31,8 @@ use Rattle.chpw_desks.specs.ServiceRuns.{between, gives_moment, new_passes}
 use Rattle.chpw_start.specs.Rules.{AreRulesOf}
 use Rattle.chpw_desks.specs.Staff.{ServiceWorker}
 use Rattle.chpw_desks.specs.declared.journals.JournalLength.{JournalLength}
-use Rattle.chpw_orders.specs.declared.after_close.AfterClose.{AfterClose}
-use Rattle.chpw_orders.specs.declared.after_close.AfterClose.TheVariants.{Compact, Reload}
+use Rattle.chpw_desks.specs.declared.orders.AfterClose.{AfterClose}
+use Rattle.chpw_desks.specs.declared.orders.AfterClose.TheVariants.{Compact, Reload}
 use Rattle.chpw_orders.specs.declared.rereading.PendingReload.{PendingReload}
 use Rattle.chpw_start.specs.declared.rules.Rules.{Rules}
 use Rattle.chpw_desks.proofs.StaffLemmas.{in_order_length, served_count}
@@ -55,10 +57,10 @@ goes_on_itself s = inl (agrees_itself s)
 -- ---- from each message to the history
 
 -- what was due does what the run says
-reload_by : (options : ServeOptions) (anew : PendingReload) (closed : Held) (new : Rules) (next : Held) → IsReadAnew options anew
+is_reload_by : (options : ServeOptions) (anew : PendingReload) (closed : Held) (new : Rules) (next : Held) → IsReadAnew options anew
     → new ≡ anew.rules → (bytes : Option (List ℕ)) (r : Reloaded) → IsReloaded anew.renewed bytes closed r → next ≡ r.table
     → IsReloadBy options closed next new
-reload_by options anew closed new next read rules bytes r reloaded table =
+is_reload_by options anew closed new next read rules bytes r reloaded table =
     let made = reloaded_is_reload read.config read.journal bytes anew.renewed closed r closed.state read.prepared reloaded (agrees_itself closed.state) in
     record {
       config = read.config;
@@ -70,12 +72,14 @@ reload_by options anew closed new next read rules bytes r reloaded table =
           ∙ (sym read.rules.max_entries ∙ sym (ap (λ (rs : Rules). rs.max_entries) rules))));
     }
 
-pub goes_on_by : (options : ServeOptions) (due : Option AfterClose) (closed : Held) (old new : Rules) (next : Held)
-    → IfSome due (IsDueBy options) → DoesWhatIsDue due closed old new next → GoesOnBy options closed old next new
-goes_on_by options None closed old new next is does = inl (does.1, does.0)
-goes_on_by options (Some (Compact compaction)) closed old new next is does = inl (does.1, does.0)
-goes_on_by options (Some (Reload anew)) closed old new next is (inr h) = inl (h.1, h.0)
-goes_on_by options (Some (Reload anew)) closed old new next is (inl h) = inr (reload_by options anew closed new next is h.0 h.1.0 h.1.1.0 h.1.1.1.0 h.1.1.1.1)
+pub goes_on_by : (options : ServeOptions) (in_force : List ℕ) (due : Option AfterClose) (closed : Held) (old new : Rules) (next : Held)
+    → IfSome due (IsDueBy options in_force) → DoesWhatIsDue due closed old new next → GoesOnBy options closed old next new
+goes_on_by options in_force None closed old new next is does = inl (does.1, does.0)
+goes_on_by options in_force (Some (Compact order compaction)) closed old new next is does = inl (does.1, does.0)
+goes_on_by options in_force (Some (Reload order anew)) closed old new next is (inr h) = inl (h.1, h.0)
+goes_on_by options in_force (Some (Reload order anew)) closed old new next is (inl h) =
+    let read = (reload_by options in_force (command_in order) anew is).1 in
+    inr (is_reload_by options anew closed new next read h.0 h.1.0 h.1.1.0 h.1.1.1.0 h.1.1.1.1)
 
 -- the same of a state
 goes_on_from : (options : ServeOptions) (left : Held) (old : Rules) (next : Held) (new : Rules) → GoesOnBy options left old next new

@@ -2,8 +2,8 @@
 use Rattle.std.specs.Prelude.{◌≡◌, ◌⊎◌, ℕ, List, Option, Some, None}
 use Rattle.chpw_reload.specs.Reloading.{IsReloaded}
 use Rattle.chpw_reload.specs.declared.reloading.Reloaded.{Reloaded}
-use Rattle.chpw_orders.specs.declared.after_close.AfterClose.{AfterClose}
-use Rattle.chpw_orders.specs.declared.after_close.AfterClose.TheVariants.{Reload, Compact}
+use Rattle.chpw_desks.specs.declared.orders.AfterClose.{AfterClose}
+use Rattle.chpw_desks.specs.declared.orders.AfterClose.TheVariants.{Reload, Compact}
 use Rattle.chpw_orders.specs.declared.rereading.PendingReload.{PendingReload}
 use Rattle.chpw_start.specs.declared.rules.Rules.{Rules}
 use Rattle.chpw_table.specs.Agreement.{Held}
@@ -20,6 +20,6 @@ TakesRules anew closed old new next =
 
 -- what was due after a closed desk: a reload; a compact journal, or nothing, and then the rules and the table stay
 abbrev pub DoesWhatIsDue : Option AfterClose → Held → Rules → Rules → Held → Type 0
-DoesWhatIsDue (Some (Reload anew)) closed old new next = TakesRules anew closed old new next
-DoesWhatIsDue (Some (Compact compaction)) closed old new next = (new ≡ old) × (next ≡ reopened closed)
+DoesWhatIsDue (Some (Reload order anew)) closed old new next = TakesRules anew closed old new next
+DoesWhatIsDue (Some (Compact order compaction)) closed old new next = (new ≡ old) × (next ≡ reopened closed)
 DoesWhatIsDue None closed old new next = (new ≡ old) × (next ≡ reopened closed)

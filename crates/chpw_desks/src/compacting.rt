@@ -2,6 +2,7 @@
 ghost use Rattle.std.specs.Prelude.{◌≡◌, ◌≢◌, ◌<◌, ◌-◌, ◌^◌, OnOk, IfOk, IfErr, false};
 ghost use Rattle.chpw_book.specs.Starting.{table_of, workers_of};
 ghost use Rattle.chpw_reload.specs.Compacting.{GoesWith};
+ghost use Rattle.chpw_orders.specs.Answers.{replaced_lines, Tells};
 ghost use Rattle.chpw_desks.specs.Following.{reopened};
 ghost use Rattle.chpw_orders.specs.Replacing.{compact_text};
 ghost use Rattle.chpw_orders.specs.declared.replacing.NotReplaced.TheVariants.{Unsafe};
@@ -9,6 +10,7 @@ ghost use Rattle.chpw_start.specs.declared.fault.ServeFault.TheVariants.{Memory}
 
 use crate::context::ServiceContext;
 use crate::openings::{Opening, next_opening};
+use chpw_control::TakenOrder;
 use chpw_journal::FileSink;
 use chpw_orders::{
     Compaction, JournalAt, JournalPlace, NotReplaced, answer_or_empty, compact_answer, go_on_in,
@@ -18,6 +20,7 @@ use chpw_serve::Clock as _;
 use chpw_start::ServeFault;
 use chpw_table::{JournalSink, Table};
 use chpw_workers::MachineClock;
+use std::alloc::Global;
 use std::fs::{self, File, Files};
 use std::sync::Wait;
 use std::time::Clock;
@@ -26,7 +29,7 @@ use std::time::Clock;
 const LONGEST_WAIT: u64 = 1_000;
 
 /// What the next desk opens with: the closed table, and a compact journal in place of the present one; or that journal,
-/// if there is no compact one. The caller at the control socket is answered.
+/// if there is no compact one. The order is answered.
 pub(crate) fn compact<
     'a,
     'l,
@@ -36,6 +39,7 @@ pub(crate) fn compact<
     rt: &R,
     time: &T,
     hall: &ServiceContext<'l, R>,
+    order: TakenOrder,
     compaction: Compaction,
     table: Table,
     mut sink: FileSink<File>,
@@ -56,10 +60,16 @@ pub(crate) fn compact<
     if !matches!(replaced, Ok(()) | Err(NotReplaced::Unsafe)) {
         let _ = fs::remove_file(rt, compaction.copy.as_str());
     }
-    let answer = compact_answer(rt.alloc(), hall.options.journal, replaced);
-    hall.engine
-        .answer_order(rt, answer_or_empty(rt.alloc(), answer));
+    let answer = replaced_answer(rt.alloc(), hall.options.journal, replaced);
+    hall.engine.answer_order(rt, order, answer);
     next_opening(table, sink, hall.workers)
+}
+
+// The answer to the order: whether a compact journal has replaced the one at this path.
+fn replaced_answer(alloc: Global, path: &str, replaced: Result<(), NotReplaced>) -> Vec<u8>
+    ensures tells { Tells (replaced_lines path.now replaced) result.items }
+{
+    answer_or_empty(alloc, compact_answer(alloc, path, replaced))
 }
 
 // Replaces the present journal by a compact one, once no reply waits for the follower.

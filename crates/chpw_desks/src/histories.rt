@@ -16,15 +16,14 @@ use crate::closing::{Left, abandon_refused, left_by};
 use crate::compacting::compact;
 use crate::context::ServiceContext;
 use crate::openings::{Opened, Opening, next_opening, start_desk};
-use crate::orders::Orders;
+use crate::orders::{AfterClose, Orders};
 use crate::reloading::reload;
 use crate::staff::ServiceWorker;
 use crate::tallies::{report_expired, tell_tally};
 use chpw_book::{DeskName, Pass};
 use chpw_journal::FileSink;
 use chpw_logging::{LogLines, Logging};
-use chpw_orders::AfterClose;
-use chpw_reactor::{EngineCrew, Seat};
+use chpw_reactor::{Engine, EngineCrew, Seat};
 use chpw_serve::{Clock as _, WorkerWords};
 use chpw_start::{Rules, ServeFault};
 use chpw_table::{JournalSink, Table};
@@ -75,7 +74,7 @@ pub fn serve_histories<
     } = serve_desk(rt, time, hall, &rules, workers, first, &mut reported)?;
     for _ in rt.forever() {
         if served.is_over {
-            return Ok(served.into_table());
+            return Ok(served.into_table(rt, &hall.engine));
         }
         let opening = further_opening(rt, time, hall, &mut rules, served)?;
         let next = serve_history::<Brand, R, T>(
@@ -87,10 +86,14 @@ pub fn serve_histories<
             opening,
             &mut reported,
         )?;
-        served = next.served;
-        staff = next.workers;
+        let Attended {
+            served: left,
+            workers,
+        } = next;
+        served = left;
+        staff = workers;
     }
-    Ok(served.into_table())
+    Ok(served.into_table(rt, &hall.engine))
 }
 
 // What the next desk opens with: the closed table, or a reload of it when the configuration was reloaded.
@@ -104,7 +107,7 @@ fn further_opening<'a, 'l, R: Files<File = File> + Wait + Clock + Eprint + Alloc
 ) -> Result<Opening, ServeFault<'a>>
     ensures goes_on { IfOk result (λ next. GoesOn served.table.state (table_of next.unnamed).state) }
     ensures due { IfOk result (λ next. DoesWhatIsDue served.due served.table rules.old rules.new (table_of next.unnamed)) }
-    ensures goes_on_by { IfSome served.due (IsDueBy hall.now.options.now)
+    ensures goes_on_by { IfSome served.due (IsDueBy hall.now.options.now rules.old.text.items)
         → IfOk result (λ next. GoesOnBy hall.now.options.now served.table rules.old (table_of next.unnamed) rules.new) }
     ensures workers { IfOk result (λ next. workers_of next.unnamed ≡ hall.now.workers) }
     ensures fault { IfErr result (λ fault. fault ≡ Memory) }
@@ -113,7 +116,7 @@ fn further_opening<'a, 'l, R: Files<File = File> + Wait + Clock + Eprint + Alloc
         table,
         sink,
         due,
-        ..
+        is_over: _,
     } = served;
     match due {
         None => {
@@ -121,14 +124,17 @@ fn further_opening<'a, 'l, R: Files<File = File> + Wait + Clock + Eprint + Alloc
                 .tell_rollover(MachineClock::new(time).now(), &table);
             next_opening(table, sink, hall.workers)
         }
-        Some(AfterClose::Reload(anew)) => reload(rt, time, hall, rules, anew, table, sink),
-        Some(AfterClose::Compact(compaction)) => compact(rt, time, hall, compaction, table, sink),
+        Some(AfterClose::Reload(order, anew)) => {
+            reload(rt, time, hall, rules, order, anew, table, sink)
+        }
+        Some(AfterClose::Compact(order, compaction)) => {
+            compact(rt, time, hall, order, compaction, table, sink)
+        }
     }
 }
 
 // What a closed desk left, what is due after it, and whether no more messages will come. The sink has room for one more
-// failure, or the table is broken.
-#[derive(Drop)]
+// failure, or the table is broken. It can't be dropped, since what is due can't.
 struct Served {
     table: Table,
     sink: FileSink<File>,
@@ -139,12 +145,26 @@ struct Served {
 }
 
 impl Served {
-    // The table alone; the journal's file is closed.
-    fn into_table(self) -> Table
+    // The table alone; the journal's file is closed, and what is due is given up.
+    fn into_table<R: Wait>(self, rt: &R, engine: &Engine) -> Table
         ensures value { result ≡ self.table }
     {
-        let Served { table, .. } = self;
+        let Served {
+            table,
+            sink: _,
+            due,
+            is_over: _,
+        } = self;
+        give_up(rt, engine, Ok(due));
         table
+    }
+}
+
+// What was due after a desk, if anything was, is not done: the service ends.
+fn give_up<R: Wait>(rt: &R, engine: &Engine, due: Result<Option<AfterClose>, NotStarted>) {
+    match due {
+        Err(NotStarted) | Ok(None) => {}
+        Ok(Some(due)) => due.give_up(rt, engine),
     }
 }
 
@@ -168,7 +188,6 @@ type ServedDesk<'h, 'l, 't, D, R, T> = AfterDesk<
 >;
 
 // What a closed desk left, and the workers that were there.
-#[derive(Drop)]
 struct Attended<'h, 'l, 't, R: Wait + Eprint, T: Clock> {
     served: Served,
     workers: Vec<ServiceWorker<'h, 'l, 't, R, T>>,
@@ -197,7 +216,7 @@ fn serve_history<
     requires workers { length workers.items ≡ hall.now.workers }
     ensures served { IfOk result (λ left. (history : List Entry) × IsServed hall.now.journal rules.now (table_of opening.unnamed)
         (new_passes (length workers.entry.items)) workers.entry.items left.workers.items history left.served.table) }
-    ensures due { IfOk result (λ left. IfSome left.served.due (IsDueBy hall.now.options.now)) }
+    ensures due { IfOk result (λ left. IfSome left.served.due (IsDueBy hall.now.options.now rules.now.text.items)) }
     ensures workers { IfOk result (λ left. length left.workers.items ≡ hall.now.workers) }
     ensures fault { IfErr result IsLate }
 {
@@ -229,13 +248,16 @@ fn serve_desk<
     requires workers { length workers.items ≡ hall.now.workers }
     ensures served { IfOk result (λ left. (history : List Entry) × IsServed hall.now.journal rules.now (opening_table D.root)
         opened.passes.items workers.entry.items left.workers.items history left.served.table) }
-    ensures due { IfOk result (λ left. IfSome left.served.due (IsDueBy hall.now.options.now)) }
+    ensures due { IfOk result (λ left. IfSome left.served.due (IsDueBy hall.now.options.now rules.now.text.items)) }
     ensures workers { IfOk result (λ left. length left.workers.items ≡ hall.now.workers) }
     ensures fault { IfErr result IsLate }
 {
     let (AfterDesk { closed, workers }, done) = serve_shift(rt, time, hall, rules, workers, opened);
     match closed {
-        Err(refused) => Err(abandon_refused(rt, refused)),
+        Err(refused) => {
+            give_up(rt, &hall.engine, done);
+            Err(abandon_refused(rt, refused))
+        }
         Ok(closed) => {
             let served = after_close(rt, hall, left_by(closed), done, reported)?;
             Ok(Attended { served, workers })
@@ -264,7 +286,10 @@ fn after_close<'a, 'l, R: Wait + Print + Eprint + AllocGlobal>(
         &mut reported.expired,
     );
     let last = over || served.is_err();
-    tell_tally(rt, hall.log, tally, last, &mut reported.is_lost)?;
+    if let Err(fault) = tell_tally(rt, hall.log, tally, last, &mut reported.is_lost) {
+        give_up(rt, &hall.engine, served);
+        return Err(fault);
+    }
     match served {
         Err(NotStarted) => Err(ServeFault::Memory),
         Ok(due) => Ok(Served {
@@ -300,7 +325,7 @@ fn serve_shift<
     ensures served { IfOk result.0.closed (λ c. IsServed hall.now.journal rules.now (opening_table D.root)
         opened.passes.items workers.entry.items result.0.workers.items c.history.items c.table) }
     ensures refused { IfErr result.0.closed (λ r. IsMismatch (opening_state D.root) D.workers r.passes.items) }
-    ensures due { IfOk result.1 (λ due. IfSome due (IsDueBy hall.now.options.now)) }
+    ensures due { IfOk result.1 (λ due. IfSome due (IsDueBy hall.now.options.now rules.now.text.items)) }
 {
     let Opened { desk, passes } = opened;
     let crew = EngineCrew {

@@ -7,6 +7,7 @@ mod compacting;
 mod context;
 mod histories;
 mod journals;
+pub mod laws;
 mod openings;
 mod orders;
 mod reloading;

@@ -2,11 +2,12 @@
 ghost use Rattle.chpw_desks.specs.Orders.{BeginsCompaction, BeginsReload, IsCarriedOut, RefusesAtOnce, ReopensLog, TellsExposed};
 
 use crate::context::ServiceContext;
-use chpw_control::{Command, FileName};
+use chpw_control::{Command, FileName, TakenOrder};
 use chpw_orders::{
-    AfterClose, answer_or_empty, begin_compaction, compact_refusal, exposed_refusal,
-    prepare_refusal, read_anew, refusal, reopen_answer,
+    Compaction, PendingReload, answer_or_empty, begin_compaction, compact_refusal,
+    exposed_refusal, prepare_refusal, read_anew, refusal, reopen_answer,
 };
+use chpw_reactor::Engine;
 use chpw_serve::Clock as _;
 use chpw_start::{Exposure, exposure_at};
 use chpw_workers::{BackgroundTask, MachineClock};
@@ -15,6 +16,24 @@ use std::fs::{File, Files};
 use std::net::Net;
 use std::sync::Wait;
 use std::time::Clock;
+
+/// What is due once a desk is closed, and the order that is answered then. It can't be dropped, since an order can't.
+pub(crate) enum AfterClose {
+    /// The next desk opens with the reloaded configuration.
+    Reload(TakenOrder, PendingReload),
+    /// It goes on with a compact journal.
+    Compact(TakenOrder, Compaction),
+}
+
+impl AfterClose {
+    /// It is not done. The order's caller gets an empty answer, which means failure.
+    pub fn give_up<R: Wait>(self, rt: &R, engine: &Engine) {
+        match self {
+            AfterClose::Reload(order, _) => engine.give_up_order(rt, order),
+            AfterClose::Compact(order, _) => engine.give_up_order(rt, order),
+        }
+    }
+}
 
 /// Carries out the orders of callers at the control socket, while the workers of a desk answer messages.
 #[derive(Drop)]
@@ -31,22 +50,26 @@ impl<R: Files<File = File> + Net + Wait + Clock + Eprint + AllocGlobal, T: Clock
     ghost use Rattle.std.specs.Prelude.{IfSome};
     ghost use Rattle.chpw_desks.specs.Orders.{IsDueBy};
 
-    ghost gives = { λ orders due. IfSome due (IsDueBy orders.hall.now.options.now) };
+    ghost gives = { λ orders due. IfSome due (IsDueBy orders.hall.now.options.now orders.in_force.now) };
 
     /// What is due once the desk is closed.
     type Done = Option<AfterClose>;
 
     /// Carries out one order after the other, until the workers are to take no more messages. If something is due after
     /// the desk, that is at once; the thread that opens the next desk then answers the caller.
-    #[tactic(auto, using(crate::proofs::OrderLemmas::due_by))]
     fn run(self) -> Option<AfterClose> {
         let engine = &self.hall.engine;
         for _ in self.rt.forever() {
-            match self.carry_out(engine.next_order(self.rt)?) {
-                Carried::Answered(answer) => engine.answer_order(self.rt, answer),
-                Carried::AfterClose(due) => {
+            let order = engine.next_order(self.rt)?;
+            match self.carry_out(order.command()) {
+                Carried::Answered(answer) => engine.answer_order(self.rt, order, answer),
+                Carried::Reload(anew) => {
                     engine.stop(self.rt);
-                    return Some(due);
+                    return Some(AfterClose::Reload(order, anew));
+                }
+                Carried::Compact(compaction) => {
+                    engine.stop(self.rt);
+                    return Some(AfterClose::Compact(order, compaction));
                 }
             }
         }
@@ -59,8 +82,10 @@ impl<R: Files<File = File> + Net + Wait + Clock + Eprint + AllocGlobal, T: Clock
 enum Carried {
     // It was carried out, or refused: the answer.
     Answered(Vec<u8>),
-    // The rest of it is due once the desk is closed.
-    AfterClose(AfterClose),
+    // The rest of it is due once the desk is closed: the next one opens with the reloaded configuration.
+    Reload(PendingReload),
+    // It is due then: the next desk goes on with a compact journal.
+    Compact(Compaction),
 }
 
 impl<R: Files<File = File> + Net + Wait + Clock + Eprint + AllocGlobal, T: Clock> Orders<
@@ -69,8 +94,8 @@ impl<R: Files<File = File> + Net + Wait + Clock + Eprint + AllocGlobal, T: Clock
     R,
     T,
 > {
-    fn carry_out(&self, command: Command) -> Carried
-        ensures carried { IsCarriedOut self.now.hall.now.options.now self.now.in_force.now command result }
+    fn carry_out(&self, command: &Command) -> Carried
+        ensures carried { IsCarriedOut self.now.hall.now.options.now self.now.in_force.now command.now result }
     {
         match command {
             Command::Reload => self.begin_reload(),
@@ -88,7 +113,7 @@ impl<R: Files<File = File> + Net + Wait + Clock + Eprint + AllocGlobal, T: Clock
             return exposed_answer(self.rt.alloc(), options.config, why);
         }
         match read_anew(self.rt, options) {
-            Ok(anew) => Carried::AfterClose(AfterClose::Reload(anew)),
+            Ok(anew) => Carried::Reload(anew),
             Err(fault) => {
                 let answer = prepare_refusal(self.rt.alloc(), &fault);
                 Carried::Answered(answer_or_empty(self.rt.alloc(), answer))
@@ -110,11 +135,11 @@ impl<R: Files<File = File> + Net + Wait + Clock + Eprint + AllocGlobal, T: Clock
         Carried::Answered(answer_or_empty(self.rt.alloc(), answer))
     }
 
-    fn begin_compaction(&self, copy: FileName) -> Carried
-        ensures begins { BeginsCompaction self.now.hall.now.options.now self.now.in_force.now copy result }
+    fn begin_compaction(&self, copy: &FileName) -> Carried
+        ensures begins { BeginsCompaction self.now.hall.now.options.now self.now.in_force.now copy.now result }
     {
         match begin_compaction(self.rt, self.hall.options, self.in_force, copy) {
-            Ok(compaction) => Carried::AfterClose(AfterClose::Compact(compaction)),
+            Ok(compaction) => Carried::Compact(compaction),
             Err(fault) => {
                 let answer = compact_refusal(self.rt.alloc(), &fault);
                 Carried::Answered(answer_or_empty(self.rt.alloc(), answer))

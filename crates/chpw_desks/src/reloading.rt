@@ -1,6 +1,8 @@
 //! Opening a desk after a reload.
 ghost use Rattle.std.specs.Prelude.{◌≡◌, ◌≤◌, ◌<◌, ◌-◌, ◌^◌, ℕ, List, Option, IfOk, IfErr, false};
+ghost use Rattle.chpw_reload.specs.Reasons.{fault_text};
 ghost use Rattle.chpw_reload.specs.Reloading.{IsReloaded};
+ghost use Rattle.chpw_orders.specs.Answers.{refused_lines, reloaded_lines, Tells};
 ghost use Rattle.chpw_desks.specs.Following.{TakesRules};
 ghost use Rattle.chpw_book.specs.Starting.{table_of, workers_of};
 ghost use Rattle.chpw_reload.specs.ReloadRuns.{GoesOn};
@@ -9,10 +11,11 @@ ghost use Rattle.chpw_start.specs.declared.fault.ServeFault.TheVariants.{Memory}
 use crate::context::ServiceContext;
 use crate::openings::{Opening, next_opening};
 use chpw_book::UnnamedDesk;
+use chpw_control::TakenOrder;
 use chpw_journal::FileSink;
 use chpw_logging::Notice;
 use chpw_orders::{CheckedReload, PendingReload, answer_or_empty, reload_answer, reload_refusal};
-use chpw_reload::{Refused, Reloaded, finish};
+use chpw_reload::{Refused, ReloadFault, Reloaded, finish};
 use chpw_rules::Name;
 use chpw_serve::Clock as _;
 use chpw_start::{Rules, ServeFault};
@@ -25,13 +28,14 @@ use std::time::Clock;
 
 /// What the next desk opens with when the configuration was reloaded: what the closed table becomes with it and the
 /// rest of the journal, by the new rules; or the closed table, by the present rules, if the reload is refused. The
-/// caller at the control socket is answered.
+/// order is answered.
 #[tactic(auto, using(crate::proofs::ServiceRunLemmas::takes_new))]
 pub(crate) fn reload<'a, 'l, R: Wait + Clock + Eprint + AllocGlobal, T: Clock>(
     rt: &R,
     time: &T,
     hall: &ServiceContext<'l, R>,
     rules: &mut Rules,
+    order: TakenOrder,
     anew: PendingReload,
     table: Table,
     sink: FileSink<File>,
@@ -52,6 +56,8 @@ pub(crate) fn reload<'a, 'l, R: Wait + Clock + Eprint + AllocGlobal, T: Clock>(
         Ok(Reloaded { table, lacked }) => {
             *rules = next_rules;
             tell_reloaded(rt, time, hall, &table, &lacked);
+            let answer = reloaded_answer(rt.alloc(), &lacked);
+            hall.engine.answer_order(rt, order, answer);
             Ok(Opening {
                 unnamed: UnnamedDesk::of(table, hall.workers),
                 sink,
@@ -60,9 +66,8 @@ pub(crate) fn reload<'a, 'l, R: Wait + Clock + Eprint + AllocGlobal, T: Clock>(
         Err(Refused { fault, closed }) => {
             hall.log
                 .tell_rollover(MachineClock::new(time).now(), &closed);
-            let answer = reload_refusal(rt.alloc(), &fault);
-            hall.engine
-                .answer_order(rt, answer_or_empty(rt.alloc(), answer));
+            let answer = refused_answer(rt.alloc(), &fault);
+            hall.engine.answer_order(rt, order, answer);
             next_opening(closed, sink, hall.workers)
         }
     }
@@ -83,9 +88,22 @@ fn made_anew(
     finish(alloc, renewed.into_renewal(), rest, closed)
 }
 
-// Reports the reload: in the log, to the caller at the control socket, and on standard error if the configuration lacks
-// principals.
-fn tell_reloaded<'l, R: Wait + Eprint + AllocGlobal, T: Clock>(
+// The answer to the order when it is reloaded, by which these principals were lacked.
+fn reloaded_answer(alloc: Global, lacked: &[Name]) -> Vec<u8>
+    ensures tells { Tells (reloaded_lines lacked.now) result.items }
+{
+    answer_or_empty(alloc, reload_answer(alloc, lacked))
+}
+
+// The answer to the order when the reload is refused.
+fn refused_answer(alloc: Global, fault: &ReloadFault) -> Vec<u8>
+    ensures tells { Tells (refused_lines (fault_text fault.now)) result.items }
+{
+    answer_or_empty(alloc, reload_refusal(alloc, fault))
+}
+
+// Reports the reload in the log, and on standard error if the configuration lacks principals.
+fn tell_reloaded<'l, R: Wait + Eprint, T: Clock>(
     rt: &R,
     time: &T,
     hall: &ServiceContext<'l, R>,
@@ -97,7 +115,4 @@ fn tell_reloaded<'l, R: Wait + Eprint + AllocGlobal, T: Clock>(
     if !lacked.is_empty() {
         hall.log.tell(Notice::Lacked(lacked.len() as u64));
     }
-    let answer = reload_answer(rt.alloc(), lacked);
-    hall.engine
-        .answer_order(rt, answer_or_empty(rt.alloc(), answer));
 }

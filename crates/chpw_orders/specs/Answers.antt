@@ -1,6 +1,6 @@
 -- Answers to orders at the control socket: their lines.
-use Rattle.std.specs.Prelude.{ℕ, List, [], ◌∷◌, ◌++◌, map, codes, string_bytes, Result, Ok, Err}
-use Rattle.chpw_control.specs.Answers.{ok_line, error_line}
+use Rattle.std.specs.Prelude.{◌≡◌, ◌⊎◌, ℕ, List, [], ◌∷◌, ◌++◌, map, codes, string_bytes, Result, Ok, Err}
+use Rattle.chpw_control.specs.Answers.{lines_text, ok_line, error_line}
 use Rattle.chpw_printing.specs.Quoting.{name_text}
 use Rattle.chpw_reload.specs.Reasons.{fault_text}
 use Rattle.chpw_rules.specs.declared.name.Name.{Name}
@@ -13,6 +13,10 @@ use Rattle.chpw_orders.specs.declared.replacing.NotReplaced.TheVariants.{Failed,
 use Rattle.chpw_orders.specs.declared.rereading.PrepareFault.{PrepareFault}
 use Rattle.chpw_start.specs.declared.ownership.Exposure.{Exposure}
 use Rattle.chpw_orders.specs.declared.rereading.PrepareFault.TheVariants as reload
+
+-- these lines, or nothing, which means failure: memory for them was refused
+abbrev pub Tells : List (List ℕ) → List ℕ → Type 0
+Tells lines text = (text ≡ []) ⊎ (text ≡ lines_text lines)
 
 -- an order that was carried out, and one that was refused for this reason
 abbrev pub done_lines : List (List ℕ)

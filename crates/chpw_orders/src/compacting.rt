@@ -40,11 +40,11 @@ pub fn begin_compaction<'a, R: Files<File = File> + AllocGlobal>(
     rt: &R,
     options: &ServeOptions<'a>,
     in_force: &[u8],
-    copy: FileName,
+    copy: &FileName,
 ) -> Result<Compaction, CompactFault<'a>>
     ensures base { IfOk result (λ compaction. IsBase in_force.now compaction.base) }
-    ensures copy { IfOk result (λ compaction. compaction.copy ≡ copy) }
-    ensures fault { IfErr result (IsNotBegun options.now in_force.now copy) }
+    ensures copy { IfOk result (λ compaction. compaction.copy ≡ copy.now) }
+    ensures fault { IfErr result (IsNotBegun options.now in_force.now copy.now) }
 {
     let present = match configuration_text(rt, options.config) {
         Ok(present) => present,
@@ -60,9 +60,12 @@ pub fn begin_compaction<'a, R: Files<File = File> + AllocGlobal>(
     if remove_unfinished(rt, rt.alloc(), options.journal).is_err() {
         return Err(CompactFault::Unread(ServeFault::Memory));
     }
-    match write_new(rt, copy.as_str(), &text) {
-        Ok(_) => Ok(Compaction { base, copy }),
-        Err(_) => Err(CompactFault::NoCopy(copy)),
+    let Ok(name) = FileName::of(rt.alloc(), copy.as_str()) else {
+        return Err(CompactFault::Unread(ServeFault::Memory));
+    };
+    match write_new(rt, name.as_str(), &text) {
+        Ok(_) => Ok(Compaction { base, copy: name }),
+        Err(_) => Err(CompactFault::NoCopy(name)),
     }
 }
 

@@ -2,14 +2,12 @@
 //! compact journal.
 #![tactic(auto)]
 
-mod after_close;
 mod answers;
 mod checked_reload;
 mod compacting;
 mod replacing;
 mod rereading;
 
-pub use after_close::AfterClose;
 pub use answers::{
     answer_or_empty, compact_answer, compact_refusal, exposed_refusal, prepare_refusal, refusal,
     reload_answer, reload_refusal, reopen_answer,

@@ -2,13 +2,14 @@
 ghost use Rattle.std.specs.Prelude.{◌≡◌, ◌<◌, ◌-◌, ◌/◌, ◌^◌, min, vec_len, IfOk, IfErr, IfSome, Some, None, true};
 ghost use Rattle.std.specs.Duration.{as_nanos};
 ghost use Rattle.chpw_control.specs.Seats.{is_order};
+ghost use Rattle.chpw_control.specs.TakenOrders.{command_in};
 ghost use Rattle.chpw_reactor.specs.Engines.{workers_at};
 ghost use Rattle.chpw_reactor.specs.Pools.{Ends};
 ghost use Rattle.chpw_sockets.specs.Faults.{IsUnmade};
 
 use crate::outcome::{Pool, outcome_of};
 use chpw_connections::{ConnectionLimits, TakenMessage, Turn};
-use chpw_control::Command;
+use chpw_control::TakenOrder;
 use chpw_sockets::{DatagramSocket, Hub, PoolFault, Selector};
 use chpw_transfers::{AcceptLimit, Control};
 use mio::Waker;
@@ -175,10 +176,10 @@ impl Engine {
         self.ordered.notify_one();
     }
 
-    /// The next order at the control socket, as soon as there is one and the one before it was answered. It is to be
-    /// answered by `answer_order`. None if no more will be carried out, or none for now.
-    pub fn next_order<R: Wait>(&self, rt: &R) -> Option<Command>
-        ensures order { IfSome result (λ command. is_order command ≡ true) }
+    /// The next order at the control socket, as soon as there is one and the one before it was answered. It is used up by
+    /// `answer_order` or `give_up_order`. None if no more will be carried out, or none for now.
+    pub fn next_order<R: Wait>(&self, rt: &R) -> Option<TakenOrder>
+        ensures order { IfSome result (λ order. is_order (command_in order) ≡ true) }
     {
         for _ in rt.forever() {
             let mut control = self
@@ -187,8 +188,8 @@ impl Engine {
             if control.is_paused {
                 return None;
             }
-            if let Some(command) = control.next_order() {
-                return Some(command);
+            if let Some(order) = control.next_order() {
+                return Some(order);
             }
             if control.is_over {
                 return None;
@@ -197,11 +198,16 @@ impl Engine {
         None
     }
 
-    /// The answer to the order that is being carried out.
-    pub fn answer_order<R: Wait>(&self, rt: &R, answer: Vec<u8>) {
-        self.control.lock(rt).callers.answer_order(answer);
+    /// The answer to an order, for the caller who gave it.
+    pub fn answer_order<R: Wait>(&self, rt: &R, order: TakenOrder, answer: Vec<u8>) {
+        self.control.lock(rt).callers.answer_order(order, answer);
         self.wake();
         self.call_for_order();
+    }
+
+    /// An order is carried out no further. Its caller gets an empty answer, which means failure.
+    pub fn give_up_order<R: Wait>(&self, rt: &R, order: TakenOrder) {
+        self.answer_order(rt, order, Vec::new(self.alloc));
     }
 
     /// Whether no reply waits for the follower, now or within this many milliseconds. No worker may answer meanwhile.

@@ -1,17 +1,18 @@
 //! The callers at the control socket, shared by the reactor and the thread that carries out orders.
-ghost use Rattle.std.specs.Prelude.{◌≡◌, ◌≢◌, ◌⊎◌, ◌&&◌, not, ℕ, [], IfOk, IfSome, OnSome, length, slice_get, true, false, None};
+ghost use Rattle.std.specs.Prelude.{◌≡◌, ◌≢◌, ◌⊎◌, ◌&&◌, not, ℕ, [], IfOk, IfSome, OnSome, length, slice_get, true, false, None, Some};
 ghost use Rattle.slab.specs.Slab.{Slab, get, slab_len, SameValues, Updates};
 ghost use Rattle.chpw_control.specs.Callers.{asking, told, wrote};
 ghost use Rattle.chpw_control.specs.Dialogs.{at_start};
 ghost use Rattle.chpw_control.specs.declared.callers.Seat.{Seat};
 ghost use Rattle.chpw_control.specs.Seats.{Happens, IsNew, seats_of, ordering_of, accepted_of, is_order, is_over_at, left_at};
+ghost use Rattle.chpw_control.specs.TakenOrders.{command_in, slot_of};
 ghost use Rattle.chpw_transfers.specs.Controlling.{Admits, ComesOfProbe, ComesOfRead, ComesOfWrite, HasNoOrder, HasOrder};
 ghost use Rattle.chpw_transfers.specs.Controlling.{IsDue, IsHeard, IsIdle, IsOpen, IsProbed, IsTold, LooksAt, ServesAt, TellsDone, TellsLast};
 ghost use Rattle.chpw_transfers.specs.Transfers.{IsWithin};
 
 use crate::tokens::token_after;
 use crate::transfer::Transfer;
-use chpw_control::{Callers, Command, put_ok};
+use chpw_control::{Callers, TakenOrder, put_ok};
 use mio::net::UnixStream;
 use mio::{Interest, Registry};
 use std::alloc::{AllocError, Global};
@@ -132,8 +133,9 @@ impl Control {
 
     /// The next order, unless one is being carried out: that of the caller who was accepted first, of those who haven't
     /// hung up. It is being carried out from now on.
-    pub fn next_order(&mut self) -> Option<Command>
-        ensures order { IfSome result (λ command. is_order command ≡ true) }
+    pub fn next_order(&mut self) -> Option<TakenOrder>
+        ensures order { IfSome result (λ order. is_order (command_in order) ≡ true) }
+        ensures ordering { IfSome result (λ order. ordering_of self.new.callers ≡ Some (slot_of order)) }
         ensures idle { OnSome result (ordering_of self.old.callers ≡ None) }
         ensures same { (self.new.is_stopping ≡ self.old.is_stopping) × (self.new.is_paused ≡ self.old.is_paused) × (self.new.is_over ≡ self.old.is_over) }
     {

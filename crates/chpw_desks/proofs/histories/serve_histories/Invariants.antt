@@ -18,5 +18,5 @@ abbrev pub invariant-loop : goal.invariant-loop
 invariant-loop g l =
     IsRun l.hall.journal l.hall.options.now (opening_table g.D.LogName.root) l.fn.first.passes.items l.fn.rules l.fn.workers.items
     (between l.served.table l.rules l.staff.items)
-    × IfSome l.served.due (IsDueBy l.hall.options.now)
+    × IfSome l.served.due (IsDueBy l.hall.options.now l.rules.text.items)
     × (length l.staff.items ≡ l.hall.workers)
