@@ -47,7 +47,7 @@ def functions_of(text):
                     closed = next((it for it in range(opened, len(lines)) if lines[it] == indent + "}"), opened)
                     found.append(Function(name, at, opened + 1, closed))
                     break
-                if opened > at and not lines[opened].startswith(indent + ")") and lines[opened] != indent + "where":
+                if opened > at and not lines[opened].startswith((f"{indent})", f"{indent}>")) and lines[opened] != f"{indent}where":
                     break
     return found
 

@@ -1,0 +1,8 @@
+//! Tests of the desk: what no clause says of workers that decide side by side.
+
+mod closing;
+mod desks;
+mod keys;
+mod raises;
+mod sides;
+mod versions;
