@@ -4,8 +4,8 @@ ghost use Rattle.chpw_desks.specs.Orders.{BeginsCompaction, BeginsReload, IsCarr
 use crate::context::ServiceContext;
 use chpw_control::{Command, FileName, TakenOrder};
 use chpw_orders::{
-    Compaction, PendingReload, answer_or_empty, begin_compaction, compact_refusal,
-    exposed_refusal, prepare_refusal, read_anew, refusal, reopen_answer,
+    Compaction, PendingReload, answer_or_empty, begin_compaction, compact_refusal, exposed_refusal,
+    prepare_refusal, read_anew, refusal, reopen_answer,
 };
 use chpw_reactor::Engine;
 use chpw_serve::Clock as _;

@@ -28,7 +28,8 @@ publish_as-writer-requires g c next is =
     let accepts = subst (λ (s : PublishedList). IfSome s.waiting (λ change. AreAccepted (opening_state r) (s.list ++ change ∷ [])))
     (sym c.self.view_is) c.requires.accepted in
     let made : AreAccepted (opening_state r) (list ++ named (opening_state r) c.in-Some.change ∷ []) =
-    subst (λ (o : Option NumberedChange). IfSome (option_map (named (opening_state r)) o) (λ change. AreAccepted (opening_state r) (list ++ change ∷ []))) c.in-Some.is accepts in
+    subst (λ (o : Option NumberedChange). IfSome (option_map (named (opening_state r)) o)
+    (λ change. AreAccepted (opening_state r) (list ++ change ∷ []))) c.in-Some.is accepts in
     let done : AreAccepted (opening_state r) (list ++ named (opening_state r) waits.0.change ∷ []) =
     subst (λ (n : NumberedChange). AreAccepted (opening_state r) (list ++ named (opening_state r) n ∷ [])) (sym waits.2) made in
     let after = rw waits.1 at is in
@@ -50,7 +51,8 @@ invariant_of-self g c =
     let accepts = subst (λ (s : PublishedList). IfSome s.waiting (λ change. AreAccepted (opening_state r) (s.list ++ change ∷ [])))
     (sym c.self.view_is) c.requires.accepted in
     let made : AreAccepted (opening_state r) (list ++ named (opening_state r) c.in-Some.change ∷ []) =
-    subst (λ (o : Option NumberedChange). IfSome (option_map (named (opening_state r)) o) (λ change. AreAccepted (opening_state r) (list ++ change ∷ []))) c.in-Some.is accepts in
+    subst (λ (o : Option NumberedChange). IfSome (option_map (named (opening_state r)) o)
+    (λ change. AreAccepted (opening_state r) (list ++ change ∷ []))) c.in-Some.is accepts in
     let done : AreAccepted (opening_state r) (list ++ named (opening_state r) waits.0.change ∷ []) =
     subst (λ (n : NumberedChange). AreAccepted (opening_state r) (list ++ named (opening_state r) n ∷ [])) (sym waits.2) made in
     let values = ok_case c.publish_as-writer.result.1 _ _ (c.publish_as-writer.ensures.succeeds tt) c.publish_as-writer.ensures.values in
