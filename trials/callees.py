@@ -1,7 +1,8 @@
 """Callees that a check takes by their contracts.
 
 A contract stands for its function in the proofs of all others. So a check that asks of some functions whether their own
-proofs fail needs no other's proof: a hole stands in its place. The crate's own check is what proves those.
+proofs fail needs no other's body and no other's proof: a loop without an end and a hole stand in their places. The crate's
+own check is what proves those.
 """
 import contextlib
 import os
@@ -22,7 +23,8 @@ pub {name}_spec : {{M : Type 1}} → statement M
 
 
 class Source(NamedTuple):
-    """A source of a crate: its module, its lines, and its functions."""
+    """A source of a crate: its file, its module, its lines, and its functions."""
+    file: str
     module: str
     lines: list
     functions: list
@@ -37,7 +39,7 @@ def sources_of(folder):
                 text = file.read()
             if not TEST.search(text):
                 module = together.module_of(os.path.relpath(f"{at}/{name}", folder))
-                found.append(Source(module, text.split("\n"), together.functions_of(text)))
+                found.append(Source(f"{at}/{name}", module, text.split("\n"), together.functions_of(text)))
     return found
 
 
@@ -71,10 +73,9 @@ def calls_itself(source, function):
     return any("#[cycle" in it for it in above) or any(re.search(call, it) for it in body)
 
 
-def places_of(folder):
-    """Where the proofs of a crate's functions stand, as a path below its root: those of functions by themselves and of
-    methods of a type alone, which are in no cycle of calls."""
-    sources = sources_of(folder)
+def places_of(sources):
+    """Where the proofs of functions stand, as a path below the crate's root: those of functions by themselves and of
+    methods of a type alone, which are in no cycle of calls. Each has its source."""
     modules = modules_of_types(sources)
     found = {}
     for source in sources:
@@ -83,20 +84,37 @@ def places_of(folder):
             module = modules.get(of_type) if of_type else source.module
             if module is not None and (not of_type or is_of_any(source, it)) and not calls_itself(source, it):
                 place = "::".join(part for part in (module, of_type, name) if part)
-                found[place] = None if place in found else (source.module, it.name)
+                found[place] = None if place in found else (source, it)
     return {place: function for place, function in found.items() if function}
 
 
+def leave_out(source, function):
+    """Leaves out a body, but for that of a function that constants may call. The lines keep their numbers."""
+    length = function.closed - function.opened
+    if length and "const fn " not in source.lines[function.head]:
+        indent = " " * (len(source.lines[function.closed]) + 3)
+        source.lines[function.opened : function.closed] = [f"{indent}loop {{}}", *[""] * (length - 1)]
+
+
+def leave_proof_out(folder, crate, place):
+    """Puts a proof with a hole into the place of a function's."""
+    room = f"{folder}/proofs/{place.replace('::', '/')}"
+    os.makedirs(room, exist_ok=True)
+    for name in ("Invariants", "Answers"):
+        with contextlib.suppress(FileNotFoundError):
+            os.remove(f"{room}/{name}.antt")
+    module = f"Rattle.{crate}.proofs.{place.replace('::', '.')}"
+    with open(f"{room}/Proof.antt", "w", encoding="utf-8") as file:
+        file.write(PROOF.format(module=module, name=place.rsplit("::")[-1]))
+
+
 def take_by_contract(folder, crate, functions):
-    """Puts a proof with a hole into the place of the proof of each other function than these, in a copy of a crate."""
-    for place, function in places_of(folder).items():
-        if function in functions:
-            continue
-        room = f"{folder}/proofs/{place.replace('::', '/')}"
-        os.makedirs(room, exist_ok=True)
-        for name in ("Invariants", "Answers"):
-            with contextlib.suppress(FileNotFoundError):
-                os.remove(f"{room}/{name}.antt")
-        module = f"Rattle.{crate}.proofs.{place.replace('::', '.')}"
-        with open(f"{room}/Proof.antt", "w", encoding="utf-8") as file:
-            file.write(PROOF.format(module=module, name=place.rsplit("::")[-1]))
+    """Leaves out body and proof of each other function than these, in a copy of a crate."""
+    sources = sources_of(folder)
+    for place, (source, function) in places_of(sources).items():
+        if (source.module, function.name) not in functions:
+            leave_out(source, function)
+            leave_proof_out(folder, crate, place)
+    for source in sources:
+        with open(source.file, "w", encoding="utf-8") as file:
+            file.write("\n".join(source.lines))

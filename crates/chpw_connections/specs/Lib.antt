@@ -3,5 +3,6 @@ pub mod Expiry
 pub mod Held
 pub mod Noting
 pub mod Queues
+pub mod Rest
 pub mod Room
 pub mod Turns

@@ -6,7 +6,8 @@ ghost use Rattle.chpw_connection.specs.Stages.{released};
 ghost use Rattle.chpw_connections.specs.Queues.{queues_of};
 ghost use Rattle.chpw_connection.specs.Confirming.{is_confirmed_in, Confirms, overdue_in};
 ghost use Rattle.chpw_connections.specs.Confirming.{ReleasesOverdue, NoneIsOverdue};
-ghost use Rattle.chpw_connections.specs.Held.{slots_of, accepted_by, removed_by, expired_by, bounds_of, Counts};
+ghost use Rattle.chpw_connections.specs.Held.{slots_of};
+ghost use Rattle.chpw_connections.specs.Rest.{Rest};
 ghost use Rattle.chpw_connections.specs.Noting.{noted_by, NotesEach, IsFirstOverdue, slot_if, slots_where};
 
 use crate::set::Connections;
@@ -25,10 +26,8 @@ impl Connections {
     /// are noted. The other connections stay unchanged.
     pub fn confirm(&mut self, mark: u64, now: u64)
         ensures confirmed { (slot : ℕ) → Confirms mark now (get (slots_of self.old) slot) (get (slots_of self.new) slot) }
-        ensures counts { Counts self.new (accepted_by self.old) (removed_by self.old) }
-        ensures expired { expired_by self.new ≡ expired_by self.old }
+        ensures rest { Rest self.old self.new }
         ensures held { held_in (slots_of self.new) ≤ held_in (slots_of self.old) }
-        ensures bounds { bounds_of self.new ≡ bounds_of self.old }
         ensures notes { NotesEach (noted_by self.old) (noted_by self.new) (slots_where (is_confirmed_in mark) (slots_of self.old)) }
         ensures queues { queues_of self.new ≡ queues_of self.old }
     {
@@ -41,10 +40,8 @@ impl Connections {
     fn confirm_slot(&mut self, slot: usize, mark: u64, now: u64)
         ensures confirmed { Confirms mark now (get (slots_of self.old) slot) (get (slots_of self.new) slot) }
         ensures others { (other : ℕ) → other ≢ slot → get (slots_of self.new) other ≡ get (slots_of self.old) other }
-        ensures counts { Counts self.new (accepted_by self.old) (removed_by self.old) }
-        ensures expired { expired_by self.new ≡ expired_by self.old }
+        ensures rest { Rest self.old self.new }
         ensures held { held_in (slots_of self.new) ≤ held_in (slots_of self.old) }
-        ensures bounds { bounds_of self.new ≡ bounds_of self.old }
         ensures notes { NotesEach (noted_by self.old) (noted_by self.new) (slot_if (is_confirmed_in mark (get (slots_of self.old) slot)) slot) }
         ensures queues { queues_of self.new ≡ queues_of self.old }
     {
@@ -60,10 +57,8 @@ impl Connections {
         ensures some { IfSome result (λ u. ReleasesOverdue wait now (slots_of self.old) (slots_of self.new) u.peer u.mark) }
         ensures none { IfNone result (NoneIsOverdue wait now (slots_of self.old)) }
         ensures unchanged { IfNone result (self.new ≡ self.old) }
-        ensures counts { Counts self.new (accepted_by self.old) (removed_by self.old) }
-        ensures expired { expired_by self.new ≡ expired_by self.old }
+        ensures rest { Rest self.old self.new }
         ensures held { held_in (slots_of self.new) ≤ held_in (slots_of self.old) }
-        ensures bounds { bounds_of self.new ≡ bounds_of self.old }
         ensures notes { IfSome result (λ u. (slot : ℕ) × IsFirstOverdue wait now (slots_of self.old) u.mark slot
             × NotesEach (noted_by self.old) (noted_by self.new) (slot ∷ [])) }
         ensures queues { queues_of self.new ≡ queues_of self.old }
@@ -109,10 +104,8 @@ impl Connections {
     #[tactic(auto, using(chpw_slots::proofs::HoldsLemmas::holds_quiet))]
     fn release(&mut self, slot: usize, now: u64)
         ensures happens { Happens now (slots_of self.old) (slots_of self.new) slot released }
-        ensures counts { Counts self.new (accepted_by self.old) (removed_by self.old) }
-        ensures expired { expired_by self.new ≡ expired_by self.old }
+        ensures rest { Rest self.old self.new }
         ensures held { held_in (slots_of self.new) ≤ held_in (slots_of self.old) }
-        ensures bounds { bounds_of self.new ≡ bounds_of self.old }
         ensures notes { NotesEach (noted_by self.old) (noted_by self.new) (slot ∷ []) }
         ensures queues { queues_of self.new ≡ queues_of self.old }
     {

@@ -11,6 +11,7 @@ ghost use Rattle.chpw_connections.specs.Expiry.{one_more, dropped_in, and_more};
 ghost use Rattle.chpw_connections.specs.Queues.{queues_of, queue_of, workers_of};
 ghost use Rattle.chpw_slots.specs.Waiting.{in_time, Leaves};
 ghost use Rattle.chpw_connections.specs.Held.{slots_of, accepted_by, removed_by, expired_by, bounds_of, changed_of, Counts};
+ghost use Rattle.chpw_connections.specs.Rest.{Rest};
 ghost use Rattle.chpw_connections.specs.Noting.{noted_by, room_to_note, NotesEach, slot_if, slots_where};
 ghost use Rattle.chpw_connection.specs.Slot.{is_gone_in, ends_closed_in};
 
@@ -121,10 +122,8 @@ impl Connections {
     #[tactic(auto, using(chpw_slots::proofs::HoldsLemmas::holds_quiet))]
     pub fn input_ended(&mut self, slot: usize)
         ensures happens { Happens 0 (slots_of self.old) (slots_of self.new) slot closed }
-        ensures counts { Counts self.new (accepted_by self.old) (removed_by self.old) }
-        ensures expired { expired_by self.new ≡ expired_by self.old }
+        ensures rest { Rest self.old self.new }
         ensures held { held_in (slots_of self.new) ≤ held_in (slots_of self.old) }
-        ensures bounds { bounds_of self.new ≡ bounds_of self.old }
         ensures notes { NotesEach (noted_by self.old) (noted_by self.new) (slot_if (ends_closed_in (get (slots_of self.old) slot)) slot) }
         ensures queues { queues_of self.new ≡ queues_of self.old }
     {
@@ -136,10 +135,8 @@ impl Connections {
     /// The connection can't go on. A message that waits is dropped with it.
     pub fn fail(&mut self, slot: usize)
         ensures happens { Happens 0 (slots_of self.old) (slots_of self.new) slot failed }
-        ensures counts { Counts self.new (accepted_by self.old) (removed_by self.old) }
-        ensures expired { expired_by self.new ≡ expired_by self.old }
+        ensures rest { Rest self.old self.new }
         ensures held { held_in (slots_of self.new) ≤ held_in (slots_of self.old) }
-        ensures bounds { bounds_of self.new ≡ bounds_of self.old }
         ensures notes { NotesEach (noted_by self.old) (noted_by self.new) (slot_if (not (is_gone_in (get (slots_of self.old) slot))) slot) }
         ensures leaves { Leaves (queues_of self.old) (queues_of self.new) slot }
         ensures same { queued_at (get (slots_of self.old) slot) ≡ None → queues_of self.new ≡ queues_of self.old }
@@ -162,10 +159,8 @@ impl Connections {
     #[tactic(auto, using(chpw_slots::proofs::HoldsLemmas::holds_quiet))]
     pub fn wrote(&mut self, slot: usize, count: usize, now: u64)
         ensures happens { Happens now (slots_of self.old) (slots_of self.new) slot (wrote count) }
-        ensures counts { Counts self.new (accepted_by self.old) (removed_by self.old) }
-        ensures expired { expired_by self.new ≡ expired_by self.old }
+        ensures rest { Rest self.old self.new }
         ensures held { held_in (slots_of self.new) ≤ held_in (slots_of self.old) }
-        ensures bounds { bounds_of self.new ≡ bounds_of self.old }
         ensures notes { noted_by self.new ≡ noted_by self.old }
         ensures queues { queues_of self.new ≡ queues_of self.old }
     {

@@ -1,6 +1,7 @@
 //! Which slots wait for a worker, and which are noted for the caller.
 ghost use Rattle.std.specs.Prelude.{◌≡◌, ◌∷◌, [], nat_lt, length, IfSome, IfNone};
-ghost use Rattle.chpw_connections.specs.Held.{slots_of, accepted_by, removed_by, expired_by, bounds_of, changed_of, Counts, Notes};
+ghost use Rattle.chpw_connections.specs.Held.{slots_of, changed_of, Notes};
+ghost use Rattle.chpw_connections.specs.Rest.{Rest};
 ghost use Rattle.chpw_connections.specs.Queues.{queues_of, queue_of, EachWaits};
 ghost use Rattle.chpw_connections.specs.Noting.{noted_by, room_to_note, NotesEach, slot_if};
 
@@ -21,9 +22,7 @@ impl Connections {
         ensures noted { NotesEach (noted_by self.old) (noted_by self.new) (slot ∷ []) }
         ensures slots { slots_of self.new ≡ slots_of self.old }
         ensures queues { queues_of self.new ≡ queues_of self.old }
-        ensures counts { Counts self.new (accepted_by self.old) (removed_by self.old) }
-        ensures expired { expired_by self.new ≡ expired_by self.old }
-        ensures bounds { bounds_of self.new ≡ bounds_of self.old }
+        ensures rest { Rest self.old self.new }
     {
         let _ = self.changed.push_back(slot);
     }
@@ -33,9 +32,7 @@ impl Connections {
         ensures notes { NotesEach (noted_by self.old) (noted_by self.new) (slot_if is_changed slot) }
         ensures slots { slots_of self.new ≡ slots_of self.old }
         ensures queues { queues_of self.new ≡ queues_of self.old }
-        ensures counts { Counts self.new (accepted_by self.old) (removed_by self.old) }
-        ensures expired { expired_by self.new ≡ expired_by self.old }
-        ensures bounds { bounds_of self.new ≡ bounds_of self.old }
+        ensures rest { Rest self.old self.new }
     {
         if is_changed {
             self.note(slot);
@@ -53,9 +50,7 @@ impl Connections {
         ensures room { room_to_note self.new ≡ room_to_note self.old }
         ensures slots { slots_of self.new ≡ slots_of self.old }
         ensures queues { queues_of self.new ≡ queues_of self.old }
-        ensures counts { Counts self.new (accepted_by self.old) (removed_by self.old) }
-        ensures expired { expired_by self.new ≡ expired_by self.old }
-        ensures bounds { bounds_of self.new ≡ bounds_of self.old }
+        ensures rest { Rest self.old self.new }
     {
         self.changed.pop_front()
     }
@@ -73,9 +68,7 @@ impl Connections {
         ensures noted { NotesEach (noted_by self.old) (noted_by self.new) (slot ∷ []) }
         ensures slots { slots_of self.new ≡ slots_of self.old }
         ensures queues { queues_of self.new ≡ queues_of self.old }
-        ensures counts { Counts self.new (accepted_by self.old) (removed_by self.old) }
-        ensures expired { expired_by self.new ≡ expired_by self.old }
-        ensures bounds { bounds_of self.new ≡ bounds_of self.old }
+        ensures rest { Rest self.old self.new }
     {
         self.note(slot);
     }

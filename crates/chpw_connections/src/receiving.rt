@@ -10,7 +10,8 @@ ghost use Rattle.chpw_connections.specs.Room.{HappensWithRoom, IsNeeded, read_wi
 ghost use Rattle.chpw_connections.specs.Room.{has_room_to_read as has_room_to_read_in};
 ghost use Rattle.chpw_connections.specs.Queues.{queues_of, queue_of, workers_of};
 ghost use Rattle.chpw_slots.specs.Waiting.{waits_for, Becomes, Leaves};
-ghost use Rattle.chpw_connections.specs.Held.{slots_of, accepted_by, removed_by, expired_by, bounds_of, Counts};
+ghost use Rattle.chpw_connections.specs.Held.{slots_of, bounds_of};
+ghost use Rattle.chpw_connections.specs.Rest.{Rest};
 ghost use Rattle.chpw_connections.specs.Noting.{noted_by, NotesEnds, slot_if};
 
 use crate::set::Connections;
@@ -49,11 +50,8 @@ impl Connections {
         ensures needed { IsNeeded (read_within (bounds_of self.old) (is_large_in (get (slots_of self.old) slot)))
             (growth_at (get (slots_of self.old) slot)) (for_message (bounds_of self.old) now (get (slots_of self.old) slot))
             (slots_of self.old) (slots_of self.new) slot }
-        ensures workers { workers_of self.new ≡ workers_of self.old }
-        ensures counts { Counts self.new (accepted_by self.old) (removed_by self.old) }
-        ensures expired { expired_by self.new ≡ expired_by self.old }
+        ensures rest { Rest self.old self.new }
         ensures held { held_in (slots_of self.new) ≤ held_in (slots_of self.old) + growth_at (get (slots_of self.old) slot) }
-        ensures bounds { bounds_of self.new ≡ bounds_of self.old }
         ensures notes { NotesEnds (for_message (bounds_of self.old) now (get (slots_of self.old) slot)) (slots_of self.old) (slots_of self.new) slot
             (noted_by self.old) (noted_by self.new)
             (slot_if (is_reading_in (get (slots_of self.old) slot) && is_ended_in (get (slots_of self.new) slot)) slot) }
@@ -91,11 +89,8 @@ impl Connections {
         ensures needed { IsNeeded (read_within (bounds_of self.old) (is_large_in (get (slots_of self.old) slot)))
             (growth_at (get (slots_of self.old) slot)) (for_message (bounds_of self.old) now (get (slots_of self.old) slot))
             (slots_of self.old) (slots_of self.new) slot }
-        ensures workers { workers_of self.new ≡ workers_of self.old }
-        ensures counts { Counts self.new (accepted_by self.old) (removed_by self.old) }
-        ensures expired { expired_by self.new ≡ expired_by self.old }
+        ensures rest { Rest self.old self.new }
         ensures held { held_in (slots_of self.new) ≤ held_in (slots_of self.old) + growth_at (get (slots_of self.old) slot) }
-        ensures bounds { bounds_of self.new ≡ bounds_of self.old }
         ensures notes { NotesEnds (for_message (bounds_of self.old) now (get (slots_of self.old) slot)) (slots_of self.old) (slots_of self.new) slot
             (noted_by self.old) (noted_by self.new)
             (slot_if (is_reading_in (get (slots_of self.old) slot) && is_ended_in (get (slots_of self.new) slot)) slot) }

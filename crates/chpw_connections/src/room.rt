@@ -9,7 +9,8 @@ ghost use Rattle.slab.specs.Slab.{get};
 ghost use Rattle.chpw_connections.specs.Room.{MakesRoom, IsNeeded, is_large_in, read_within, for_message, for_reply};
 ghost use Rattle.chpw_connections.specs.Room.{has_room_to_read as has_room_to_read_in};
 ghost use Rattle.chpw_connections.specs.Queues.{queues_of};
-ghost use Rattle.chpw_connections.specs.Held.{slots_of, accepted_by, removed_by, expired_by, bounds_of, Counts};
+ghost use Rattle.chpw_connections.specs.Held.{slots_of, bounds_of};
+ghost use Rattle.chpw_connections.specs.Rest.{Rest};
 ghost use Rattle.chpw_connections.specs.Noting.{noted_by, NotesEach, NotesEnds};
 
 use crate::set::Connections;
@@ -35,10 +36,8 @@ impl Connections {
         ensures nobody { IfNone result (NobodyWaits (slots_of self.old) × (slots_of self.new ≡ slots_of self.old)) }
         ensures noted { IfSome result (λ slot. NotesEach (noted_by self.old) (noted_by self.new) (slot ∷ [])) }
         ensures unnoted { IfNone result (noted_by self.new ≡ noted_by self.old) }
-        ensures counts { Counts self.new (accepted_by self.old) (removed_by self.old) }
-        ensures expired { expired_by self.new ≡ expired_by self.old }
+        ensures rest { Rest self.old self.new }
         ensures held { held_in (slots_of self.new) ≤ held_in (slots_of self.old) }
-        ensures bounds { bounds_of self.new ≡ bounds_of self.old }
         ensures queues { queues_of self.new ≡ queues_of self.old }
     {
         let slot = self.slots.longest_waiting()?;
@@ -95,10 +94,8 @@ impl Connections {
         ensures needed { IsNeeded (read_within (bounds_of self.old) (is_large_in (get (slots_of self.old) slot)))
             (growth_at (get (slots_of self.old) slot)) (for_message (bounds_of self.old) now (get (slots_of self.old) slot))
             (slots_of self.old) (slots_of self.new) slot }
-        ensures counts { Counts self.new (accepted_by self.old) (removed_by self.old) }
-        ensures expired { expired_by self.new ≡ expired_by self.old }
+        ensures rest { Rest self.old self.new }
         ensures held { held_in (slots_of self.new) ≤ held_in (slots_of self.old) }
-        ensures bounds { bounds_of self.new ≡ bounds_of self.old }
         ensures notes { NotesEnds (for_message (bounds_of self.old) now (get (slots_of self.old) slot)) (slots_of self.old) (slots_of self.new) slot
             (noted_by self.old) (noted_by self.new) [] }
         ensures queues { queues_of self.new ≡ queues_of self.old }
@@ -119,10 +116,8 @@ impl Connections {
             → (result ≡ is_answering_in (get (slots_of self.old) slot)) × (slots_of self.new ≡ slots_of self.old) }
         ensures none { result ≡ false → slots_of self.new ≡ slots_of self.old }
         ensures needed { IsNeeded (bounds_of self.old).bytes count (for_reply now) (slots_of self.old) (slots_of self.new) slot }
-        ensures counts { Counts self.new (accepted_by self.old) (removed_by self.old) }
-        ensures expired { expired_by self.new ≡ expired_by self.old }
+        ensures rest { Rest self.old self.new }
         ensures held { held_in (slots_of self.new) ≤ held_in (slots_of self.old) }
-        ensures bounds { bounds_of self.new ≡ bounds_of self.old }
         ensures notes { NotesEnds (for_reply now) (slots_of self.old) (slots_of self.new) slot (noted_by self.old) (noted_by self.new) [] }
         ensures queues { queues_of self.new ≡ queues_of self.old }
     {
@@ -161,10 +156,8 @@ impl Connections {
         ensures enough { held_in (slots_of self.old) + count ≤ most → (result ≡ true) × (slots_of self.new ≡ slots_of self.old) }
         ensures none { result ≡ false → slots_of self.new ≡ slots_of self.old }
         ensures needed { IsNeeded most count who (slots_of self.old) (slots_of self.new) slot }
-        ensures counts { Counts self.new (accepted_by self.old) (removed_by self.old) }
-        ensures expired { expired_by self.new ≡ expired_by self.old }
+        ensures rest { Rest self.old self.new }
         ensures held { held_in (slots_of self.new) ≤ held_in (slots_of self.old) }
-        ensures bounds { bounds_of self.new ≡ bounds_of self.old }
         ensures notes { NotesEnds who (slots_of self.old) (slots_of self.new) slot (noted_by self.old) (noted_by self.new) [] }
         ensures queues { queues_of self.new ≡ queues_of self.old }
     {
@@ -198,10 +191,8 @@ impl Connections {
         ensures makes_room { MakesRoom who (slots_of self.old) (slots_of self.new) slot }
         ensures room { held_in (slots_of self.new) + count ≤ most }
         ensures needed { IsNeeded most count who (slots_of self.old) (slots_of self.new) slot }
-        ensures counts { Counts self.new (accepted_by self.old) (removed_by self.old) }
-        ensures expired { expired_by self.new ≡ expired_by self.old }
+        ensures rest { Rest self.old self.new }
         ensures held { held_in (slots_of self.new) ≤ held_in (slots_of self.old) }
-        ensures bounds { bounds_of self.new ≡ bounds_of self.old }
         ensures notes { NotesEnds who (slots_of self.old) (slots_of self.new) slot (noted_by self.old) (noted_by self.new) [] }
         ensures queues { queues_of self.new ≡ queues_of self.old }
     {

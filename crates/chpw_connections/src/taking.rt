@@ -12,6 +12,7 @@ ghost use Rattle.chpw_slots.specs.Longest.{has_room_besides};
 ghost use Rattle.chpw_connections.specs.Queues.{queues_of, queue_of, workers_of, DropsLate};
 ghost use Rattle.chpw_slots.specs.Waiting.{Becomes};
 ghost use Rattle.chpw_connections.specs.Held.{slots_of, accepted_by, removed_by, expired_by, bounds_of, Counts};
+ghost use Rattle.chpw_connections.specs.Rest.{Rest};
 ghost use Rattle.chpw_connections.specs.Noting.{noted_by, NotesEach, NotesEnds, slot_if};
 ghost use Rattle.chpw_connections.specs.Turns.{slot_of, peer_of, message_of};
 
@@ -104,10 +105,8 @@ impl Connections {
         ensures happens { IfSome result (λ t. (slot_of t ≡ slot) × Happens 0 (slots_of self.old) (slots_of self.new) slot is_taken) }
         ensures peer { IfSome result (λ t. IfSome (get (slots_of self.old) slot) (λ c. peer_of t ≡ c.peer)) }
         ensures becomes { Becomes (queues_of self.old) (queues_of self.new) worker (drop 1 (queue_of self.old worker)) }
-        ensures counts { Counts self.new (accepted_by self.old) (removed_by self.old) }
-        ensures expired { expired_by self.new ≡ expired_by self.old }
+        ensures rest { Rest self.old self.new }
         ensures held { held_in (slots_of self.new) ≤ held_in (slots_of self.old) }
-        ensures bounds { bounds_of self.new ≡ bounds_of self.old }
         ensures notes { noted_by self.new ≡ noted_by self.old }
     {
         let peer = self.slots.peer(slot);
@@ -143,10 +142,8 @@ impl Connections {
             (slots_of self.old) (slots_of self.new) (slot_of taken) }
         ensures unwanted { is_answering_in (get (slots_of self.old) (slot_of taken)) ≡ false
             → Happens now (slots_of self.old) (slots_of self.new) (slot_of taken) unanswered }
-        ensures counts { Counts self.new (accepted_by self.old) (removed_by self.old) }
-        ensures expired { expired_by self.new ≡ expired_by self.old }
+        ensures rest { Rest self.old self.new }
         ensures held { held_in (slots_of self.new) ≤ held_in (slots_of self.old) + length reply.items }
-        ensures bounds { bounds_of self.new ≡ bounds_of self.old }
         ensures notes { NotesEnds (for_reply now) (slots_of self.old) (slots_of self.new) (slot_of taken) (noted_by self.old) (noted_by self.new)
             (slot_if (not (is_answering_in (get (slots_of self.old) (slot_of taken))
             && has_room_besides (bounds_of self.old).bytes (for_reply now) (slots_of self.old) (slot_of taken) (length reply.items))
@@ -187,10 +184,8 @@ impl Connections {
             (slots_of self.old) (slots_of self.new) (slot_of taken) }
         ensures unwanted { is_answering_in (get (slots_of self.old) (slot_of taken)) ≡ false
             → Happens now (slots_of self.old) (slots_of self.new) (slot_of taken) unanswered }
-        ensures counts { Counts self.new (accepted_by self.old) (removed_by self.old) }
-        ensures expired { expired_by self.new ≡ expired_by self.old }
+        ensures rest { Rest self.old self.new }
         ensures held { held_in (slots_of self.new) ≤ held_in (slots_of self.old) + length reply.items }
-        ensures bounds { bounds_of self.new ≡ bounds_of self.old }
         ensures notes { NotesEnds (for_reply now) (slots_of self.old) (slots_of self.new) (slot_of taken) (noted_by self.old) (noted_by self.new)
             (slot_if (not (is_answering_in (get (slots_of self.old) (slot_of taken))
             && has_room_besides (bounds_of self.old).bytes (for_reply now) (slots_of self.old) (slot_of taken) (length reply.items))
@@ -212,10 +207,8 @@ impl Connections {
     /// A worker has no reply to the message that it took. The connection ends.
     pub fn leave_unanswered(&mut self, taken: TakenMessage, now: u64)
         ensures happens { Happens now (slots_of self.old) (slots_of self.new) (slot_of taken) unanswered }
-        ensures counts { Counts self.new (accepted_by self.old) (removed_by self.old) }
-        ensures expired { expired_by self.new ≡ expired_by self.old }
+        ensures rest { Rest self.old self.new }
         ensures held { held_in (slots_of self.new) ≤ held_in (slots_of self.old) }
-        ensures bounds { bounds_of self.new ≡ bounds_of self.old }
         ensures notes { NotesEach (noted_by self.old) (noted_by self.new)
             (slot_if (is_with_worker_in (get (slots_of self.old) (slot_of taken))) (slot_of taken)) }
         ensures queues { queues_of self.new ≡ queues_of self.old }
@@ -232,10 +225,8 @@ impl Connections {
     #[tactic(auto, using(chpw_slots::proofs::HoldsLemmas::holds_quiet))]
     fn end_unanswered(&mut self, slot: usize, now: u64)
         ensures happens { Happens now (slots_of self.old) (slots_of self.new) slot unanswered }
-        ensures counts { Counts self.new (accepted_by self.old) (removed_by self.old) }
-        ensures expired { expired_by self.new ≡ expired_by self.old }
+        ensures rest { Rest self.old self.new }
         ensures held { held_in (slots_of self.new) ≤ held_in (slots_of self.old) }
-        ensures bounds { bounds_of self.new ≡ bounds_of self.old }
         ensures notes { NotesEach (noted_by self.old) (noted_by self.new) (slot_if (is_with_worker_in (get (slots_of self.old) slot)) slot) }
         ensures queues { queues_of self.new ≡ queues_of self.old }
     {

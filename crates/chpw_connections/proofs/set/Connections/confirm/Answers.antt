@@ -15,9 +15,7 @@ loop-slot-preserved c = record {
       (test_noted (is_confirmed_in c.args.mark) c.loop-slot.slot (slots_of c.args.self.now) (slots_of c.loop-slot.self) (noted_by c.loop-slot.self)
       (noted_by c.confirm_slot.new.self) (c.loop-slot.invariant.confirmed.above c.loop-slot.slot (le_refl _)) c.confirm_slot.ensures.notes);
   held = omega arith;
-  counts = search rules;
-  expired = search rules;
-  bounds = search rules;
+  rest = search rules;
   queues = search rules;
 }
 

@@ -1,6 +1,7 @@
 use Rattle.std.proofs.Common.{◌≡◌, ◌≤◌}
 use Rattle.chpw_slots.specs.Slots.{held_in}
-use Rattle.chpw_connections.specs.Held.{slots_of, bounds_of, accepted_by, removed_by, expired_by, Counts}
+use Rattle.chpw_connections.specs.Held.{slots_of}
+use Rattle.chpw_connections.specs.Rest.{Rest}
 use Rattle.chpw_connections.specs.Queues.{queues_of}
 use Rattle.chpw_connection.specs.Confirming.{is_confirmed_in}
 use Rattle.chpw_connections.specs.Noting.{noted_by, NotesEach, slots_below}
@@ -12,8 +13,6 @@ invariant-loop-slot l = record {
   confirmed : ConfirmedBelow l.mark l.now (slots_of l.fn.self) (slots_of l.self) l.slot;
   notes : NotesEach (noted_by l.fn.self) (noted_by l.self) (slots_below (is_confirmed_in l.mark) (slots_of l.fn.self) l.slot);
   held : held_in (slots_of l.self) ≤ held_in (slots_of l.fn.self);
-  counts : Counts l.self (accepted_by l.fn.self) (removed_by l.fn.self);
-  expired : expired_by l.self ≡ expired_by l.fn.self;
-  bounds : bounds_of l.self ≡ bounds_of l.fn.self;
+  rest : Rest l.fn.self l.self;
   queues : queues_of l.self ≡ queues_of l.fn.self;
 }

@@ -19,9 +19,7 @@ loop-who-init c = record {
   enough = c.requires.enough;
   notes = ends_none c.args.who (slots_of c.args.self.now) c.args.slot (noted_by c.args.self.now);
   held = le_refl _;
-  counts = search rules;
-  expired = refl;
-  bounds = refl;
+  rest = search rules;
   queues = refl;
 }
 
@@ -43,9 +41,7 @@ loop-who-preserved c = record {
       c.fail.ensures.notes);
   held = let less = fewer_held c.args.who (slots_of c.loop-who.self) (slots_of c.fail.new.self) c.args.slot c.in-Some.other
       c.in-Some.ensures.found c.fail.ensures.happens in omega arith;
-  counts = search rules;
-  expired = search rules;
-  bounds = search rules;
+  rest = search rules;
   queues = c.fail.ensures.same (longest_besides_not_queued (slots_of c.loop-who.self)
       c.args.slot c.args.who c.in-Some.other c.in-Some.ensures.found) ∙ c.loop-who.invariant.queues;
 }

@@ -1,5 +1,6 @@
 use Rattle.std.proofs.Common.{◌≡◌, true, [], ◌≤◌}
-use Rattle.chpw_connections.specs.Held.{slots_of, bounds_of, accepted_by, removed_by, expired_by, Counts}
+use Rattle.chpw_connections.specs.Held.{slots_of}
+use Rattle.chpw_connections.specs.Rest.{Rest}
 use Rattle.chpw_slots.specs.Slots.{held_in}
 use Rattle.chpw_connections.specs.Queues.{queues_of}
 use Rattle.chpw_connections.specs.Room.{MakesRoom, IsNeeded}
@@ -14,9 +15,7 @@ invariant-loop-who l = record {
   enough : has_room_besides l.most l.who (slots_of l.self) l.slot l.count ≡ true;
   notes : NotesEnds l.who (slots_of l.fn.self) (slots_of l.self) l.slot (noted_by l.fn.self) (noted_by l.self) [];
   held : held_in (slots_of l.self) ≤ held_in (slots_of l.fn.self);
-  counts : Counts l.self (accepted_by l.fn.self) (removed_by l.fn.self);
-  expired : expired_by l.self ≡ expired_by l.fn.self;
-  bounds : bounds_of l.self ≡ bounds_of l.fn.self;
+  rest : Rest l.fn.self l.self;
   queues : queues_of l.self ≡ queues_of l.fn.self;
 }
 
