@@ -1,6 +1,6 @@
 -- A run of the service: one desk after the other, and at each the workers' turns, from their messages to the entries of its
 -- history and the replies.
-use Rattle.std.specs.Prelude.{◌≡◌, ◌⊎◌, ℕ, List, [], None, map, length}
+use Rattle.std.specs.Prelude.{◌≡◌, ◌⊎◌, ℕ, List, None, map, length}
 use Rattle.std.specs.List.{range_with_len}
 use Rattle.chpw_rules.specs.declared.config.Config.{Config}
 use Rattle.chpw_record.specs.declared.record.Record.{Record}

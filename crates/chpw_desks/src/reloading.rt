@@ -1,5 +1,5 @@
 //! Opening a desk after a reload.
-ghost use Rattle.std.specs.Prelude.{◌≡◌, ◌≤◌, ◌<◌, ◌-◌, ◌^◌, ℕ, List, Option, IfOk, IfErr, false};
+ghost use Rattle.std.specs.Prelude.{◌≡◌, ◌<◌, ◌-◌, ◌^◌, ℕ, List, Option, IfOk, IfErr, false};
 ghost use Rattle.chpw_reload.specs.Reasons.{fault_text};
 ghost use Rattle.chpw_reload.specs.Reloading.{IsReloaded};
 ghost use Rattle.chpw_orders.specs.Answers.{refused_lines, reloaded_lines, Tells};

@@ -11,7 +11,6 @@ use Rattle.chpw_start.specs.Rules.{AreRulesOf}
 use Rattle.chpw_start.specs.Telling.{IsOfText}
 use Rattle.chpw_orders.specs.declared.compacting.CompactFault.{CompactFault}
 use Rattle.chpw_orders.specs.declared.compacting.CompactFault.TheVariants.{Unread, Changed, NoCopy}
-use Rattle.chpw_start.specs.declared.fault.ServeFault.{ServeFault}
 use Rattle.chpw_orders.specs.declared.rereading.PendingReload.{PendingReload}
 use Rattle.chpw_orders.specs.declared.rereading.PrepareFault.{PrepareFault}
 use Rattle.chpw_orders.specs.declared.rereading.PrepareFault.TheVariants.{Start, Config as Unset, Reload}

@@ -1,4 +1,4 @@
-//! A pool of workers at one desk, which tests and benchmarks alone call: a service has its workers from desk to desk, and so starts them
+//! A pool of workers at one desk, which programs of cases alone call: a service has its workers from desk to desk, and so starts them
 //! itself.
 #![tactic(auto)]
 

@@ -1,5 +1,5 @@
 -- The whole run of a service, put together from its parts.
-use Rattle.std.proofs.Common.{◌≡◌, ℕ, List, Option, is_some, length, subst, sym}
+use Rattle.std.proofs.Common.{◌≡◌, ℕ, List, Option, is_some, length, subst}
 use Rattle.std.specs.declared.fs.File.{File}
 use Rattle.chpw_rules.specs.declared.config.Config.{Config}
 use Rattle.chpw_table.specs.Agreement.{Held}

@@ -16,7 +16,7 @@ ghost use Rattle.chpw_sockets.specs.Places.{IsStream, KeepsSizes, Stays, StaysAt
 ghost use Rattle.chpw_sockets.specs.Places.{has_pending, is_datagram, is_datagram_at, is_shut_behind, reads_on};
 ghost use Rattle.chpw_sockets.specs.Places.{told_of, told_by, told_at};
 ghost use Rattle.chpw_sockets.specs.Replying.{post_at, PostsBy, PostsAt, Takes};
-ghost use Rattle.chpw_sockets.specs.Shares.{datagrams_in, streams_in, most_datagrams, most_streams};
+ghost use Rattle.chpw_sockets.specs.Shares.{datagrams_in, streams_in};
 ghost use Rattle.chpw_sockets.specs.Shares.{may_place_stream as may_stream};
 ghost use Rattle.chpw_transfers.specs.Steps.{IsCalled, Steps, Drains};
 ghost use Rattle.chpw_transfers.specs.declared.state.Progress.TheVariants as progress;

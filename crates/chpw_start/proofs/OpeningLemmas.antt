@@ -1,41 +1,41 @@
 -- A journal restored onto the table of a configuration.
-use Rattle.std.proofs.Common.{◌≡◌, ◌∙◌, refl, sym, subst, ap, absurd, ℕ, List, Option, Bool, true, false, MatchBool}
+use Rattle.std.proofs.Common.{◌≡◌, ◌∙◌, refl, ℕ, List, [], Option, Bool, true, false}
+use Rattle.std.specs.Prelude.{MatchBool}
 use Rattle.chpw_rules.specs.declared.config.Config.{Config}
 use Rattle.chpw_table.specs.Agreement.{Held, Agrees}
 use Rattle.chpw_table.specs.State.{State}
 use Rattle.chpw_table.specs.declared.times.Moment.{Moment}
 use Rattle.chpw_journal.specs.JournalFile.{IsBegun, IsOpened, IsReopened}
-use Rattle.chpw_journal.specs.JournalText.{restored}
 use Rattle.chpw_journal.specs.declared.journal_file.Journal.{Journal}
 use Rattle.chpw_start.specs.Opening.{IsOpening, opening_at}
+
+abbrev opening : Config → Moment → Bool → State
+opening config start found = opening_at config start.seconds found
 
 module _ {C F : Type 0} (gives : C → Moment → C → Type 0) (config : Config) (given : Option (List ℕ)) (before after : C)
     (start : Moment) (t : Held) (clock : gives before start after)
     (counts : (t.events ≡ 0) × (t.seen ≡ 0) × (t.max_entries ≡ config.max_entries)) where
-  opening : Bool → State
-  opening found = opening_at config start.seconds found
-
   -- of a file that was there
-  again : (j : Journal F) → j.found ≡ true → Agrees t.state (opening true) → IsReopened t given j
+  again : (j : Journal F) → j.found ≡ true → Agrees t.state (opening config start true) → IsReopened t given j
       → IsOpening gives config given before after j
   again j found agrees opened =
       let read = opened.read.1 in
-      let reading = read.reading (opening true) agrees in
+      let reading = read.reading (opening config start true) agrees in
       record {
         start = start;
         clock = clock;
         records = read.whole_records;
         next = rw found reading.0.next;
         found = λ is. record { torn = read.rest; all = (opened.read.0, read.read, read.end); read = reading };
-        table = rw (found, opened.table) (read.table (opening true) agrees);
+        table = rw (found, opened.table) (read.table (opening config start true) agrees);
         made = λ new. absurd (cc);
         counts = (rw opened.table (read.events ∙ counts.0), rw opened.table (read.seen ∙ counts.1), rw opened.table (read.max_entries ∙ counts.2));
       }
 
   -- of a new one
-  begun : (j : Journal F) → j.found ≡ false → Agrees t.state (opening false) → IsBegun t j → IsOpening gives config given before after j
+  begun : (j : Journal F) → j.found ≡ false → Agrees t.state (opening config start false) → IsBegun t j → IsOpening gives config given before after j
   begun j new agrees begins =
-      let here : Agrees j.table.state (opening j.found) = rw (new, begins.0) agrees in
+      let here : Agrees j.table.state (opening config start j.found) = rw (new, begins.0) agrees in
       record {
         start = start;
         clock = clock;
@@ -43,11 +43,11 @@ module _ {C F : Type 0} (gives : C → Moment → C → Type 0) (config : Config
         next = tt;
         found = λ found. absurd (cc);
         table = here;
-        made = λ is. rw begins.0 agrees;
+        made = λ is. here;
         counts = (rw begins.0 counts.0, rw begins.0 counts.1, rw begins.0 counts.2);
       }
 
-  at : (b : Bool) (j : Journal F) → j.found ≡ b → Agrees t.state (opening b) → MatchBool b (IsReopened t given j) (IsBegun t j)
+  at : (b : Bool) (j : Journal F) → j.found ≡ b → Agrees t.state (opening config start b) → MatchBool b (IsReopened t given j) (IsBegun t j)
       → IsOpening gives config given before after j
   at true j found agrees opened = again j found agrees opened
   at false j new agrees opened = begun j new agrees opened

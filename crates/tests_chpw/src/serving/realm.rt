@@ -1,5 +1,5 @@
 //! The realm of alice and bob: the service, its clients' requests, and what they print for the replies.
-ghost use Rattle.std.specs.Prelude.{◌≡◌, ◌≤◌, true};
+ghost use Rattle.std.specs.Prelude.{◌≡◌, true};
 ghost use Rattle.chpw_rules.specs.Fitting.{config_fits};
 ghost use Rattle.chpw_rules.specs.Names.{is_name};
 

@@ -1,4 +1,4 @@
-use Rattle.std.proofs.Common.{◌≡◌, ◌∙◌, ap, refl, length, slice_get, Some, rules, arith}
+use Rattle.std.proofs.Common.{◌≡◌, ◌∙◌, ap, slice_get, Some, rules, arith}
 use Rattle.std.proofs.lemmas.Option.{slice_get_read}
 use Rattle.chpw_sockets.proofs.places.Sockets.has_failed.Goals as goal
 

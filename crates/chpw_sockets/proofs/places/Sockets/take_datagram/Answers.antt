@@ -1,4 +1,4 @@
-use Rattle.std.proofs.Common.{◌∙◌, ◌≡◌, ap, arith, inl, inr, length, rules}
+use Rattle.std.proofs.Common.{◌≡◌, ap, arith, inl, inr, length, rules}
 use Rattle.chpw_sockets.proofs.PlaceLemmas.{written_back}
 use Rattle.chpw_sockets.proofs.PostLemmas.{queues_there, taken}
 use Rattle.chpw_sockets.proofs.places.Sockets.take_datagram.Goals as goal
