@@ -1,3 +1,4 @@
+pub mod Changes
 pub mod Confirming
 pub mod Counting
 pub mod Eviction

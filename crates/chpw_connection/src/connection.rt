@@ -1,5 +1,5 @@
 //! What happens to one connection, from its accept to its end.
-ghost use Rattle.std.specs.Prelude.{◌≡◌, ◌==◌, if◌then◌else◌, ◌+◌, ◌≤◌, [], length, IfSome, IfNone, Some, None, IfOk, OnOk, OnErr, true, nat_lt};
+ghost use Rattle.std.specs.Prelude.{◌≡◌, ◌==◌, if◌then◌else◌, ◌+◌, ◌≤◌, [], IfSome, IfNone, Some, None, IfOk, OnOk, OnErr, true, nat_lt};
 ghost use Rattle.chpw_connection.specs.Reading.{is_unfinished, is_covered};
 
 use crate::eviction::EvictionRule;
@@ -46,7 +46,7 @@ pub struct Incoming {
 
 impl Incoming {
     /// A message of which nothing has come.
-    fn new(alloc: Global) -> Incoming
+    pub(crate) fn new(alloc: Global) -> Incoming
         ensures nothing { (result.received.items ≡ []) × (result.room ≡ 0) }
     {
         Incoming {
@@ -93,9 +93,8 @@ pub struct Connection {
 
 impl Connection {
     ghost use Rattle.chpw_connection.specs.Holding.{held_by, size_by, growth_by, begun_of};
-    ghost use Rattle.chpw_connection.specs.Stages.{stage, stage_of, after, is_last_reply, reading, queued};
-    ghost use Rattle.chpw_connection.specs.Stages.{Goes, came, taken, replied, deferred, unanswered};
-    ghost use Rattle.chpw_connection.specs.Stages.{released, wrote, closed, failed, wanted_by, left_of};
+    ghost use Rattle.chpw_connection.specs.Stages.{stage, reading, queued};
+    ghost use Rattle.chpw_connection.specs.Stages.{Goes, came, taken, failed, wanted_by, left_of};
     ghost use Rattle.chpw_connection.specs.Slot.{waits, queued_by, is_newly_queued};
     ghost use Rattle.chpw_connection.specs.Late.{is_late};
     ghost use Rattle.chpw_connection.specs.Confirming.{is_confirmed as is_confirmed_by, overdue_in};
@@ -223,81 +222,6 @@ impl Connection {
         }
     }
 
-    /// The worker's reply is to be written; after the last one the connection ends.
-    pub fn answer(&mut self, reply: Vec<u8>, is_last: bool, now: u64)
-        ensures goes { Goes now self.old self.new (replied reply.items is_last) }
-        ensures held { held_by self.new.phase ≤ held_by self.old.phase + length reply.items }
-    {
-        match self.phase {
-            Phase::Answering(_) => {
-                let is_last = self.count_reply(is_last);
-                self.since = now;
-                self.phase = Phase::Writing(Outgoing {
-                    reply,
-                    written: 0,
-                    is_last,
-                });
-            }
-            Phase::Abandoned => self.phase = Phase::Ended,
-            _ => {}
-        }
-    }
-
-    /// The worker's reply is to be written once its change is confirmed: once the KDC has `mark` bytes of the journal.
-    /// After the last one the connection ends.
-    pub fn defer(&mut self, reply: Vec<u8>, is_last: bool, mark: u64, now: u64)
-        ensures goes { Goes now self.old self.new (deferred reply.items is_last mark) }
-        ensures held { held_by self.new.phase ≤ held_by self.old.phase + length reply.items }
-    {
-        match self.phase {
-            Phase::Answering(_) => {
-                let is_last = self.count_reply(is_last);
-                self.since = now;
-                self.phase = Phase::Confirming(Deferred {
-                    reply,
-                    is_last,
-                    mark,
-                });
-            }
-            Phase::Abandoned => self.phase = Phase::Ended,
-            _ => {}
-        }
-    }
-
-    // Counts a reply after which the connection goes on; whether it is the last one.
-    fn count_reply(&mut self, is_last: bool) -> bool
-        ensures value { result ≡ is_last_reply self.old.answered is_last }
-        ensures count { self.new.answered ≡ (if is_last_reply self.old.answered is_last then self.old.answered else self.old.answered + 1) }
-        ensures phase { self.new.phase ≡ self.old.phase }
-        ensures since { self.new.since ≡ self.old.since }
-        ensures number { self.new.number ≡ self.old.number }
-        ensures peer { self.new.peer ≡ self.old.peer }
-    {
-        let is_last = is_last || self.answered >= MAX_MESSAGES - 1;
-        if !is_last {
-            self.answered += 1;
-        }
-        is_last
-    }
-
-    /// The change of its reply is confirmed, or no longer waited for: the reply is to be written.
-    pub fn release(&mut self, now: u64)
-        ensures goes { Goes now self.old self.new released }
-        ensures held { held_by self.new.phase ≤ held_by self.old.phase }
-    {
-        match mem::replace(&mut self.phase, Phase::Ended) {
-            Phase::Confirming(Deferred { reply, is_last, .. }) => {
-                self.since = now;
-                self.phase = Phase::Writing(Outgoing {
-                    reply,
-                    written: 0,
-                    is_last,
-                });
-            }
-            other => self.phase = other,
-        }
-    }
-
     /// Whether its reply waits for no more than `mark` bytes of the journal.
     pub fn is_confirmed(&self, mark: u64) -> bool
         ensures value { result ≡ is_confirmed_by mark (stage self.now) }
@@ -320,21 +244,6 @@ impl Connection {
         }
     }
 
-    /// The worker has no reply for it.
-    pub fn leave_unanswered(&mut self, now: u64)
-        ensures goes { Goes now self.old self.new unanswered }
-        ensures held { held_by self.new.phase ≤ held_by self.old.phase }
-    {
-        match self.phase {
-            Phase::Answering(_) => {
-                self.since = now;
-                self.phase = Phase::Lingering;
-            }
-            Phase::Abandoned => self.phase = Phase::Ended,
-            _ => {}
-        }
-    }
-
     /// What is left to write.
     pub fn pending_output(&self) -> &[u8]
         ensures value { result.now ≡ left_of (stage self.now) }
@@ -345,45 +254,6 @@ impl Connection {
             }
             _ => &[],
         }
-    }
-
-    /// `count` bytes of its reply were written. After a whole reply its next message is read.
-    pub fn wrote(&mut self, alloc: Global, count: usize, now: u64)
-        ensures goes { Goes now self.old self.new (wrote count) }
-        ensures held { held_by self.new.phase ≤ held_by self.old.phase }
-    {
-        if let Phase::Writing(outgoing) = &mut self.phase {
-            outgoing.written = outgoing.written.saturating_add(count);
-            if outgoing.written >= outgoing.reply.len() {
-                self.since = now;
-                self.phase = if outgoing.is_last {
-                    Phase::Lingering
-                } else {
-                    Phase::Reading(Incoming::new(alloc))
-                };
-            }
-        }
-    }
-
-    /// The client closed its writing side, and all that it wrote was read.
-    pub fn input_ended(&mut self)
-        ensures goes { Goes 0 self.old self.new closed }
-        ensures held { held_by self.new.phase ≤ held_by self.old.phase }
-    {
-        if matches!(self.phase, Phase::Reading(_) | Phase::Lingering) {
-            self.phase = Phase::Ended;
-        }
-    }
-
-    /// It can't go on: a message that waits is dropped with it, and a reply too.
-    pub fn fail(&mut self)
-        ensures goes { Goes 0 self.old self.new failed }
-        ensures held { held_by self.new.phase ≤ held_by self.old.phase }
-    {
-        self.phase = match self.phase {
-            Phase::Answering(_) | Phase::Abandoned => Phase::Abandoned,
-            _ => Phase::Ended,
-        };
     }
 
     /// Whether its time is up, within these bounds.

@@ -3,6 +3,7 @@
 //! room. Moments are milliseconds of a clock that doesn't go back.
 #![tactic(auto)]
 
+mod change;
 mod connection;
 mod counting;
 mod eviction;
@@ -12,6 +13,7 @@ mod message;
 mod remembered;
 mod todo;
 
+pub use change::Change;
 pub use connection::{Connection, Deferred, Incoming, MAX_MESSAGES, Outgoing, Phase};
 pub use counting::Counted;
 pub use eviction::EvictionRule;

@@ -11,6 +11,7 @@ ghost use Rattle.chpw_connections.specs.Rest.{Rest};
 ghost use Rattle.chpw_connections.specs.Noting.{noted_by, NotesEach, IsFirstOverdue, slot_if, slots_where};
 
 use crate::set::Connections;
+use chpw_connection::Change;
 
 /// A reply that was released before its change was confirmed.
 #[derive(Clone, Copy, PartialEq, Eq, Debug, Drop)]
@@ -109,7 +110,7 @@ impl Connections {
         ensures notes { NotesEach (noted_by self.old) (noted_by self.new) (slot ∷ []) }
         ensures queues { queues_of self.new ≡ queues_of self.old }
     {
-        self.slots.release(slot, now);
+        self.slots.change(self.alloc, slot, Change::Released, now);
         self.note(slot);
     }
 }

@@ -16,7 +16,7 @@ ghost use Rattle.chpw_connections.specs.Noting.{noted_by, room_to_note, NotesEac
 ghost use Rattle.chpw_connection.specs.Slot.{is_gone_in, ends_closed_in};
 
 use crate::set::Connections;
-use chpw_connection::{Connection, ConnectionLimits, Phase};
+use chpw_connection::{Change, Connection, ConnectionLimits, Phase};
 use chpw_slots::{Queues, Slots};
 use std::alloc::{AllocError, Global};
 use std::collections::VecDeque;
@@ -128,7 +128,7 @@ impl Connections {
         ensures queues { queues_of self.new ≡ queues_of self.old }
     {
         let can_end = self.is_reading(slot) || self.is_lingering(slot);
-        self.slots.input_ended(slot);
+        self.slots.change(self.alloc, slot, Change::Closed, 0);
         self.note_where(can_end, slot);
     }
 
@@ -144,7 +144,7 @@ impl Connections {
         let can_fail = !self.is_gone(slot);
         let number = self.slots.waiting_number(slot);
         self.queues.leave(number, slot);
-        self.slots.fail(slot);
+        self.slots.change(self.alloc, slot, Change::Failed, 0);
         self.note_where(can_fail, slot);
     }
 
@@ -164,7 +164,8 @@ impl Connections {
         ensures notes { noted_by self.new ≡ noted_by self.old }
         ensures queues { queues_of self.new ≡ queues_of self.old }
     {
-        self.slots.wrote(self.alloc, slot, count, now);
+        let change = Change::Wrote { count };
+        self.slots.change(self.alloc, slot, change, now);
     }
 
     /// Whether the last reply of a connection is out, and its end is awaited.

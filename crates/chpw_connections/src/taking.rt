@@ -17,7 +17,7 @@ ghost use Rattle.chpw_connections.specs.Noting.{noted_by, NotesEach, NotesEnds, 
 ghost use Rattle.chpw_connections.specs.Turns.{slot_of, peer_of, message_of};
 
 use crate::set::Connections;
-use chpw_connection::WholeMessage;
+use chpw_connection::{Change, WholeMessage};
 
 /// A message that a worker took, with its peer. Only `Connections::take` makes one, and it is used up by what the worker
 /// did about it: by `answer`, `defer` or `leave_unanswered`. So each is answered once, and its reply goes to the
@@ -156,7 +156,8 @@ impl Connections {
             message: _,
         } = taken;
         if self.find_room_to_reply(slot, reply.len(), now) {
-            self.slots.answer(slot, reply, is_last, now);
+            let change = Change::Answered { reply, is_last };
+            self.slots.change(self.alloc, slot, change, now);
         } else {
             self.end_unanswered(slot, now);
         }
@@ -198,7 +199,12 @@ impl Connections {
             message: _,
         } = taken;
         if self.find_room_to_reply(slot, reply.len(), now) {
-            self.slots.defer(slot, reply, is_last, mark, now);
+            let change = Change::Deferred {
+                reply,
+                is_last,
+                mark,
+            };
+            self.slots.change(self.alloc, slot, change, now);
         } else {
             self.end_unanswered(slot, now);
         }
@@ -231,7 +237,7 @@ impl Connections {
         ensures queues { queues_of self.new ≡ queues_of self.old }
     {
         let is_with_worker = self.is_with_worker(slot);
-        self.slots.leave_unanswered(slot, now);
+        self.slots.change(self.alloc, slot, Change::Unanswered, now);
         self.note_where(is_with_worker, slot);
     }
 }

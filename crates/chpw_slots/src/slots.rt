@@ -4,11 +4,12 @@ ghost use Rattle.std.specs.Prelude.{OnErr, OnSome, option_copied, option_map, le
 ghost use Rattle.slab.specs.Slab.{get, slab_len, HasRoomFor, Updates};
 ghost use Rattle.chpw_connection.specs.Holding.{held_by, held_at, growth_at};
 ghost use Rattle.chpw_slots.specs.Slots.{held_in, Happens, Stands};
-ghost use Rattle.chpw_connection.specs.Stages.{came, taken, replied, deferred, unanswered, released, wrote, closed, failed};
+ghost use Rattle.chpw_connection.specs.Changes.{event_of, added_by};
+ghost use Rattle.chpw_connection.specs.Stages.{came, taken, failed};
 ghost use Rattle.chpw_connection.specs.Slot.{wanted_at, left_at, queued_at, is_newly_queued};
 ghost use Rattle.chpw_slots.specs.Waiting.{waits_for};
 
-use chpw_connection::{Connection, Phase, WholeMessage};
+use chpw_connection::{Change, Connection, Phase, WholeMessage};
 use slab::Slab;
 use std::alloc::{AllocError, Global};
 
@@ -136,89 +137,15 @@ impl Slots {
         }
     }
 
-    /// A worker replied, possibly for the last time.
-    pub fn answer(&mut self, slot: usize, reply: Vec<u8>, is_last: bool, now: u64)
-        requires fits { held_in self.old.connections + length reply.items < 2 ^ 64 }
-        ensures happens { Happens now self.old.connections self.new.connections slot (replied reply.items is_last) }
+    /// This happens to the connection in a slot, if there is one.
+    pub fn change(&mut self, alloc: Global, slot: usize, change: Change, now: u64)
+        requires fits { held_in self.old.connections + added_by change < 2 ^ 64 }
+        ensures happens { Happens now self.old.connections self.new.connections slot (event_of change) }
         ensures stands { Stands self.old.connections self.new.connections }
-        ensures held { self.new.held ≤ self.old.held + length reply.items }
+        ensures held { self.new.held ≤ self.old.held + added_by change }
     {
         if let Some(mut connection) = self.take_out(slot) {
-            connection.answer(reply, is_last, now);
-            self.put_back(connection);
-        }
-    }
-
-    /// A worker replied, possibly for the last time, and the reply is to wait until the KDC has `mark` bytes of the
-    /// journal.
-    pub fn defer(&mut self, slot: usize, reply: Vec<u8>, is_last: bool, mark: u64, now: u64)
-        requires fits { held_in self.old.connections + length reply.items < 2 ^ 64 }
-        ensures happens { Happens now self.old.connections self.new.connections slot (deferred reply.items is_last mark) }
-        ensures stands { Stands self.old.connections self.new.connections }
-        ensures held { self.new.held ≤ self.old.held + length reply.items }
-    {
-        if let Some(mut connection) = self.take_out(slot) {
-            connection.defer(reply, is_last, mark, now);
-            self.put_back(connection);
-        }
-    }
-
-    /// The change of a reply is confirmed, or no longer waited for.
-    pub fn release(&mut self, slot: usize, now: u64)
-        ensures happens { Happens now self.old.connections self.new.connections slot released }
-        ensures stands { Stands self.old.connections self.new.connections }
-        ensures held { self.new.held ≤ self.old.held }
-    {
-        if let Some(mut connection) = self.take_out(slot) {
-            connection.release(now);
-            self.put_back(connection);
-        }
-    }
-
-    /// A worker has no reply.
-    pub fn leave_unanswered(&mut self, slot: usize, now: u64)
-        ensures happens { Happens now self.old.connections self.new.connections slot unanswered }
-        ensures stands { Stands self.old.connections self.new.connections }
-        ensures held { self.new.held ≤ self.old.held }
-    {
-        if let Some(mut connection) = self.take_out(slot) {
-            connection.leave_unanswered(now);
-            self.put_back(connection);
-        }
-    }
-
-    /// `count` bytes of a reply were written.
-    pub fn wrote(&mut self, alloc: Global, slot: usize, count: usize, now: u64)
-        ensures happens { Happens now self.old.connections self.new.connections slot (wrote count) }
-        ensures stands { Stands self.old.connections self.new.connections }
-        ensures held { self.new.held ≤ self.old.held }
-    {
-        if let Some(mut connection) = self.take_out(slot) {
-            connection.wrote(alloc, count, now);
-            self.put_back(connection);
-        }
-    }
-
-    /// The client closed its writing side, and all that it wrote was read.
-    pub fn input_ended(&mut self, slot: usize)
-        ensures happens { Happens 0 self.old.connections self.new.connections slot closed }
-        ensures stands { Stands self.old.connections self.new.connections }
-        ensures held { self.new.held ≤ self.old.held }
-    {
-        if let Some(mut connection) = self.take_out(slot) {
-            connection.input_ended();
-            self.put_back(connection);
-        }
-    }
-
-    /// The connection can't go on.
-    pub fn fail(&mut self, slot: usize)
-        ensures happens { Happens 0 self.old.connections self.new.connections slot failed }
-        ensures stands { Stands self.old.connections self.new.connections }
-        ensures held { self.new.held ≤ self.old.held }
-    {
-        if let Some(mut connection) = self.take_out(slot) {
-            connection.fail();
+            connection.change(alloc, change, now);
             self.put_back(connection);
         }
     }

@@ -9,10 +9,10 @@ invariant_of-self-clause-waiting c =
     let left = lists_of c.leave.new.self in
     let slots = c.args.self.now.slots.connections in
     let n = c.waiting_number-number.result in
-    holds_failed queues left 0 slots c.fail.new.self.connections c.args.slot
+    holds_failed queues left 0 slots c.change.new.self.connections c.args.slot
     (leaves_by queues left slots n c.args.slot c.waiting_number-number.ensures.waits
     c.waiting_number-number.ensures.none c.leave.ensures.leaves c.args.self.now.waiting)
-    c.fail.ensures.happens c.args.self.now.waiting
+    c.change.ensures.happens c.args.self.now.waiting
 
 pub returns-clause-leaves : goal.returns-clause-leaves
 returns-clause-leaves c =
