@@ -19,6 +19,8 @@ pub struct Slots {
     pub connections: Slab<Connection>,
     pub held: usize,
     pub ghost held_is: { held ≡ held_in connections },
+    // So what adds no bytes fits.
+    pub ghost fits: { held_in connections < 2 ^ 64 },
 }
 
 impl Slots {
