@@ -1,5 +1,5 @@
 //! Calls of a desk with two workers.
-ghost use Rattle.std.specs.Prelude.{◌≡◌};
+ghost use Rattle.std.specs.Prelude.{◌≡◌, []};
 ghost use Rattle.chpw_book.specs.Starting.{IsNamed, workers_of};
 
 use crate::deciding::{change_often, check_unchanged, decided_once, visible_state};
@@ -56,6 +56,7 @@ fn at<D: DeskName, R: Wait>(
     asked: Asked<'_>,
 ) -> Result<Fell, Stop>
     requires name { IsNamed unnamed D.name D.parts D.book D.root D.workers }
+    requires prior { D.prior ≡ [] }
 {
     let sink = MemorySink::new(page.alloc(), JOURNAL)?;
     match Desk::<D, MemorySink>::start(rt, page.alloc(), unnamed, sink) {

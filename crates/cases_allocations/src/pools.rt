@@ -1,5 +1,5 @@
 //! A pool of two workers at a desk, together with its client.
-ghost use Rattle.std.specs.Prelude.{◌≡◌};
+ghost use Rattle.std.specs.Prelude.{◌≡◌, []};
 ghost use Rattle.chpw_book.specs.Starting.{IsNamed};
 
 use crate::desks::close_desk;
@@ -88,6 +88,7 @@ fn at<D: DeskName + Send + Sync, R: Machine>(
     site: Site<'_>,
 ) -> Result<Fell, Stop>
     requires name { IsNamed unnamed D.name D.parts D.book D.root D.workers }
+    requires prior { D.prior ≡ [] }
 {
     let sink = MemorySink::new(page.alloc(), JOURNAL)?;
     match Desk::<D, MemorySink>::start(rt, page.alloc(), unnamed, sink) {

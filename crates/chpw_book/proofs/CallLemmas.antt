@@ -68,9 +68,9 @@ asks_for t counts missed (NeedKeys given) e h = ((λ none. h.1 (e ∙ none)), h.
 asks_for t counts missed Memory e h = tt
 
 -- the table's own refusal is one after the history
-pub asks_of_first : (opening : State) (workers : ℕ) (b : RecordedView) (now : Moment) (o : Opened) (f : DecideFault)
-    → IsLinearized opening workers b → IsFirst b.table (missing b.table.state now o) f → AsksAfter opening now o f
-asks_of_first opening workers b now o f k h = record {
+pub asks_of_first : (opening : State) (workers : ℕ) (prior : List ℕ) (b : RecordedView) (now : Moment) (o : Opened) (f : DecideFault)
+    → IsLinearized opening workers prior b → IsFirst b.table (missing b.table.state now o) f → AsksAfter opening now o f
+asks_of_first opening workers prior b now o f k h = record {
   before = b.history;
   legal = k.legal;
   asks = asks_for b.table (missing b.table.state now o) (missing (outcome opening b.history) now o) f
@@ -78,9 +78,9 @@ asks_of_first opening workers b now o f k h = record {
 }
 
 -- so is what it lacks
-pub lacks_after : (opening : State) (workers : ℕ) (b : RecordedView) (now : Moment) (o : Opened)
-    → IsLinearized opening workers b → LacksAfter opening now o (missing b.table.state now o)
-lacks_after opening workers b now o k = record {
+pub lacks_after : (opening : State) (workers : ℕ) (prior : List ℕ) (b : RecordedView) (now : Moment) (o : Opened)
+    → IsLinearized opening workers prior b → LacksAfter opening now o (missing b.table.state now o)
+lacks_after opening workers prior b now o k = record {
   before = b.history;
   legal = k.legal;
   lacks = same_missing b.table.state (outcome opening b.history) now o k.agrees;

@@ -1,7 +1,7 @@
 -- One more entry keeps what a book's type says.
 use Rattle.std.proofs.Common.{◌≡◌, ◌≢◌, ℕ, zero, suc, ◌+◌, ◌<◌, ◌≤◌, List, [], ◌∷◌, ◌++◌, length, map, Bool}
 use Rattle.std.proofs.Common.{true, false, ◌==◌, if◌then◌else◌, Option, refl, sym, ◌∙◌, ap, subst, arith}
-use Rattle.std.proofs.Common.{append-nil, length-append, slice_index, slice_set, length-set, add-zero, zero-add}
+use Rattle.std.proofs.Common.{append-nil, append_assoc, length-append, slice_index, slice_set, length-set, add-zero, zero-add}
 use Rattle.std.specs.Prelude.{IfSome, All, count_by}
 use Rattle.std.specs.Option.{option_map}
 use Rattle.std.specs.List.{range_with_len}
@@ -113,15 +113,15 @@ count_more p es e =
 
 -- ---- all together
 
-kept_more : (opening : State) (workers : ℕ) (b : RecordedView) (e : Entry) (t : Held) (n : ℕ) (told : Option (List ℕ))
-    → IsLinearized opening workers b
+kept_more : (opening : State) (workers : ℕ) (prior : List ℕ) (b : RecordedView) (e : Entry) (t : Held) (n : ℕ) (told : Option (List ℕ))
+    → IsLinearized opening workers prior b
     → IsJudged (outcome opening b.history) e.now e.io_failed e.event
     → Agrees t.state (step_entry (outcome opening b.history) e)
     → (is_accepted e.event ≡ true → BringsWhole (outcome opening b.history) e.event)
     → told ≡ option_map (λ xs. xs ++ event_appended (outcome opening b.history) e.event) b.told
     → e.worker < length b.counts → e.number ≡ length (entries_of e.worker b.history) + 1
     → t.events ≡ b.table.events + 1 → n ≡ b.total + 1
-    → IsLinearized opening workers (record {
+    → IsLinearized opening workers prior (record {
       table = t;
       history = b.history ++ e ∷ [];
       counts = slice_set b.counts e.worker (slice_index b.counts e.worker + 1);
@@ -130,7 +130,7 @@ kept_more : (opening : State) (workers : ℕ) (b : RecordedView) (e : Entry) (t 
       total = n;
       told = told;
     })
-kept_more opening workers b e t n told k decided agrees whole tells below number events total = record {
+kept_more opening workers prior b e t n told k decided agrees whole tells below number events total = record {
   legal = legal_on opening b.history e k.legal decided;
   agrees = subst (λ (z : State). Agrees t.state z) (sym (outcome_on opening b.history e)) agrees;
   whole = whole_more opening b.history e k.whole whole;
@@ -140,35 +140,38 @@ kept_more opening workers b e t n told k decided agrees whole tells below number
   changes = ap (λ c. if is_accepted e.event then c + 1 else c) k.changes ∙ sym (count_more (λ (x : Entry). is_accepted x.event) b.history e);
   total = total ∙ (ap (λ c. c + 1) k.total ∙ sym (one_longer b.history e));
   journal =
-      subst (λ (js : List ℕ). IfSome told (λ bytes. bytes ≡ js)) (sym (journal_on opening b.history e))
-      (journal_goes_on b.told told (journal opening b.history) (event_appended (outcome opening b.history) e.event) k.journal tells);
+      let more : List ℕ = event_appended (outcome opening b.history) e.event in
+      subst (λ (js : List ℕ). IfSome told (λ bytes. bytes ≡ js))
+      (append_assoc prior (journal opening b.history) more ∙ sym (ap (λ (js : List ℕ). prior ++ js) (journal_on opening b.history e)))
+      (journal_goes_on b.told told (prior ++ journal opening b.history) more k.journal tells);
   room = let a = one_longer b.history e in let r = k.room in omega (arith, a, r, events);
 }
 
 -- an event that the machine judges so, and its entry
-pub kept_event : (opening : State) (workers : ℕ) (b : RecordedView) (w : ℕ) (now : Moment)
+pub kept_event : (opening : State) (workers : ℕ) (prior : List ℕ) (b : RecordedView) (w : ℕ) (now : Moment)
     (io : Bool) (event : Event) (t : Held) (es : List Entry) (counts : List ℕ) (changes n : ℕ) (told : Option (List ℕ))
-    → IsLinearized opening workers b → IsJudged (outcome opening b.history) now io event → Agrees t.state (step_event (outcome opening b.history) now io event)
+    → IsLinearized opening workers prior b → IsJudged (outcome opening b.history) now io event
+    → Agrees t.state (step_event (outcome opening b.history) now io event)
     → (is_accepted event ≡ true → BringsWhole (outcome opening b.history) event)
     → told ≡ option_map (λ xs. xs ++ event_appended (outcome opening b.history) event) b.told → t.events ≡ b.table.events + 1
     → w < length b.counts → es ≡ b.history ++ next_entry b.history w now io event ∷ []
     → counts ≡ slice_set b.counts w (slice_index b.counts w + 1) → changes ≡ (if is_accepted event then b.changes + 1 else b.changes) → n ≡ b.total + 1
-    → IsLinearized opening workers (record { table = t; history = es; counts = counts; changes = changes; total = n; told = told })
-kept_event opening workers b w now io event t es counts changes n told k judged agrees whole tells events below h c d total =
-    rw (h, c, d) (kept_more opening workers b (next_entry b.history w now io event) t n told k judged agrees whole tells below refl events total)
+    → IsLinearized opening workers prior (record { table = t; history = es; counts = counts; changes = changes; total = n; told = told })
+kept_event opening workers prior b w now io event t es counts changes n told k judged agrees whole tells events below h c d total =
+    rw (h, c, d) (kept_more opening workers prior b (next_entry b.history w now io event) t n told k judged agrees whole tells below refl events total)
 
 -- a step of the table, and its entry
-pub kept_step : (opening : State) (workers : ℕ) (b : RecordedView) (w : ℕ) (now : Moment)
+pub kept_step : (opening : State) (workers : ℕ) (prior : List ℕ) (b : RecordedView) (w : ℕ) (now : Moment)
     (o : Opened) (r : Outcome) (t : Held) (es : List Entry) (counts : List ℕ) (changes n : ℕ) (told : Option (List ℕ))
-    → IsLinearized opening workers b → Steps b.table t now o r
+    → IsLinearized opening workers prior b → Steps b.table t now o r
     → ((s : State) → Agrees b.table.state s → told ≡ option_map (λ xs. xs ++ appended s o r.verdict) b.told)
     → (is_done r.verdict ≡ true → NewestIsWhole (keys_held t.state (target_of o).name))
     → w < length b.counts → es ≡ b.history ++ next_entry b.history w now r.io_failed (Ask o r.verdict) ∷ []
     → counts ≡ slice_set b.counts w (slice_index b.counts w + 1) → changes ≡ (if is_done r.verdict then b.changes + 1 else b.changes) → n ≡ b.total + 1
-    → IsLinearized opening workers (record { table = t; history = es; counts = counts; changes = changes; total = n; told = told })
-kept_step opening workers b w now o r t es counts changes n told k steps tells newest below h c d total =
+    → IsLinearized opening workers prior (record { table = t; history = es; counts = counts; changes = changes; total = n; told = told })
+kept_step opening workers prior b w now o r t es counts changes n told k steps tells newest below h c d total =
     let s : State = outcome opening b.history in
-    kept_event opening workers b w now r.io_failed (Ask o r.verdict) t es counts changes n told k
+    kept_event opening workers prior b w now r.io_failed (Ask o r.verdict) t es counts changes n told k
     (steps.legal s k.agrees) (steps.agrees s k.agrees)
     (brings_whole s t.state now o r.io_failed r.verdict (steps.legal s k.agrees) (steps.agrees s k.agrees) newest)
     (tells s k.agrees) steps.events below h c d total

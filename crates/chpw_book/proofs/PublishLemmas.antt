@@ -91,10 +91,11 @@ published_at opening before e b broken event s t p a is h done accepts =
     at false y list = record { list = h.list ∙ (sym (append-nil s.list) ∙ list); free = h.free y }
 
 -- a decision and its publication keep it the history's
-pub published_next : (opening : State) (workers : ℕ) (b later : RecordedView) (mine mid : PassView) (s t : PublishedList) (now : Moment) (event : Event)
-    → IsPublished opening b.history b.table.state.broken s → IsRecorded opening workers b later mine mid s t now event
+pub published_next : (opening : State) (workers : ℕ) (prior : List ℕ) (b later : RecordedView) (mine mid : PassView)
+    (s t : PublishedList) (now : Moment) (event : Event)
+    → IsPublished opening b.history b.table.state.broken s → IsRecorded opening workers prior b later mine mid s t now event
     → IsPublished opening later.history later.table.state.broken (published (is_accepted event) t)
-published_next opening workers b later mine mid s t now event p h =
+published_next opening workers prior b later mine mid s t now event p h =
     subst (λ (es : List Entry). IsPublished opening es later.table.state.broken (published (is_accepted event) t)) (sym h.grows.history)
     (published_at opening b.history h.entry b.table.state later.table.state.broken event s t p h.linearized.0.agrees
     (ap (λ (e : Entry). e.event) h.enters.entry_is) h.pending (is_accepted event) refl)
@@ -105,18 +106,20 @@ joined_accepted opening es None list legal is = tt
 joined_accepted opening es (Some c) list legal is = record { history = es; legal = legal; list_is = is }
 
 -- so the list with the change that waits is what the history accepted, which has the event's entry
-pub accepted_next : (opening : State) (workers : ℕ) (b later : RecordedView) (mine mid : PassView) (s t : PublishedList) (now : Moment) (event : Event)
-    → IsPublished opening b.history b.table.state.broken s → IsRecorded opening workers b later mine mid s t now event
+pub accepted_next : (opening : State) (workers : ℕ) (prior : List ℕ) (b later : RecordedView) (mine mid : PassView)
+    (s t : PublishedList) (now : Moment) (event : Event)
+    → IsPublished opening b.history b.table.state.broken s → IsRecorded opening workers prior b later mine mid s t now event
     → is_accepted event ≡ true → IfSome t.waiting (λ change. AreAccepted opening (t.list ++ change ∷ []))
-accepted_next opening workers b later mine mid s t now event p h done =
-    let q = published_next opening workers b later mine mid s t now event p h in
+accepted_next opening workers prior b later mine mid s t now event p h done =
+    let q = published_next opening workers prior b later mine mid s t now event p h in
     joined_accepted opening later.history t.waiting t.list h.linearized.1.legal
     (subst (λ (d : Bool). (published d t).list ≡ accepted opening later.history) done q.list)
 
 -- it has room for one more
-pub list_room : (opening : State) (workers : ℕ) (b later : RecordedView) (mine mid : PassView) (s t : PublishedList) (now : Moment) (event : Event)
-    → IsPublished opening b.history b.table.state.broken s → IsRecorded opening workers b later mine mid s t now event → length t.list + 1 < 2 ^ 31
-list_room opening workers b later mine mid s t now event p h =
+pub list_room : (opening : State) (workers : ℕ) (prior : List ℕ) (b later : RecordedView) (mine mid : PassView)
+    (s t : PublishedList) (now : Moment) (event : Event)
+    → IsPublished opening b.history b.table.state.broken s → IsRecorded opening workers prior b later mine mid s t now event → length t.list + 1 < 2 ^ 31
+list_room opening workers prior b later mine mid s t now event p h =
     let long : length t.list ≡ length (accepted opening b.history) = ap (λ (xs : List Accepted). length xs) (h.pending.list ∙ p.list) in
     let counted = changes_counted opening b.history in
     let some = count_by-le-length (λ (e : Entry). is_accepted e.event) b.history in
@@ -125,11 +128,12 @@ list_room opening workers b later mine mid s t now event p h =
     omega (arith, long, counted, some, grown, few)
 
 -- all that a call does
-pub adds_next : (opening : State) (workers : ℕ) (b later : RecordedView) (mine mid more : PassView) (s t u : PublishedList) (now : Moment) (event : Event)
-    → IsPublished opening b.history b.table.state.broken s → IsRecorded opening workers b later mine mid s t now event
+pub adds_next : (opening : State) (workers : ℕ) (prior : List ℕ) (b later : RecordedView) (mine mid more : PassView)
+    (s t u : PublishedList) (now : Moment) (event : Event)
+    → IsPublished opening b.history b.table.state.broken s → IsRecorded opening workers prior b later mine mid s t now event
     → IsPublished opening later.history later.table.state.broken u
     → IsPrefix mine.place.told s.list → more ≡ record mid { place = told_list (is_accepted event) u.list mid.place } → Adds opening b later mine more now event
-adds_next opening workers b later mine mid more s t u now event p h q begins is =
+adds_next opening workers prior b later mine mid more s t u now event p h q begins is =
     let place : more.place ≡ told_list (is_accepted event) (accepted opening (b.history ++ h.entry ∷ [])) mine.place =
     ap (λ (c : PassView). c.place) is
     ∙ (ap (λ (xs : List Accepted). told_list (is_accepted event) xs mid.place) (q.list ∙ ap (λ (es : List Entry). accepted opening es) h.grows.history)

@@ -50,7 +50,7 @@ pub record LeavesPending (before : State) (broken : Bool) (event : Event) (s t :
   pub free : is_accepted event ≡ false → broken ≡ false → t.waiting ≡ None
 
 -- For the proofs: an event's entry is recorded, and its change waits to be published.
-pub record IsRecorded (opening : State) (workers : ℕ)
+pub record IsRecorded (opening : State) (workers : ℕ) (prior : List ℕ)
     (before later : RecordedView) (mine more : PassView) (s t : PublishedList) (now : Moment) (event : Event) : Type 0 where
   pub entry : Entry
   pub enters : Enters before.history entry mine more now event
@@ -58,7 +58,7 @@ pub record IsRecorded (opening : State) (workers : ℕ)
   pub place : more.place ≡ mine.place
   pub saw : IsPrefix mine.place.seen s.list
   pub pending : LeavesPending before.table.state later.table.state.broken event s t
-  pub linearized : IsLinearized opening workers before × IsLinearized opening workers later
+  pub linearized : IsLinearized opening workers prior before × IsLinearized opening workers prior later
   pub few : length later.history < 2 ^ 31
 
 -- the prepared change has joined the list

@@ -26,8 +26,8 @@ new_recorded t workers told = record { table = t; history = []; counts = replica
 
 -- What the workers did at the same time equals what one thread does with the history, entry by entry from
 -- the opening: it gives each verdict stored and leads to the table. What each accepted entry brings in is
--- whole; each worker's calls stand in it once each, numbered; what the sink tells is its journal.
-pub record IsLinearized (opening : State) (workers : ℕ) (b : RecordedView) : Type 0 where
+-- whole; each worker's calls stand in it once each, numbered; what the sink tells is what it told before and then its journal.
+pub record IsLinearized (opening : State) (workers : ℕ) (prior : List ℕ) (b : RecordedView) : Type 0 where
   pub legal : IsLegal opening b.history
   pub agrees : Agrees b.table.state (outcome opening b.history)
   pub whole : AreWhole opening b.history
@@ -36,7 +36,7 @@ pub record IsLinearized (opening : State) (workers : ℕ) (b : RecordedView) : T
   pub all : length b.counts ≡ workers
   pub changes : b.changes ≡ changes_of b.history
   pub total : b.total ≡ length b.history
-  pub journal : IfSome b.told (λ bytes. bytes ≡ journal opening b.history)
+  pub journal : IfSome b.told (λ bytes. bytes ≡ prior ++ journal opening b.history)
   pub room : length b.history ≤ b.table.events
 
 -- This entry after those: the next of the pass's worker, with this moment and event. The pass has its

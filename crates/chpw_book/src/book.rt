@@ -74,7 +74,7 @@ impl<D: DeskName, S: JournalSink> Book<D, S> {
     where
         S: Drop,
         requires name { IsNamed unnamed D.name D.parts D.book D.root D.workers }
-        requires told { IfSome (S.told sink) (λ bytes. bytes ≡ []) }
+        requires told { IfSome (S.told sink) (λ bytes. bytes ≡ D.prior) }
         requires room { (table_of unnamed).state.broken ≡ false → S.failed sink < 2 ^ 64 - 1 }
         ensures value { IfOk result (λ r.
             r.0 ≡ new_book (table_of unnamed) (workers_of unnamed) (S.told sink)) }
@@ -119,7 +119,7 @@ impl<D: DeskName, S: JournalSink> Book<D, S> {
     /// The entries so far.
     pub fn history(&self) -> &[Entry]
         ensures value { result.now ≡ self.now.kept.history }
-        ensures linearized { IsLinearized (opening_state D.root) D.workers self.now.kept }
+        ensures linearized { IsLinearized (opening_state D.root) D.workers D.prior self.now.kept }
         ensures published { self.now.list ≡ accepted (opening_state D.root) self.now.kept.history }
     {
         self.recorded.history()
@@ -252,7 +252,7 @@ impl<D: DeskName, S: JournalSink> Book<D, S> {
         ensures refusal { IfErr result (λ r. IsRefusal self.kept.history (is_full self.kept.table)
             D.workers passes.items r.fault) }
         ensures back { IfErr result (λ r. (r.book ≡ self) × (r.passes.items ≡ passes.items)) }
-        ensures linearized { IsLinearized (opening_state D.root) D.workers self.kept }
+        ensures linearized { IsLinearized (opening_state D.root) D.workers D.prior self.kept }
     {
         match self.close_fault(passes.as_slice()) {
             None => Ok(self.into_closed(rt)),
@@ -270,7 +270,7 @@ impl<D: DeskName, S: JournalSink> Book<D, S> {
             (is_full self.now.kept.table) D.workers passes.now) }
         ensures refusal { IfSome result (λ fault. IsRefusal self.now.kept.history
             (is_full self.now.kept.table) D.workers passes.now fault) }
-        ensures linearized { IsLinearized (opening_state D.root) D.workers self.now.kept }
+        ensures linearized { IsLinearized (opening_state D.root) D.workers D.prior self.now.kept }
     {
         self.recorded.close_fault(passes)
     }
@@ -280,7 +280,7 @@ impl<D: DeskName, S: JournalSink> Book<D, S> {
         ensures history { result.history.items ≡ self.kept.history }
         ensures table { result.table ≡ self.kept.table }
         ensures told { S.told result.sink ≡ self.kept.told }
-        ensures linearized { IsLinearized (opening_state D.root) D.workers self.kept }
+        ensures linearized { IsLinearized (opening_state D.root) D.workers D.prior self.kept }
     {
         let Book {
             recorded,

@@ -46,12 +46,12 @@ impl<D: DeskName, S: JournalSink> RecordedTable<D, S> {
         requires moment { IsMoment now }
         requires published { IsPublished (opening_state D.root) self.old.history
             self.old.table.state.broken snapshots.old }
-        ensures recorded { IfOk result (λ v. IsRecorded (opening_state D.root) D.workers self.old self.new
+        ensures recorded { IfOk result (λ v. IsRecorded (opening_state D.root) D.workers D.prior self.old self.new
             pass.old pass.new snapshots.old snapshots.new now (Ask opened v)) }
         ensures refused { IfErr result (λ r. IsRefused self.old.table now opened r) }
         ensures unchanged { OnErr result
             ((self.new ≡ self.old) × (pass.new ≡ pass.old) × (snapshots.new ≡ snapshots.old)) }
-        ensures linearized { IsLinearized (opening_state D.root) D.workers self.old }
+        ensures linearized { IsLinearized (opening_state D.root) D.workers D.prior self.old }
     {
         let prepared = prepare(&mut self.table, snapshots, pass, now, opened)?;
         let Ok(copy) = make_room(

@@ -40,7 +40,7 @@ pub struct Desk<D: DeskName, S: JournalSink> {
 impl<D: DeskName, S: JournalSink> Desk<D, S> {
     /// A desk with an empty history, and a pass for each of its workers, in order. None has seen or learnt a change.
     ///
-    /// The sink's known bytes are none; fewer than 2^64 - 1 of its appends have failed, or the table is broken.
+    /// The sink's known bytes are those of its name; fewer than 2^64 - 1 of its appends have failed, or the table is broken.
     /// `NoPlaces` if a worker gets no place; `Memory` if a growth is refused: of the standing rules, the rows, the
     /// snapshots, the passes or the history. After a fault all that was given to it is gone.
     pub fn start<R: Wait>(
@@ -52,7 +52,7 @@ impl<D: DeskName, S: JournalSink> Desk<D, S> {
     where
         S: Drop,
         requires name { IsNamed unnamed D.name D.parts D.book D.root D.workers }
-        requires told { IfSome (S.told sink) (λ bytes. bytes ≡ []) }
+        requires told { IfSome (S.told sink) (λ bytes. bytes ≡ D.prior) }
         requires room { (table_of unnamed).state.broken ≡ false → S.failed sink < 2 ^ 64 - 1 }
         ensures passes { IfOk result (λ r.
             r.1.items ≡ map new_pass (range_with_len 0 (workers_of unnamed))) }

@@ -57,12 +57,12 @@ impl<D: DeskName, S: JournalSink> RecordedTable<D, S> {
         requires count { is_in iteration_counts count ≡ true }
         requires published { IsPublished (opening_state D.root) self.old.history
             self.old.table.state.broken snapshots.old }
-        ensures recorded { IfOk result (λ v. IsRecorded (opening_state D.root) D.workers self.old self.new
+        ensures recorded { IfOk result (λ v. IsRecorded (opening_state D.root) D.workers D.prior self.old self.new
             pass.old pass.new snapshots.old snapshots.new now (Raise count v)) }
         ensures first { IfErr result (λ fault. IsFirstFault self.old.table fault) }
         ensures unchanged { OnErr result
             ((self.new ≡ self.old) × (pass.new ≡ pass.old) × (snapshots.new ≡ snapshots.old)) }
-        ensures linearized { IsLinearized (opening_state D.root) D.workers self.old }
+        ensures linearized { IsLinearized (opening_state D.root) D.workers D.prior self.old }
     {
         has_room(&self.table, snapshots, pass)?;
         make_room(

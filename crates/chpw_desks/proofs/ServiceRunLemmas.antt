@@ -90,16 +90,24 @@ goes_on_from options left old next new (inr r) = inr (r.config, r.records, r.rel
 module _ {R L : Type 0} (journal : JournalLength) where
   -- what a desk of so many workers served, each of whom has a pass
   pub served_at : (rules : Rules) (opening : Held) (count : ℕ) (passes : List PassView) (before after : List (ServiceWorker R L))
-      (history : List Entry) (left : Held) → AreInOrder count passes
+      (history : List Entry) (left : Held) (prior : List ℕ) → AreInOrder count passes
       → ServedDesk gives_moment gives_word seat_turns (error_frame rules.service.realm) private_frame
       (OpensUnder rules.service.accepts rules.service.realm rules.service.keys) tells_end journal
-      opening.state count passes before after history left None
+      opening.state count passes before after history left prior None
       → IsServed journal rules opening passes before after history left
-  served_at rules opening count passes before after history left order served =
+  served_at rules opening count passes before after history left prior order served =
       subst (λ (n : ℕ). ServedDesk gives_moment gives_word seat_turns (error_frame rules.service.realm) private_frame
       (OpensUnder rules.service.accepts rules.service.realm rules.service.keys) tells_end journal
-      opening.state n passes before after history left None)
-      (sym (in_order_length count passes order)) served
+      opening.state n passes before after history left [] None)
+      (sym (in_order_length count passes order)) (record {
+        legal = served.legal;
+        agrees = served.agrees;
+        whole = served.whole;
+        journal = tt;
+        numbered = served.numbered;
+        workers_are = served.workers_are;
+        each = served.each;
+      })
 
   history_of : (rules : Rules) (opening : Held) (passes : List PassView) (before after : List (ServiceWorker R L))
       (history : List Entry) (left : Held) → IsServed journal rules opening passes before after history left → IsHistory opening.state left

@@ -1,6 +1,6 @@
 -- A run of the service: one desk after the other, and at each the workers' turns, from their messages to the entries of its
 -- history and the replies.
-use Rattle.std.specs.Prelude.{◌≡◌, ◌⊎◌, ℕ, List, None, map, length}
+use Rattle.std.specs.Prelude.{◌≡◌, ◌⊎◌, ℕ, List, [], None, map, length}
 use Rattle.std.specs.List.{range_with_len}
 use Rattle.chpw_rules.specs.declared.config.Config.{Config}
 use Rattle.chpw_record.specs.declared.record.Record.{Record}
@@ -36,7 +36,7 @@ abbrev pub IsServed : {R L : Type 0} → JournalLength → Rules → Held → Li
 IsServed journal rules opening passes before after history left =
     ServedDesk gives_moment gives_word seat_turns (error_frame rules.service.realm) private_frame
     (OpensUnder rules.service.accepts rules.service.realm rules.service.keys) tells_end journal
-    opening.state (length passes) passes before after history left None
+    opening.state (length passes) passes before after history left [] None
 
 -- a reload of the table that was left, with the configuration that the rules' text sets and some records of the journal; and
 -- the rules are those of that configuration

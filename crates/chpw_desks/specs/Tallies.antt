@@ -42,6 +42,7 @@ pub record IsTally (history : List Entry) (tally : Tally) : Type 0 where
 -- a pass is missing, or has other receipts than its worker's calls in the history stored
 pub record IsMismatch (opening : State) (workers : ℕ) (passes : List PassView) : Type 0 where
   pub recorded : RecordedView
-  pub linearized : IsLinearized opening workers recorded
+  pub prior : List ℕ
+  pub linearized : IsLinearized opening workers prior recorded
   pub fault : CloseFault
   pub refusal : IsRefusal recorded.history (is_full recorded.table) workers passes fault

@@ -111,11 +111,11 @@ module _ {I G C X J : Type 0} (moments : C → Moment → C → Type 0) (random 
 
   -- what a closed desk's contract says, with the turns that led to its passes
   pub served_desk : (opening : State) (ps : List PassView) (os : List (Worker I G C X)) (qs : List PassView) (ns : List (Worker I G C X))
-      (history : List Entry) (table : Held) (told : Option (List ℕ)) → AreInOrder workers ps → Each ps os qs ns
+      (history : List Entry) (table : Held) (prior : List ℕ) (told : Option (List ℕ)) → AreInOrder workers ps → Each ps os qs ns
       → IsWhole history (is_full table) workers qs → IsLegal opening history × Agrees table.state (outcome opening history)
-      → AreWhole opening history → IsNumbered history × AreOfWorkers workers history → IfSome told (λ bytes. bytes ≡ journal_of opening history)
-      → ServedDesk moments random turns_at error_frame private_frame opens ends journal opening workers ps os ns history table told
-  served_desk opening ps os qs ns history table told order h whole legal brings numbered is_told = record {
+      → AreWhole opening history → IsNumbered history × AreOfWorkers workers history → IfSome told (λ bytes. bytes ≡ prior ++ journal_of opening history)
+      → ServedDesk moments random turns_at error_frame private_frame opens ends journal opening workers ps os ns history table prior told
+  served_desk opening ps os qs ns history table prior told order h whole legal brings numbered is_told = record {
     legal = legal.0;
     agrees = legal.1;
     whole = brings;
@@ -126,18 +126,18 @@ module _ {I G C X J : Type 0} (moments : C → Moment → C → Type 0) (random 
   }
 
   -- where a desk closes
-  pub served_if_closed : {A E : Type 0} (r : Result A E) (history_of : A → List Entry) (table_of : A → Held) (told_of : A → Option (List ℕ))
+  pub served_if_closed : {A E : Type 0} (r : Result A E) (history_of : A → List Entry) (table_of : A → Held) (told_of : A → Option (List ℕ)) (prior : List ℕ)
       (opening : State) (ps : List PassView) (os : List (Worker I G C X)) (qs : List PassView) (ns : List (Worker I G C X))
       → AreInOrder workers ps → Each ps os qs ns
       → IfOk r (λ a. IsWhole (history_of a) (is_full (table_of a)) workers qs)
       → IfOk r (λ a. IsLegal opening (history_of a) × Agrees (table_of a).state (outcome opening (history_of a)))
       → IfOk r (λ a. AreWhole opening (history_of a)) → IfOk r (λ a. IsNumbered (history_of a) × AreOfWorkers workers (history_of a))
-      → IfOk r (λ a. IfSome (told_of a) (λ bytes. bytes ≡ journal_of opening (history_of a)))
+      → IfOk r (λ a. IfSome (told_of a) (λ bytes. bytes ≡ prior ++ journal_of opening (history_of a)))
       → IfOk r (λ a. ServedDesk moments random turns_at error_frame private_frame opens ends journal opening workers ps os ns
-      (history_of a) (table_of a) (told_of a))
-  served_if_closed (Ok a) history_of table_of told_of opening ps os qs ns order h whole legal brings numbered is_told =
-      served_desk opening ps os qs ns (history_of a) (table_of a) (told_of a) order h whole legal brings numbered is_told
-  served_if_closed (Err e) history_of table_of told_of opening ps os qs ns order h whole legal brings numbered is_told = tt
+      (history_of a) (table_of a) prior (told_of a))
+  served_if_closed (Ok a) history_of table_of told_of prior opening ps os qs ns order h whole legal brings numbered is_told =
+      served_desk opening ps os qs ns (history_of a) (table_of a) prior (told_of a) order h whole legal brings numbered is_told
+  served_if_closed (Err e) history_of table_of told_of prior opening ps os qs ns order h whole legal brings numbered is_told = tt
 
   -- and where it refuses to
   pub stands_if_refused : {A E : Type 0} (r : Result A E) (passes_of : E → List PassView)

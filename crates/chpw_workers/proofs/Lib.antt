@@ -4,3 +4,4 @@ pub mod ShiftLemmas
 pub mod DeskLemmas
 mod FollowLemmas
 mod SendLemmas
+mod SinkLemmas

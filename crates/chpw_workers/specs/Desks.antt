@@ -44,14 +44,14 @@ module _ {I G C X J : Type 0} (moments : C → Moment → C → Type 0) (random 
   AreServedBy w _ _ _ history table = ⊥
 
   -- THE WHOLE: the one-thread machine replays the history, entry by entry from the opening, with each verdict stored, to the
-  -- table that was held at the end; what the sink has is its journal; each worker's entries are numbered in their order; and each
-  -- worker's turns are those that made its entries.
+  -- table that was held at the end; what the sink has is what it had before and then the history's journal; each worker's entries are
+  -- numbered in their order; and each worker's turns are those that made its entries.
   pub record ServedDesk (opening : State) (workers : ℕ) (passes : List PassView) (olds news : List (Worker I G C X))
-      (history : List Entry) (table : Held) (told : Option (List ℕ)) : Type 0 where
+      (history : List Entry) (table : Held) (prior : List ℕ) (told : Option (List ℕ)) : Type 0 where
     pub legal : IsLegal opening history
     pub agrees : Agrees table.state (outcome opening history)
     pub whole : AreWhole opening history
-    pub journal : IfSome told (λ bytes. bytes ≡ journal opening history)
+    pub journal : IfSome told (λ bytes. bytes ≡ prior ++ journal opening history)
     pub numbered : IsNumbered history
     pub workers_are : AreOfWorkers workers history
     pub each : AreServedBy 0 passes olds news history table

@@ -3,3 +3,4 @@ pub mod Replies
 pub mod Turns
 pub mod Shifts
 pub mod Desks
+pub mod Sinks

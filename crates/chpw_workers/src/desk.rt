@@ -49,8 +49,8 @@ pub fn serve_desk<
     ensures served { IfOk result.0.closed (λ c. ServedDesk C.gives X.gives I.turns (M.error_frame context.now.service.now)
         (M.private_frame context.now.service.now) (M.opens context.now.service.now) J.ends context.now.journal.now
         (opening_state D.root) D.workers staff.passes.items staff.workers.items result.0.workers.items
-        c.history.items c.table (S.told c.sink)) }
-    ensures refusal { IfErr result.0.closed (λ r. (b : _) × IsLinearized (opening_state D.root) D.workers b
+        c.history.items c.table D.prior (S.told c.sink)) }
+    ensures refusal { IfErr result.0.closed (λ r. (b : _) × IsLinearized (opening_state D.root) D.workers D.prior b
         × IsRefusal b.history (is_full b.table) D.workers r.passes.items r.fault) }
     ensures turns { IfErr result.0.closed (λ r. AreShifts C.gives X.gives I.turns (M.error_frame context.now.service.now)
         (M.private_frame context.now.service.now) (M.opens context.now.service.now) J.ends context.now.journal.now
@@ -85,8 +85,8 @@ pub fn close_desk<
     ensures served { IfOk result.closed (λ c. ServedDesk C.gives X.gives I.turns (M.error_frame context.now.service.now)
         (M.private_frame context.now.service.now) (M.opens context.now.service.now) J.ends context.now.journal.now
         (opening_state D.root) D.workers staff.passes.items staff.workers.items result.workers.items
-        c.history.items c.table (S.told c.sink)) }
-    ensures refusal { IfErr result.closed (λ r. (b : _) × IsLinearized (opening_state D.root) D.workers b
+        c.history.items c.table D.prior (S.told c.sink)) }
+    ensures refusal { IfErr result.closed (λ r. (b : _) × IsLinearized (opening_state D.root) D.workers D.prior b
         × IsRefusal b.history (is_full b.table) D.workers r.passes.items r.fault) }
     ensures unchanged { result.workers ≡ staff.workers }
     ensures passes { IfErr result.closed (λ r. r.passes.items ≡ staff.passes.items) }

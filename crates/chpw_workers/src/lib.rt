@@ -7,6 +7,7 @@ mod context;
 mod desk;
 mod inbox;
 mod journal_end;
+pub mod laws;
 mod shift;
 mod worker;
 

@@ -1,4 +1,5 @@
 //! One request of two workers, the close, and receipts that differ.
+ghost use Rattle.std.specs.Prelude.{◌≡◌, []};
 ghost use Rattle.chpw_book.specs.Starting.{IsNamed};
 
 use crate::desk::desks::{change, close_desk, start_desk, table, verdict};
@@ -28,6 +29,7 @@ fn two_at<D: DeskName + Send + Sync, R: Threads + Wait + Abort + Sync>(
     two: Opened,
 )
     requires name { IsNamed unnamed D.name D.parts D.book D.root D.workers }
+    requires prior { D.prior ≡ [] }
 {
     let (desk, mut passes) = start_desk::<D, R>(rt, alloc, unnamed);
     let mut second = passes.pop().expect(rt, "a pass");

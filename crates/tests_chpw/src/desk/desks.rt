@@ -1,4 +1,5 @@
 //! Sixteen principals of the realm, their requests, and helpers for a desk of theirs.
+ghost use Rattle.std.specs.Prelude.{◌≡◌, []};
 ghost use Rattle.chpw_book.specs.Starting.{IsNamed};
 
 use chpw_book::{CloseRefused, Closed, Desk, DeskName, Pass, UnnamedDesk};
@@ -45,6 +46,7 @@ pub fn start_desk<D: DeskName, R: Wait + Abort>(
     unnamed: UnnamedDesk,
 ) -> (Desk<D, Tally>, Vec<Pass<D>>)
     requires name { IsNamed unnamed D.name D.parts D.book D.root D.workers }
+    requires prior { D.prior ≡ [] }
 {
     let started = Desk::<D, Tally>::start(rt, alloc, unnamed, Tally::new());
     started.ok().expect(rt, "a desk")

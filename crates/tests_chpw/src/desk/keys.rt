@@ -1,4 +1,5 @@
 //! Keys that are asked for, and a history that is full.
+ghost use Rattle.std.specs.Prelude.{◌≡◌, []};
 ghost use Rattle.chpw_book.specs.Starting.{IsNamed};
 
 use crate::desk::desks::{
@@ -29,6 +30,7 @@ fn ask_and_complete<D: DeskName, R: Wait + Abort>(
     opened: Opened,
 )
     requires name { IsNamed unnamed D.name D.parts D.book D.root D.workers }
+    requires prior { D.prior ≡ [] }
 {
     let (desk, mut passes) = start_desk::<D, R>(rt, alloc, unnamed);
     let mut pass = passes.pop().expect(rt, "a pass");
@@ -78,6 +80,7 @@ fn keys_that_are_looked_for(rt: HostRuntime) {
 // What is refused anyway lacks no keys, nor does what comes too early; the desk is abandoned.
 fn look_for_keys<D: DeskName, R: Wait + Abort>(rt: &R, alloc: Global, unnamed: UnnamedDesk)
     requires name { IsNamed unnamed D.name D.parts D.book D.root D.workers }
+    requires prior { D.prior ≡ [] }
 {
     let (desk, _passes) = start_desk::<D, R>(rt, alloc, unnamed);
     for (length, another, starts, ends, refused, lacking) in ASKS {
@@ -139,6 +142,7 @@ fn derive_and_fill<D: DeskName, R: Wait + Abort>(
     second: Opened,
 )
     requires name { IsNamed unnamed D.name D.parts D.book D.root D.workers }
+    requires prior { D.prior ≡ [] }
 {
     let (desk, mut passes) = start_desk::<D, R>(rt, alloc, unnamed);
     let mut pass = passes.pop().expect(rt, "a pass");

@@ -1,4 +1,5 @@
 //! The iteration count raised at a desk.
+ghost use Rattle.std.specs.Prelude.{◌≡◌, []};
 ghost use Rattle.chpw_book.specs.Starting.{IsNamed};
 
 use crate::desk::desks::{alice, change, close_desk, start_desk, table, verdict};
@@ -26,6 +27,7 @@ fn raised_at<D: DeskName, R: Wait + Abort>(
     opened: Opened,
 )
     requires name { IsNamed unnamed D.name D.parts D.book D.root D.workers }
+    requires prior { D.prior ≡ [] }
 {
     let (desk, mut passes) = start_desk::<D, R>(rt, alloc, unnamed);
     let mut second = passes.pop().expect(rt, "a pass");

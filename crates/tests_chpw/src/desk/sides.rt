@@ -1,4 +1,5 @@
 //! Workers side by side, and desks side by side.
+ghost use Rattle.std.specs.Prelude.{◌≡◌, []};
 ghost use Rattle.chpw_book.specs.Starting.{IsNamed};
 
 use crate::desk::desks::{change, close_desk, shown_of_alice, start_desk, table, verdict};
@@ -26,6 +27,7 @@ fn all_at<D: DeskName + Send + Sync, R: Threads + Wait + Abort + Sync>(
     unnamed: UnnamedDesk,
 )
     requires name { IsNamed unnamed D.name D.parts D.book D.root D.workers }
+    requires prior { D.prior ≡ [] }
 {
     let (desk, mut passes) = start_desk::<D, R>(rt, alloc, unnamed);
     let shared = &desk;
@@ -115,7 +117,9 @@ fn both_at<D: DeskName, E: DeskName, R: Wait + Abort>(
     opened: Opened,
 )
     requires one { IsNamed unnamed.0 D.name D.parts D.book D.root D.workers }
+    requires prior { D.prior ≡ [] }
     requires two { IsNamed unnamed.1 E.name E.parts E.book E.root E.workers }
+    requires empty { E.prior ≡ [] }
 {
     let (one, two) = unnamed;
     changed_at::<D, R>(rt, alloc, one, opened);
@@ -129,6 +133,7 @@ fn changed_at<D: DeskName, R: Wait + Abort>(
     opened: Opened,
 )
     requires name { IsNamed unnamed D.name D.parts D.book D.root D.workers }
+    requires prior { D.prior ≡ [] }
 {
     let (desk, mut passes) = start_desk::<D, R>(rt, alloc, unnamed);
     let mut pass = passes.pop().expect(rt, "a pass");
@@ -140,6 +145,7 @@ fn changed_at<D: DeskName, R: Wait + Abort>(
 
 fn unchanged_at<D: DeskName, R: Wait + Abort>(rt: &R, alloc: Global, unnamed: UnnamedDesk)
     requires name { IsNamed unnamed D.name D.parts D.book D.root D.workers }
+    requires prior { D.prior ≡ [] }
 {
     let (desk, mut passes) = start_desk::<D, R>(rt, alloc, unnamed);
     let mut pass = passes.pop().expect(rt, "a pass");

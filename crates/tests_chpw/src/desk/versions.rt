@@ -1,4 +1,5 @@
 //! What lookups show beside the lock.
+ghost use Rattle.std.specs.Prelude.{◌≡◌, []};
 ghost use Rattle.chpw_book.specs.Starting.{IsNamed};
 
 use crate::desk::desks::{change, close_desk, name, shown_of_alice, start_desk, table, verdict};
@@ -33,6 +34,7 @@ fn three_at<D: DeskName, R: Wait + Abort>(
     opened: Opened,
 )
     requires name { IsNamed unnamed D.name D.parts D.book D.root D.workers }
+    requires prior { D.prior ≡ [] }
 {
     let (desk, mut passes) = start_desk::<D, R>(rt, alloc, unnamed);
     let mut third = passes.pop().expect(rt, "a pass");
@@ -79,6 +81,7 @@ fn worker_at<D: DeskName, R: Wait + Abort>(
     opened: Opened,
 )
     requires name { IsNamed unnamed D.name D.parts D.book D.root D.workers }
+    requires prior { D.prior ≡ [] }
 {
     let (desk, mut passes) = start_desk::<D, R>(rt, alloc, unnamed);
     let mut pass = passes.pop().expect(rt, "a pass");
@@ -119,6 +122,7 @@ fn all_at<D: DeskName + Send + Sync, R: Threads + Wait + Abort + Sync>(
     unnamed: UnnamedDesk,
 )
     requires name { IsNamed unnamed D.name D.parts D.book D.root D.workers }
+    requires prior { D.prior ≡ [] }
 {
     let (desk, mut passes) = start_desk::<D, R>(rt, alloc, unnamed);
     let shared = &desk;

@@ -1,5 +1,5 @@
 //! Answers at a desk: one message of two workers, and a history that is full.
-ghost use Rattle.std.specs.Prelude.{◌≡◌};
+ghost use Rattle.std.specs.Prelude.{◌≡◌, []};
 ghost use Rattle.chpw_book.specs.Starting.{IsNamed, workers_of};
 
 use crate::serving::gates::Together;
@@ -70,6 +70,7 @@ pub fn start_desk<D: DeskName, R: Wait + Abort>(
     unnamed: UnnamedDesk,
 ) -> (Desk<D, MemorySink>, Vec<Pass<D>>)
     requires name { IsNamed unnamed D.name D.parts D.book D.root D.workers }
+    requires prior { D.prior ≡ [] }
 {
     let sink = MemorySink::new(alloc, ROOM).ok().expect(rt, "memory");
     Desk::<D, MemorySink>::start(rt, alloc, unnamed, sink)
@@ -86,6 +87,7 @@ pub fn start_failing_desk<D: DeskName, R: Wait + Abort>(
     taken: usize,
 ) -> (Desk<D, MemorySink>, Vec<Pass<D>>)
     requires name { IsNamed unnamed D.name D.parts D.book D.root D.workers }
+    requires prior { D.prior ≡ [] }
 {
     let mut sink = MemorySink::new(alloc, ROOM).ok().expect(rt, "memory");
     sink.fail_at(append, taken);
@@ -159,6 +161,7 @@ fn two_at<D: DeskName + Send + Sync, R: Threads + Wait + Abort + Sync>(
     sent: &Sent,
 )
     requires name { IsNamed unnamed D.name D.parts D.book D.root D.workers }
+    requires prior { D.prior ≡ [] }
     requires workers { workers_of unnamed ≡ 2 }
 {
     let (desk, mut passes) = start_desk::<D, R>(rt, alloc, unnamed);
@@ -284,6 +287,7 @@ fn break_second<D: DeskName, R: Wait + Abort>(
     requests: [&Sent; 2],
 )
     requires name { IsNamed unnamed D.name D.parts D.book D.root D.workers }
+    requires prior { D.prior ≡ [] }
 {
     let (desk, mut passes) = start_failing_desk::<D, R>(rt, alloc, unnamed, 2, 0);
     expect_broken(rt, alloc, service, &desk, &mut passes, requests);
@@ -343,6 +347,7 @@ fn fill<D: DeskName, R: Wait + Abort>(
     requests: [&Sent; 2],
 )
     requires name { IsNamed unnamed D.name D.parts D.book D.root D.workers }
+    requires prior { D.prior ≡ [] }
     requires workers { workers_of unnamed ≡ 1 }
 {
     let (desk, mut passes) = start_desk::<D, R>(rt, alloc, unnamed);

@@ -1,5 +1,5 @@
 //! The iteration count raised while a worker holds an opened message.
-ghost use Rattle.std.specs.Prelude.{◌≡◌};
+ghost use Rattle.std.specs.Prelude.{◌≡◌, []};
 ghost use Rattle.chpw_book.specs.Starting.{IsNamed, workers_of};
 
 use crate::serving::answers::{
@@ -78,6 +78,7 @@ fn raised_at<D: DeskName, R: Wait + Abort>(
     sent: &Sent,
 )
     requires name { IsNamed unnamed D.name D.parts D.book D.root D.workers }
+    requires prior { D.prior ≡ [] }
     requires workers { workers_of unnamed ≡ 2 }
 {
     let (desk, mut passes) = start_desk::<D, R>(rt, alloc, unnamed);
@@ -261,6 +262,7 @@ fn overtaken_at<D: DeskName, R: Wait + Abort>(
     tried: Tried,
 )
     requires name { IsNamed unnamed D.name D.parts D.book D.root D.workers }
+    requires prior { D.prior ≡ [] }
     requires workers { workers_of unnamed ≡ 2 }
 {
     let (desk, mut passes) = start_desk::<D, R>(rt, alloc, unnamed);
@@ -325,6 +327,7 @@ fn broken_at<D: DeskName, R: Wait + Abort>(
     taken: usize,
 )
     requires name { IsNamed unnamed D.name D.parts D.book D.root D.workers }
+    requires prior { D.prior ≡ [] }
 {
     let (desk, mut passes) = start_failing_desk::<D, R>(rt, alloc, unnamed, 1, taken);
     raise_in_vain(rt, alloc, service, &desk, &mut passes, sent);

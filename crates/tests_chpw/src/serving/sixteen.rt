@@ -1,5 +1,5 @@
 //! One message of sixteen workers.
-ghost use Rattle.std.specs.Prelude.{◌≡◌, ◌<◌};
+ghost use Rattle.std.specs.Prelude.{◌≡◌, ◌<◌, []};
 ghost use Rattle.chpw_book.specs.Starting.{IsNamed, workers_of};
 
 use crate::serving::answers::{NOW, REPLAYED, expect_closed, printed_answer, start_desk};
@@ -33,6 +33,7 @@ fn all_at<D: DeskName + Send + Sync, R: Threads + Wait + Abort + Sync>(
     sent: &Sent,
 )
     requires name { IsNamed unnamed D.name D.parts D.book D.root D.workers }
+    requires prior { D.prior ≡ [] }
     requires workers { workers_of unnamed ≡ 16 }
 {
     let (desk, mut passes) = start_desk::<D, R>(rt, alloc, unnamed);

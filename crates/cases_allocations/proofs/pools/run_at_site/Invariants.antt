@@ -1,8 +1,9 @@
+use Rattle.std.specs.Prelude.{[]}
 use Rattle.chpw_book.specs.Starting.{ledger_name, ledger_parts, list_book, list_root, workers_of}
 use Rattle.cases_allocations.proofs.pools.run_at_site.Given as goal
 
 abbrev pub ghosts-at-D-DeskName : goal.ghosts-at-D-DeskName
-ghosts-at-D-DeskName g a = record { workers = workers_of a.unnamed }
+ghosts-at-D-DeskName g a = record { workers = workers_of a.unnamed; prior = [] }
 
 abbrev pub ghosts-at-D-Ledger : goal.ghosts-at-D-Ledger
 ghosts-at-D-Ledger g a = record { name = ledger_name a.unnamed; parts = ledger_parts a.unnamed }

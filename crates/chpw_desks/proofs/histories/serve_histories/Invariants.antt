@@ -1,4 +1,4 @@
-use Rattle.std.proofs.Common.{◌≡◌, IfSome, length}
+use Rattle.std.proofs.Common.{[], ◌≡◌, IfSome, length}
 use Rattle.chpw_changelog.specs.Pens.{opening_table}
 use Rattle.chpw_book.specs.Starting.{ledger_name, ledger_parts, list_book, list_root, workers_of}
 use Rattle.chpw_desks.specs.Orders.{IsDueBy}
@@ -6,7 +6,7 @@ use Rattle.chpw_desks.specs.ServiceRuns.{IsRun, between}
 use Rattle.chpw_desks.proofs.histories.serve_histories.Given as goal
 
 abbrev pub ghosts-serve_history-D-DeskName : goal.ghosts-serve_history-D-DeskName
-ghosts-serve_history-D-DeskName g a = record { workers = workers_of a.opening.unnamed }
+ghosts-serve_history-D-DeskName g a = record { workers = workers_of a.opening.unnamed; prior = [] }
 
 abbrev pub ghosts-serve_history-D-Ledger : goal.ghosts-serve_history-D-Ledger
 ghosts-serve_history-D-Ledger g a = record { name = ledger_name a.opening.unnamed; parts = ledger_parts a.opening.unnamed }

@@ -14,13 +14,13 @@ returns-then-is_full-clause-served g c =
     let before = c.args.workers.items in
     let after = c.close_desk-left.result.workers.items in
     IfOk-weaker c.close_desk-left.result.closed _ (λ x. IsServed journal rules opening opened.passes.items before after x.history.items x.table)
-    (λ x h. served_at journal rules opening g.D.DeskName.workers opened.passes.items before after x.history.items x.table opened.in_order h)
+    (λ x h. served_at journal rules opening g.D.DeskName.workers opened.passes.items before after x.history.items x.table g.D.DeskName.prior opened.in_order h)
     c.close_desk-left.ensures.served
 
 pub returns-then-is_full-clause-refused : goal.returns-then-is_full-clause-refused
 returns-then-is_full-clause-refused g c =
     IfErr-weaker c.close_desk-left.result.closed _ (λ r. IsMismatch (opening_state g.D.LogName.root) g.D.DeskName.workers r.passes.items)
-    (λ r h. record { recorded = h.0; linearized = h.1; fault = r.fault; refusal = h.2 }) c.close_desk-left.ensures.refusal
+    (λ r h. record { recorded = h.0; prior = g.D.DeskName.prior; linearized = h.1; fault = r.fault; refusal = h.2 }) c.close_desk-left.ensures.refusal
 
 pub returns-clause-served : goal.returns-clause-served
 returns-clause-served g c =
@@ -31,10 +31,10 @@ returns-clause-served g c =
     let before = c.args.workers.items in
     let after = c.serve_desk.result.0.workers.items in
     IfOk-weaker c.serve_desk.result.0.closed _ (λ x. IsServed journal rules opening opened.passes.items before after x.history.items x.table)
-    (λ x h. served_at journal rules opening g.D.DeskName.workers opened.passes.items before after x.history.items x.table opened.in_order h)
+    (λ x h. served_at journal rules opening g.D.DeskName.workers opened.passes.items before after x.history.items x.table g.D.DeskName.prior opened.in_order h)
     c.serve_desk.ensures.served
 
 pub returns-clause-refused : goal.returns-clause-refused
 returns-clause-refused g c =
     IfErr-weaker c.serve_desk.result.0.closed _ (λ r. IsMismatch (opening_state g.D.LogName.root) g.D.DeskName.workers r.passes.items)
-    (λ r h. record { recorded = h.0; linearized = h.1; fault = r.fault; refusal = h.2 }) c.serve_desk.ensures.refusal
+    (λ r h. record { recorded = h.0; prior = g.D.DeskName.prior; linearized = h.1; fault = r.fault; refusal = h.2 }) c.serve_desk.ensures.refusal

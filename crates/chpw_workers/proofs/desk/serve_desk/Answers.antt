@@ -11,14 +11,14 @@ returns-clause-served g c =
     let close = c.close-closed.ensures in
     served_if_closed g.C.Clock.gives g.X.Words.gives g.I.Inbox.turns (g.M.Messages.error_frame service) (g.M.Messages.private_frame service)
     (g.M.Messages.opens service) g.J.JournalEnd.ends c.args.context.now.journal.now g.D.DeskName.workers c.close-closed.result
-    (λ a. a.history.items) (λ a. a.table) (λ a. g.S.JournalSink.told a.sink) (opening_state g.D.LogName.root)
+    (λ a. a.history.items) (λ a. a.table) (λ a. g.S.JournalSink.told a.sink) g.D.DeskName.prior (opening_state g.D.LogName.root)
     c.args.staff.passes.items c.args.staff.workers.items staff.passes.items staff.workers.items
     c.requires.passes c.run_shift-staff.ensures.shifts close.whole close.legal close.brings close.numbered close.told
 
 pub returns-clause-refusal : goal.returns-clause-refusal
 returns-clause-refusal g c =
     if_given_back c.close-closed.result (λ r. r.passes.items) c.run_shift-staff.result.staff.passes.items
-    (λ r qs. (b : _) × IsLinearized (opening_state g.D.LogName.root) g.D.DeskName.workers b
+    (λ r qs. (b : _) × IsLinearized (opening_state g.D.LogName.root) g.D.DeskName.workers g.D.DeskName.prior b
     × IsRefusal b.history (is_full b.table) g.D.DeskName.workers qs r.fault) c.close-closed.ensures.refusal c.close-closed.ensures.back
 
 pub returns-clause-turns : goal.returns-clause-turns

@@ -9,25 +9,25 @@ use Rattle.chpw_book.proofs.book.Book.decide.Goals as goal
 
 pub tell-requires-clause-room : goal.tell-requires-clause-room
 tell-requires-clause-room g c =
-    list_room (opening_state g.D.LogName.root) g.D.DeskName.workers c.self.inside.recorded c.decide.new.self _
+    list_room (opening_state g.D.LogName.root) g.D.DeskName.workers g.D.DeskName.prior c.self.inside.recorded c.decide.new.self _
     _ c.has.new.self _ _ _ (rw c.has.ensures.same c.self.invariant) c.in_ok-verdict.ensures.recorded
 
 pub tell-requires-clause-accepted : goal.tell-requires-clause-accepted
 tell-requires-clause-accepted g c done =
-    accepted_next (opening_state g.D.LogName.root) g.D.DeskName.workers c.self.inside.recorded c.decide.new.self _
+    accepted_next (opening_state g.D.LogName.root) g.D.DeskName.workers g.D.DeskName.prior c.self.inside.recorded c.decide.new.self _
     _ c.has.new.self _ _ _ (rw c.has.ensures.same c.self.invariant) c.in_ok-verdict.ensures.recorded done
 
 pub invariant_of-self-2 : goal.invariant_of-self-2
 invariant_of-self-2 g c =
     rw c.tell.ensures.snapshots (published_next (opening_state g.D.LogName.root)
-    g.D.DeskName.workers c.self.inside.recorded c.decide.new.self _ _ c.has.new.self _ _ _
+    g.D.DeskName.workers g.D.DeskName.prior c.self.inside.recorded c.decide.new.self _ _ c.has.new.self _ _ _
     (rw c.has.ensures.same c.self.invariant) c.in_ok-verdict.ensures.recorded)
 
 pub returns-clause-adds : goal.returns-clause-adds
 unfolding invariant_of-self-2
 returns-clause-adds g c =
     let begins : IsPrefix c.args.pass.now.place.told c.has.new.self.list = search rules in
-    rw (← c.self.view_is) (adds_next (opening_state g.D.LogName.root) g.D.DeskName.workers c.self.inside.recorded
+    rw (← c.self.view_is) (adds_next (opening_state g.D.LogName.root) g.D.DeskName.workers g.D.DeskName.prior c.self.inside.recorded
     c.decide.new.self _ _ c.tell.new.pass c.has.new.self _ c.tell.new.snapshots _ _ (rw c.has.ensures.same c.self.invariant)
     c.in_ok-verdict.ensures.recorded (invariant_of-self-2 g c) begins c.tell.ensures.pass)
 
@@ -35,6 +35,6 @@ pub returns-in_err-verdict-clause-asks : goal.returns-in_err-verdict-clause-asks
 returns-in_err-verdict-clause-asks g c =
     let b : RecordedView = c.self.inside.recorded in
     let asks = asks_of_first (opening_state g.D.LogName.root)
-    g.D.DeskName.workers b c.args.now c.args.opened c.in_err-verdict.field-0.0.fault c.decide.ensures.linearized
+    g.D.DeskName.workers g.D.DeskName.prior b c.args.now c.args.opened c.in_err-verdict.field-0.0.fault c.decide.ensures.linearized
     (c.in_err-verdict.ensures.refused.first b.table.state (agrees_itself b.table.state)) in
     search (rules, asks)

@@ -6,18 +6,18 @@ use Rattle.chpw_book.proofs.book.Book.raise.Goals as goal
 
 pub tell_raise-requires-clause-room : goal.tell_raise-requires-clause-room
 tell_raise-requires-clause-room g c =
-    list_room (opening_state g.D.LogName.root) g.D.DeskName.workers c.self.inside.recorded c.raise.new.self _
+    list_room (opening_state g.D.LogName.root) g.D.DeskName.workers g.D.DeskName.prior c.self.inside.recorded c.raise.new.self _
     _ c.has.new.self _ _ _ (rw c.has.ensures.same c.self.invariant) c.in_ok-verdict.ensures.recorded
 
 pub tell_raise-requires-clause-accepted : goal.tell_raise-requires-clause-accepted
 tell_raise-requires-clause-accepted g c done =
-    accepted_next (opening_state g.D.LogName.root) g.D.DeskName.workers c.self.inside.recorded c.raise.new.self _
+    accepted_next (opening_state g.D.LogName.root) g.D.DeskName.workers g.D.DeskName.prior c.self.inside.recorded c.raise.new.self _
     _ c.has.new.self _ _ _ (rw c.has.ensures.same c.self.invariant) c.in_ok-verdict.ensures.recorded done
 
 pub invariant_of-self-2 : goal.invariant_of-self-2
 invariant_of-self-2 g c =
     rw c.tell_raise.ensures.snapshots (published_next (opening_state g.D.LogName.root)
-    g.D.DeskName.workers c.self.inside.recorded c.raise.new.self _ _ c.has.new.self _ _ _
+    g.D.DeskName.workers g.D.DeskName.prior c.self.inside.recorded c.raise.new.self _ _ c.has.new.self _ _ _
     (rw c.has.ensures.same c.self.invariant) c.in_ok-verdict.ensures.recorded)
 
 pub returns-clause-adds : goal.returns-clause-adds
@@ -25,6 +25,6 @@ unfolding invariant_of-self-2
 returns-clause-adds g c =
     let begins : IsPrefix c.args.pass.now.place.told c.has.new.self.list = search rules in
     rw (← c.self.view_is)
-    (adds_next (opening_state g.D.LogName.root) g.D.DeskName.workers c.self.inside.recorded c.raise.new.self _
+    (adds_next (opening_state g.D.LogName.root) g.D.DeskName.workers g.D.DeskName.prior c.self.inside.recorded c.raise.new.self _
     _ c.tell_raise.new.pass c.has.new.self _ c.tell_raise.new.snapshots _ _ (rw c.has.ensures.same c.self.invariant)
     c.in_ok-verdict.ensures.recorded (invariant_of-self-2 g c) begins c.tell_raise.ensures.pass)

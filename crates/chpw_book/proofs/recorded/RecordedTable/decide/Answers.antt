@@ -83,7 +83,7 @@ invariant_of-self-2 g c =
       total = c.self.inside.history.totals.total;
       told = g.S.JournalSink.told c.self.inside.sink;
     } in
-    let kept : IsLinearized opening g.D.DeskName.workers b = c.self.invariant.0 in
+    let kept : IsLinearized opening g.D.DeskName.workers g.D.DeskName.prior b = c.self.invariant.0 in
     let made = c.finish-verdict.result in
     let w = c.pass.inside.calls.worker in
     let below : w < length b.counts = let all = kept.all in let mine = c.pass.invariant.2 in omega (arith, all, mine) in
@@ -96,7 +96,7 @@ invariant_of-self-2 g c =
     rw (← c.in-Ok.ensures.same.0, ← steps.opened) c.add.ensures.entry in
     let newest : is_done made.verdict ≡ true → NewestIsWhole (keys_held c.finish-verdict.new.self.state (target_of c.args.opened).name) =
     rw (← steps.opened) c.read_newest.ensures.whole in (
-      kept_step opening g.D.DeskName.workers b w c.args.now c.args.opened made c.finish-verdict.new.self
+      kept_step opening g.D.DeskName.workers g.D.DeskName.prior b w c.args.now c.args.opened made c.finish-verdict.new.self
           c.add.new.self.entries.items c.add.new.self.counts.items c.add.new.self.changes c.add.new.self.totals.total
           (g.S.JournalSink.told c.finish-verdict.new.sink) kept steps writes.tells newest
           below pushed c.add.ensures.counts c.add.ensures.changes c.add.ensures.total,
@@ -127,10 +127,10 @@ returns-clause-recorded g c =
     let pushed : c.add.new.self.entries.items ≡ b.history ++ e ∷ [] = rw (← c.in-Ok.ensures.same.0, ← steps.opened) c.add.ensures.entry in
     let mine : c.add.new.calls.receipts.items ≡ c.pass.inside.calls.receipts.items ++ receipt_of b.history e ∷ [] =
     rw (← c.in-Ok.ensures.same.0, ← c.in-Ok.ensures.same.1, ← steps.opened) c.add.ensures.receipt in
-    let later : IsLinearized opening g.D.DeskName.workers _ = (invariant_of-self-2 g c).0 in
+    let later : IsLinearized opening g.D.DeskName.workers g.D.DeskName.prior _ = (invariant_of-self-2 g c).0 in
     let few : length c.add.new.self.entries.items < 2147483648 =
     let room = later.room in let most : t.events ≤ 1048576 = steps.few in omega (arith, room, most) in
-    let kept : IsLinearized opening g.D.DeskName.workers b = c.self.invariant.0 in
+    let kept : IsLinearized opening g.D.DeskName.workers g.D.DeskName.prior b = c.self.invariant.0 in
     let below : w < length b.counts = let all = kept.all in let own = c.pass.invariant.2 in omega (arith, all, own) in
     let number : slice_index b.counts w + 1 ≡ e.number = ap (λ (n : ℕ). n + 1) (kept.counted.counts_are w below) in
     let prepared = c.in_ok-prepared.prepared in

@@ -79,7 +79,7 @@ invariant_of-self-2 g c =
       total = c.self.inside.history.totals.total;
       told = g.S.JournalSink.told c.self.inside.sink;
     } in
-    let kept : IsLinearized opening g.D.DeskName.workers b = c.self.invariant.0 in
+    let kept : IsLinearized opening g.D.DeskName.workers g.D.DeskName.prior b = c.self.invariant.0 in
     let s : State = outcome opening b.history in
     let made = c.in-Ok.raise in
     let w = c.pass.inside.calls.worker in
@@ -87,7 +87,7 @@ invariant_of-self-2 g c =
     let pushed : c.add.new.self.entries.items
     ≡ b.history ++ next_entry b.history w c.args.now made.io_failed (Raise c.args.count made.verdict) ∷ [] =
     rw (← c.make_room.ensures.same.0) c.add.ensures.entry in (
-      kept_event opening g.D.DeskName.workers b w c.args.now made.io_failed (Raise c.args.count made.verdict)
+      kept_event opening g.D.DeskName.workers g.D.DeskName.prior b w c.args.now made.io_failed (Raise c.args.count made.verdict)
           c.raise.new.self c.add.new.self.entries.items c.add.new.self.counts.items
           c.add.new.self.changes c.add.new.self.totals.total (g.S.JournalSink.told c.raise.new.sink) kept
           (c.in-Ok.ensures.legal s kept.agrees) (c.in-Ok.ensures.step s kept.agrees)
@@ -117,10 +117,10 @@ returns-clause-recorded g c =
     let pushed : c.add.new.self.entries.items ≡ b.history ++ e ∷ [] = rw (← c.make_room.ensures.same.0) c.add.ensures.entry in
     let mine : c.add.new.calls.receipts.items ≡ c.pass.inside.calls.receipts.items ++ receipt_of b.history e ∷ [] =
     rw (← c.make_room.ensures.same.0, ← c.make_room.ensures.same.1) c.add.ensures.receipt in
-    let later : IsLinearized opening g.D.DeskName.workers _ = (invariant_of-self-2 g c).0 in
+    let later : IsLinearized opening g.D.DeskName.workers g.D.DeskName.prior _ = (invariant_of-self-2 g c).0 in
     let few : length c.add.new.self.entries.items < 2147483648 =
     let room = later.room in let most : t.events ≤ 1048576 = c.in-Ok.ensures.few in omega (arith, room, most) in
-    let kept : IsLinearized opening g.D.DeskName.workers b = c.self.invariant.0 in
+    let kept : IsLinearized opening g.D.DeskName.workers g.D.DeskName.prior b = c.self.invariant.0 in
     let below : w < length b.counts = let all = kept.all in let own = c.pass.invariant.2 in omega (arith, all, own) in
     let number : slice_index b.counts w + 1 ≡ e.number = ap (λ (n : ℕ). n + 1) (kept.counted.counts_are w below) in
     let waits : c.make_room.new.snapshots

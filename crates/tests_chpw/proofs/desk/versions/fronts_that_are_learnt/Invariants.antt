@@ -1,8 +1,9 @@
+use Rattle.std.specs.Prelude.{[]}
 use Rattle.chpw_book.specs.Starting.{ledger_name, ledger_parts, list_book, list_root, workers_of}
 use Rattle.tests_chpw.proofs.desk.versions.fronts_that_are_learnt.Given as goal
 
 abbrev pub ghosts-three_at-D-DeskName : goal.ghosts-three_at-D-DeskName
-ghosts-three_at-D-DeskName g a = record { workers = workers_of a.unnamed }
+ghosts-three_at-D-DeskName g a = record { workers = workers_of a.unnamed; prior = [] }
 
 abbrev pub ghosts-three_at-D-Ledger : goal.ghosts-three_at-D-Ledger
 ghosts-three_at-D-Ledger g a = record { name = ledger_name a.unnamed; parts = ledger_parts a.unnamed }
