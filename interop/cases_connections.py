@@ -1,12 +1,13 @@
 #!/usr/bin/env python3
-"""What `cases_connections` must print, worked out with nothing of ours: of the cases on standard input the answers.
+"""What `cases_network` must print below `[connections]`, worked out with nothing of ours: of the cases there, on standard input, the
+answers.
 
-    python3 interop/cases_connections.py < crates/cases_connections/stdin > crates/cases_connections/stdout
+    python3 interop/cases_connections.py < crates/cases_network/stdin
 
 A naive model of the machine of connections, by crates/chpw_connections/README.md and its specs: a list of connections,
-each a small object, and a plain list for each worker's queue. crates/cases_connections/README.md has the cases.
+each a small object, and a plain list for each worker's queue. crates/cases_network/README.md has the cases.
 """
-from command import answer_lines
+from topic import answer_lines
 
 LONGEST = 65535
 REPLIES = 65536
@@ -439,4 +440,4 @@ class Cases:
         return f"{text}; ended {slots_text(others)}" if others else text
 
 
-answer_lines(__doc__, Cases().answer)
+answer_lines(__doc__, "connections", Cases().answer)

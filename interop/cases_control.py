@@ -1,13 +1,14 @@
 #!/usr/bin/env python3
-"""What `cases_control` must print, worked out with nothing of ours: of the cases on standard input the answers.
+"""What `cases_network` must print below `[control]`, worked out with nothing of ours: of the cases there, on standard input, the
+answers.
 
-    python3 interop/cases_control.py < crates/cases_control/stdin > crates/cases_control/stdout
+    python3 interop/cases_control.py < crates/cases_network/stdin
 
 The commands, faults and lines are docs/PROTOCOL.md's and docs/ADMIN.md's, the times datetime's.
 """
 import datetime
 
-from command import answer_lines
+from topic import answer_lines
 
 COMMANDS = {b"status": "Status", b"reload": "Reload", b"reopen-log": "ReopenLog", b"stop": "Stop"}
 
@@ -99,4 +100,4 @@ def answer(case):
     return " ".join(["at"] + [str(n) for n in range(len(text) + 1) if is_done(text[:n])])
 
 
-answer_lines(__doc__, answer)
+answer_lines(__doc__, "control", answer)

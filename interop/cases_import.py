@@ -1,8 +1,8 @@
 #!/usr/bin/env python3
-"""What `cases_import` must print, worked out with nothing of ours but AES (changepw_client.py): of the cases on standard input
-the answers.
+"""What `cases_service` must print below `[import]`, worked out with nothing of ours but AES (changepw_client.py): of the cases
+there, on standard input, the answers.
 
-    python3 interop/cases_import.py < crates/cases_import/stdin > crates/cases_import/stdout
+    python3 interop/cases_import.py < crates/cases_service/stdin
 
 The layout is that of MIT's keytabs, format 0x0502; which keys a configuration can have, and in which order they stand, says
 docs/PROTOCOL.md.
@@ -12,7 +12,7 @@ import struct
 
 from changed_bytes import census
 from changepw_client import string_to_key
-from command import answer_lines
+from topic import answer_lines
 
 SERVICE = (b"kadmin", b"changepw")
 LENGTHS = {18: 32, 17: 16}
@@ -246,4 +246,4 @@ def answer(case):
     return password(words[0], words[1], int(words[2]), int(words[3]), octets)
 
 
-answer_lines(__doc__, answer)
+answer_lines(__doc__, "import", answer)

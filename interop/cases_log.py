@@ -1,7 +1,8 @@
 #!/usr/bin/env python3
-"""What `cases_log` must print, worked out with nothing of ours: of the cases on standard input the answers.
+"""What `cases_network` must print below `[log]`, worked out with nothing of ours: of the cases there, on standard input, the
+answers.
 
-    python3 interop/cases_log.py < crates/cases_log/stdin > crates/cases_log/stdout
+    python3 interop/cases_log.py < crates/cases_network/stdin
 
 The codes, errors and texts are docs/PROTOCOL.md's, the times datetime's, the addresses ipaddress's.
 """
@@ -9,7 +10,7 @@ import datetime
 import ipaddress
 import string
 
-from command import answer_lines
+from topic import answer_lines
 
 # the rows of the decision (docs/PROTOCOL.md): code, error, text
 ROWS = {
@@ -145,4 +146,4 @@ def answer(case):
             f"code {code} error {error} kvno {kvno} text {text}")
 
 
-answer_lines(__doc__, answer)
+answer_lines(__doc__, "log", answer)

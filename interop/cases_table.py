@@ -1,7 +1,8 @@
 """What `table` prints of a configuration and a journal: worked out from docs/PROTOCOL.md and docs/ADMIN.md, with Python's own
-library alone. Of the cases of `cases_table` on standard input it prints the answers.
+library alone. Of the cases of `cases_journal` below `[table]`, on standard input, it prints
+the answers.
 
-    python3 interop/cases_table.py < crates/cases_table/stdin > crates/cases_table/stdout
+    python3 interop/cases_table.py < crates/cases_journal/stdin
 """
 
 import dataclasses
@@ -11,6 +12,7 @@ import tomllib
 from changed_bytes import census
 from command import Parser
 from journal import RAISE
+from topic import lines_of
 
 COUNTS = range(1, 16_777_217)
 CHANGE = 1
@@ -310,8 +312,9 @@ def made_answer(case):
 
 def main():
     Parser(__doc__, None, "a case can't be read").parse_args()
-    comment, *blocks = sys.stdin.read().split("\n== ")
-    print(comment)
+    text = "".join(f"{line}\n" for line in lines_of(sys.stdin.read(), "table"))
+    comment, *blocks = text.split("\n== ")
+    print(f"[table]\n{comment}")
     for block in blocks:
         title, body = block.split("\n", 1)
         print(f"== {title}")

@@ -2,7 +2,7 @@
 the rules of DER (X.690), with Python's own library alone. Nothing is deciphered: a sealed text opens where it is the one that
 the client made, and no other does.
 
-    python3 interop/changed_bytes.py stream      # answers of crates/cases_stream, by the line
+    python3 interop/changed_bytes.py stream      # answers of crates/cases_service, by the line
     python3 interop/changed_bytes.py journal     # answers of crates/cases_journal
 """
 
@@ -153,7 +153,7 @@ def krb_priv(text):
     return pvno, kind, part
 
 
-# The service of crates/cases_stream: its key has etype 18 and kvno 3. Session key and subkey have etype 18.
+# The service of crates/cases_service: its key has etype 18 and kvno 3. Session key and subkey have etype 18.
 
 
 def ap_fault(text, sealed):

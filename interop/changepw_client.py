@@ -5,7 +5,7 @@ Realm EXAMPLE.COM; the service's key of etype 18 and kvno 3 is 32 bytes 5a, the 
 the subkey 32 bytes 44, each confounder of a request 16 bytes 01, both addresses 127.0.0.1. Encryption is that of
 RFC 3962, the messages are those of RFC 4120 section 5.
 
-    python3 interop/changepw_client.py        # the messages of crates/cases_stream, a line each
+    python3 interop/changepw_client.py        # the messages of crates/cases_service, a line each
 """
 
 import hashlib

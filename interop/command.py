@@ -53,10 +53,3 @@ class Parser(argparse.ArgumentParser):
 
     def add_keep(self):
         self.add_argument("--keep", action="store_true", help="leave the folder with the realm's files and logs")
-
-
-def answer_lines(text, answer):
-    """A script that answers cases: of each line on standard input the answer, of an empty one or a comment the line."""
-    Parser(text, None, "a case can't be read").parse_args()
-    for line in sys.stdin.read().split("\n")[:-1]:
-        print(line if line == "" or line.startswith("#") else answer(line))

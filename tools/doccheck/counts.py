@@ -2,6 +2,8 @@
 
 import re
 
+from topic import lines_of, parts_of
+
 from .tree import TOP
 
 CRATES = TOP / "crates"
@@ -40,15 +42,19 @@ def tests(crate):
     return sum(len(re.findall(r"^\s*#\[test\]", it.read_text(), re.MULTILINE)) for it in sources)
 
 
-def cases(crate):
-    """The lines of `stdin` that aren't empty and don't begin with `#`."""
-    text = (CRATES / crate / "stdin").read_text()
-    return sum(1 for line in text.splitlines() if line.strip() and not line.startswith("#"))
+def lines(crate, topic=""):
+    """The lines of `stdin` below a topic's heading; without a name, those before the first heading."""
+    return lines_of((CRATES / crate / "stdin").read_text(), topic)
+
+
+def cases(crate, topic=""):
+    """The lines that aren't empty and don't begin with `#`."""
+    return sum(1 for line in lines(crate, topic) if line.strip() and not line.startswith("#"))
 
 
 def beginning(word):
-    """Counts the lines of a crate's `stdin` that begin with a word."""
-    return lambda crate: len(re.findall(rf"^{word} ", (CRATES / crate / "stdin").read_text(), re.MULTILINE))
+    """Counts the lines of a topic that begin with a word."""
+    return lambda crate, topic: sum(1 for line in lines(crate, topic) if line.startswith(f"{word} "))
 
 
 def samples():
@@ -56,9 +62,12 @@ def samples():
 
 
 def answering():
-    """The programs that answer cases on standard input."""
+    """The programs that answer cases on standard input, each with its topics; without a name, where it has none."""
     names = (it.parent.name for it in CRATES.glob("*/stdout") if (it.parent / "stdin").is_file())
-    return [it for it in names if re.fullmatch(r"\w+_(cases|vectors)|cases_\w+", it)]
+    for name in names:
+        if re.fullmatch(r"\w+_(cases|vectors)|cases_\w+", name):
+            topics = parts_of((CRATES / name / "stdin").read_text())
+            yield from ((name, topic) for topic in topics if topic or len(topics) == 1)
 
 
 def scripts():
@@ -70,7 +79,7 @@ def check_whole(document, faults):
     """No program of cases, no crate of tests and no script of hostile/ is left out."""
     if document is None:
         return
-    wanted = [f"| `{it}` | " for it in answering()]
+    wanted = [f"| `{name}`: {topic} | " if topic else f"| `{name}` | " for name, topic in answering()]
     wanted += [f"| `{it.name}` (" for it in CRATES.iterdir() if tests(it.name)]
     wanted += [f"| `hostile/{it}` | " for it in scripts()]
     for row in wanted:
@@ -82,13 +91,23 @@ def of(count, *words):
     return lambda _: count(*words)
 
 
+def of_topic(count):
+    """A counter of what a program has of a topic."""
+    return lambda it: count(it["name"], it["topic"])
+
+
+# a program of cases and one of its topics, as docs/TESTS.md names them
+TOPIC = r"\| `(?P<name>\w+)`: (?P<topic>\w+)"
+
 # Of each document an expression and what counts the number that it finds under `n`. `name` is a crate's name, where the
-# expression has one. An expression that finds nothing in its document is a fault, so that no row is left without use.
+# expression has one, and `topic` one of its topics. An expression that finds nothing in its document is a fault, so that no
+# row is left without use.
 TABLE = [
     ("docs/TESTS.md", r"^\| `(?P<name>\w+)` \| (?P<n>\d+) \|", lambda it: cases(it["name"])),
-    ("docs/TESTS.md", r"^\| `(?P<name>\w+)` \| (?P<n>\d+) blocks \|", lambda it: beginning("==")(it["name"])),
-    ("docs/TESTS.md", r"^\| `(?P<name>\w+)` \| (?P<n>\d+), in \d+ scripts \|", lambda it: cases(it["name"])),
-    ("docs/TESTS.md", r"^\| `(?P<name>\w+)` \| \d+, in (?P<n>\d+) scripts \|", lambda it: beginning("start")(it["name"])),
+    ("docs/TESTS.md", rf"^{TOPIC} \| (?P<n>\d+) \|", of_topic(cases)),
+    ("docs/TESTS.md", rf"^{TOPIC} \| (?P<n>\d+) blocks \|", of_topic(beginning("=="))),
+    ("docs/TESTS.md", rf"^{TOPIC} \| (?P<n>\d+), in \d+ scripts \|", of_topic(cases)),
+    ("docs/TESTS.md", rf"^{TOPIC} \| \d+, in (?P<n>\d+) scripts \|", of_topic(beginning("start"))),
     ("docs/TESTS.md", r"^\| `(?P<name>\w+)` \((?P<n>\d+)\) \|", lambda it: tests(it["name"])),
     ("docs/TESTS.md", r"`must-fail/` has (?P<n>\d+)", of(must_fail)),
     ("docs/TESTS.md", r"`trials/` has (?P<n>\d+)", of(refused)),

@@ -1,146 +1,89 @@
-//! A journal's bytes, put together from pieces.
-use crate::refusal::Refusal;
-use chpw_rules::Name;
-use chpw_table::{KeyRow, raise_bytes, record_bytes};
+//! Cases of chpw_journal, a line each.
+//!
+//! A line is a journal, its pieces with commas between: it is restored onto a table of alice and bob/admin, who have a
+//! key of kvno 1 each. Before the pieces, and `: `, may stand what is done with them; a line that begins with `sink`
+//! has changes and raises, decided over a journal in memory, and one that begins with `disk` a file that takes bytes in
+//! this way. README.md lists the forms. A line that begins with `#`, or is empty, is copied.
+
+mod changed;
+mod compact;
+mod disk;
+mod failing;
+mod filed;
+mod pieces;
+mod realm;
+mod refusal;
+mod restoring;
+mod unsynced;
+
+use crate::journal::changed::show_changed;
+use crate::journal::compact::show_compact;
+use crate::journal::disk::show_appended;
+use crate::journal::failing::{show_decided, show_each_failed};
+use crate::journal::filed::show_filed;
+use crate::journal::refusal::Refusal;
+use crate::journal::restoring::{show_failing, show_read, show_restored};
 use std::alloc::Global;
+use std::fs::{File, Files};
+use std::io::{self, Error, ErrorKind};
+use support_cases::{Answers, Change};
 
-/// The journal with these pieces.
-pub fn journal_of(alloc: Global, pieces: &str) -> Result<Vec<u8>, Refusal> {
-    let mut journal = Vec::new(alloc);
-    match add_pieces(alloc, &mut journal, pieces) {
-        Ok(()) => Ok(journal),
-        Err(refusal) => Err(refusal),
-    }
-}
-
-fn add_pieces(alloc: Global, journal: &mut Vec<u8>, pieces: &str) -> Result<(), Refusal> {
-    for piece in pieces.split(',') {
-        add_piece(alloc, journal, piece.trim())?;
-    }
-    Ok(())
-}
-
-/// Adds a piece: `nothing`; `NAME KVNO`, the record of a change, or `raise COUNT`, that of a raise, followed by ` kind
-/// K` or ` length L` if that is another; `NAME KVNO to KVNO`, a record for each version; `first N of` before a record,
-/// of which only N bytes are there; `bytes DIGITS`, these bytes.
-fn add_piece(alloc: Global, journal: &mut Vec<u8>, piece: &str) -> Result<(), Refusal> {
-    if let Some((first, last)) = piece.split_once(" to ") {
-        return add_records(alloc, journal, first, last);
-    }
-    match piece.split_once(' ') {
-        None if piece == "nothing" => Ok(()),
-        None => Err(Refusal::NoSuchCase),
-        Some(("first", rest)) => add_front(alloc, journal, rest),
-        Some(("bytes", digits)) => add_bytes(alloc, journal, digits),
-        Some((what, rest)) => add_record(alloc, journal, what, rest),
-    }
-}
-
-/// Adds the bytes with these digits, two for each.
-fn add_bytes(alloc: Global, journal: &mut Vec<u8>, digits: &str) -> Result<(), Refusal> {
-    match hex::decode(alloc, digits) {
-        Ok(bytes) => journal.extend_from_slice(&bytes).map_err(Refusal::from),
-        Err(_) => Err(Refusal::NoSuchCase),
-    }
-}
-
-/// Adds the beginning of a record, `N of` and the record.
-fn add_front(alloc: Global, journal: &mut Vec<u8>, words: &str) -> Result<(), Refusal> {
-    let Some((count, record)) = words.split_once(" of ") else {
-        return Err(Refusal::NoSuchCase);
-    };
-    let end = journal.len().saturating_add(number(count)? as usize);
-    let Some((what, rest)) = record.split_once(' ') else {
-        return Err(Refusal::NoSuchCase);
-    };
-    add_record(alloc, journal, what, rest)?;
-    journal.truncate(end);
-    Ok(())
-}
-
-/// Adds a record for each version from `NAME KVNO` to the other one.
-fn add_records(
+/// Adds the answer to a case.
+fn show_answer<R: Files<File = File>>(
+    rt: &R,
     alloc: Global,
-    journal: &mut Vec<u8>,
-    first: &str,
-    last: &str,
+    text: &mut String,
+    line: &str,
 ) -> Result<(), Refusal> {
-    let Some((name, first)) = first.split_once(' ') else {
-        return Err(Refusal::NoSuchCase);
+    let Some((what, pieces)) = line.split_once(": ") else {
+        return show_restored(alloc, text, line);
     };
-    for kvno in number(first)?..=number(last)? {
-        add_plain_record(alloc, journal, name, kvno)?;
+    if let Some(change) = Change::of(what) {
+        return show_changed(alloc, text, change, pieces);
     }
-    Ok(())
-}
-
-/// Adds a record of `raise` or of a name, and of the words after it.
-fn add_record(alloc: Global, journal: &mut Vec<u8>, what: &str, rest: &str) -> Result<(), Refusal> {
-    let (figure, change) = rest.split_once(' ').unwrap_or((rest, ""));
-    let figure = number(figure)?;
-    let place = journal.len();
-    match what {
-        "raise" => journal.extend_from_slice(&raise_bytes(figure))?,
-        name => add_plain_record(alloc, journal, name, figure)?,
+    if what == "compact" {
+        return show_compact(alloc, text, pieces);
     }
-    match journal.as_mut_slice().get_mut(place..) {
-        Some(record) => change_record(record, change),
-        None => Err(Refusal::NoSuchCase),
+    match what.split_once(' ') {
+        Some((kind, how)) => show_case(rt, alloc, text, kind, how, pieces),
+        None => show_filed(rt, alloc, text, what, "", pieces),
     }
 }
 
-fn add_plain_record(
+/// Adds the answer to a case of this kind.
+fn show_case<R: Files<File = File>>(
+    rt: &R,
     alloc: Global,
-    journal: &mut Vec<u8>,
-    name: &str,
-    kvno: u32,
+    text: &mut String,
+    kind: &str,
+    how: &str,
+    pieces: &str,
 ) -> Result<(), Refusal> {
-    let record = plain_record(alloc, name, kvno)?;
-    journal.extend_from_slice(&record).map_err(Refusal::from)
+    match kind {
+        "appends" if how == "fail" => show_each_failed(alloc, text, pieces),
+        "failing" => show_failing(alloc, text, how, pieces),
+        "sink" => show_decided(alloc, text, how, pieces),
+        "disk" => show_appended(alloc, text, how, pieces),
+        "read" => show_read(alloc, text, how, pieces),
+        "append" => show_filed(rt, alloc, text, kind, how, pieces),
+        _ => Err(Refusal::NoSuchCase),
+    }
 }
 
-fn plain_record(alloc: Global, name: &str, kvno: u32) -> Result<Vec<u8>, Refusal> {
-    let Some(name) = Name::parse(alloc, name)? else {
-        return Err(Refusal::NoSuchCase);
-    };
-    if !name.fits() || kvno == 0 {
-        return Err(Refusal::NoSuchCase);
-    }
-    let key = KeyRow {
-        kvno,
-        count: 4096,
-        aes128: [0xa2; 16],
-        aes256: [0xa2; 32],
-    };
-    Ok(record_bytes(alloc, &name, &key)?)
+#[derive(Drop)]
+pub struct Cases<'a, R: Files<File = File>> {
+    pub rt: &'a R,
 }
 
-/// Gives a record another kind or another length field.
-fn change_record(record: &mut [u8], change: &str) -> Result<(), Refusal> {
-    if change.is_empty() {
-        return Ok(());
-    }
-    let Some((what, figure)) = change.split_once(' ') else {
-        return Err(Refusal::NoSuchCase);
-    };
-    let Ok(figure) = u16::try_from(number(figure)?) else {
-        return Err(Refusal::NoSuchCase);
-    };
-    let [high, low, kind, ..] = record else {
-        return Err(Refusal::NoSuchCase);
-    };
-    let [first, second] = figure.to_be_bytes();
-    match what {
-        "kind" if first == 0 => *kind = second,
-        "length" => (*high, *low) = (first, second),
-        _ => return Err(Refusal::NoSuchCase),
-    }
-    Ok(())
-}
-
-pub fn number(word: &str) -> Result<u32, Refusal> {
-    match word.parse::<u32>() {
-        Ok(number) => Ok(number),
-        Err(_) => Err(Refusal::NoSuchCase),
+impl<R: Files<File = File>> Answers for Cases<'_, R> {
+    fn answer(&mut self, alloc: Global, case: &str) -> io::Result<String> {
+        let mut text = String::new(alloc);
+        match show_answer(self.rt, alloc, &mut text, case) {
+            Ok(()) => Ok(text),
+            Err(Refusal::Memory) => Err(Error::from(ErrorKind::OutOfMemory)),
+            Err(refusal) => {
+                format!(in alloc; "refused: {}", refusal.text()).map_err(Error::from)
+            }
+        }
     }
 }

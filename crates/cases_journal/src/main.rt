@@ -1,94 +1,46 @@
-//! Cases of chpw_journal, a line each on standard input, with the result of each on standard output.
+//! Answers cases of what a service holds: configurations, journals, tables, reloads.
 //!
-//! A line is a journal, its pieces with commas between: it is restored onto a table of alice and bob/admin, who have a
-//! key of kvno 1 each. Before the pieces, and `: `, may stand what is done with them; a line that begins with `sink`
-//! has changes and raises, decided over a journal in memory, and one that begins with `disk` a file that takes bytes in
-//! this way. README.md lists the forms. A line that begins with `#`, or is empty, is copied.
+//! A line on standard input that is a topic's name in brackets begins the topic, and the lines below it are cases of it;
+//! README.md lists their kinds.
 #![tactic(auto)]
 
-mod changed;
-mod compact;
-mod disk;
-mod failing;
-mod filed;
+mod config_text;
 mod journal;
-mod realm;
-mod refusal;
-mod restoring;
-mod unsynced;
+mod reload;
+mod table;
 
-use changed::show_changed;
-use compact::show_compact;
-use disk::show_appended;
-use failing::{show_decided, show_each_failed};
-use filed::show_filed;
-use refusal::Refusal;
-use restoring::{show_failing, show_read, show_restored};
 use std::alloc::Global;
 use std::fs::{File, Files};
-use std::io::{self, Error, ErrorKind};
-use support_cases::{Answers, Change, print_answers};
-
-/// Adds the answer to a case.
-fn show_answer<R: Files<File = File>>(
-    rt: &R,
-    alloc: Global,
-    text: &mut String,
-    line: &str,
-) -> Result<(), Refusal> {
-    let Some((what, pieces)) = line.split_once(": ") else {
-        return show_restored(alloc, text, line);
-    };
-    if let Some(change) = Change::of(what) {
-        return show_changed(alloc, text, change, pieces);
-    }
-    if what == "compact" {
-        return show_compact(alloc, text, pieces);
-    }
-    match what.split_once(' ') {
-        Some((kind, how)) => show_case(rt, alloc, text, kind, how, pieces),
-        None => show_filed(rt, alloc, text, what, "", pieces),
-    }
-}
-
-/// Adds the answer to a case of this kind.
-fn show_case<R: Files<File = File>>(
-    rt: &R,
-    alloc: Global,
-    text: &mut String,
-    kind: &str,
-    how: &str,
-    pieces: &str,
-) -> Result<(), Refusal> {
-    match kind {
-        "appends" if how == "fail" => show_each_failed(alloc, text, pieces),
-        "failing" => show_failing(alloc, text, how, pieces),
-        "sink" => show_decided(alloc, text, how, pieces),
-        "disk" => show_appended(alloc, text, how, pieces),
-        "read" => show_read(alloc, text, how, pieces),
-        "append" => show_filed(rt, alloc, text, kind, how, pieces),
-        _ => Err(Refusal::NoSuchCase),
-    }
-}
+use std::io::{self, Write};
+use support_cases::{Topics, answer_blocks, answer_lines, print_topics, refuse_lines};
 
 #[derive(Drop)]
 struct Cases<'a, R: Files<File = File>> {
     rt: &'a R,
 }
 
-impl<R: Files<File = File>> Answers for Cases<'_, R> {
-    fn answer(&mut self, alloc: Global, case: &str) -> io::Result<String> {
-        let mut text = String::new(alloc);
-        match show_answer(self.rt, alloc, &mut text, case) {
-            Ok(()) => Ok(text),
-            Err(Refusal::Memory) => Err(Error::from(ErrorKind::OutOfMemory)),
-            Err(refusal) => {
-                format!(in alloc; "refused: {}", refusal.text()).map_err(Error::from)
-            }
+impl<R: Files<File = File>> Topics for Cases<'_, R> {
+    fn has(&self, topic: &str) -> bool {
+        matches!(topic, "config_text" | "journal" | "table" | "reload")
+    }
+
+    fn print<W: Write>(
+        &mut self,
+        alloc: Global,
+        out: &mut W,
+        topic: &str,
+        lines: &str,
+    ) -> io::Result<()> {
+        match topic {
+            "config_text" => answer_blocks(alloc, out, &mut config_text::Cases, lines),
+            "journal" => answer_lines(alloc, out, &mut journal::Cases { rt: self.rt }, lines),
+            "table" => answer_blocks(alloc, out, &mut table::Cases, lines),
+            "reload" => answer_lines(alloc, out, &mut reload::Cases, lines),
+            _ => refuse_lines(out, lines),
         }
     }
 }
 
 fn main(rt: HostRuntime) -> io::Result<()> {
-    print_answers(&rt, &mut Cases { rt: &rt })
+    print_topics(&rt, &mut Cases { rt: &rt })
 }

@@ -1,7 +1,7 @@
 //! Blocks of cases, answered and printed.
 
 use std::alloc::Global;
-use std::io::{self, BufWriter, Write};
+use std::io::{self, Write};
 
 /// What answers blocks of cases.
 pub trait Blocks {
@@ -16,24 +16,25 @@ pub trait Blocks {
     ) -> io::Result<bool>;
 }
 
-/// Prints the first line of each block, and the answer to the block. A block's first line begins with `== `; the text
-/// before the first block is printed as it is.
-pub fn print_blocks<R, B>(rt: &R, cases: &mut B) -> io::Result<()>
-where
-    R: Input + Print + AllocGlobal,
-    B: Blocks,
-{
-    let alloc = rt.alloc();
-    let text = io::read_to_string(alloc, rt.reader())?;
-    let mut out = BufWriter::new(alloc, io::writer(rt))?;
-    let mut blocks = text.as_str().split("\n== ");
-    if let Some(comment) = blocks.next() {
-        writeln!(out, "{comment}")?;
+/// Prints the first line of each block of a topic, and the answer to the block. A block's first line begins with `== `;
+/// the text before the first block is printed as it is.
+pub fn answer_blocks<W: Write, B: Blocks>(
+    alloc: Global,
+    out: &mut W,
+    cases: &mut B,
+    text: &str,
+) -> io::Result<()> {
+    let mut blocks = text.split("\n== ");
+    if let Some(first) = blocks.next() {
+        match first.strip_prefix("== ") {
+            Some(block) => print_block(alloc, out, cases, block)?,
+            None => writeln!(out, "{first}")?,
+        }
     }
     for block in blocks {
-        print_block(alloc, &mut out, cases, block)?;
+        print_block(alloc, out, cases, block)?;
     }
-    out.flush()
+    Ok(())
 }
 
 fn print_block<W: Write, B: Blocks>(

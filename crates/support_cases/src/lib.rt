@@ -1,5 +1,5 @@
-//! What the programs of cases share: each case is a line on standard input, and its answer is a line on standard
-//! output.
+//! What the programs of cases share: each case is a line on standard input or a block of lines, and its answer is printed
+//! on standard output.
 #![tactic(auto)]
 
 mod blocks;
@@ -7,9 +7,11 @@ mod census;
 mod change;
 mod fault;
 mod printing;
+mod topics;
 
-pub use blocks::{Blocks, print_blocks};
+pub use blocks::{Blocks, answer_blocks};
 pub use census::Census;
 pub use change::Change;
 pub use fault::Fault;
-pub use printing::{Answers, print_answers};
+pub use printing::{Answers, answer_lines, print_answers, refuse_lines};
+pub use topics::{Topics, print_topics};

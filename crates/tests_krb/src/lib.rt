@@ -1,5 +1,5 @@
 //! Tests of the Kerberos crates: what no clause says and what isn't text. Cases that are text stand in the programs of
-//! cases, such as `cases_der`.
+//! cases, such as `cases_kerberos`.
 #![tactic(auto)]
 
 #[cfg(test)]

@@ -7,7 +7,7 @@ use std::process::Abort;
 use std::test::Fail;
 use support_messages::{ap_rep_part, private_part};
 
-/// The length is that of the text which another encoder writes (`cases_der` has the texts).
+/// The length is that of the text which another encoder writes (`cases_kerberos` has the texts).
 fn goes_both_ways<T: Read + Write>(
     rt: &impl Abort,
     alloc: Global,

@@ -1,6 +1,0 @@
-use Rattle.std.proofs.Common.{length}
-use Rattle.cases_connections.proofs.script.Script.end.Given as goal
-
--- each turn takes one
-abbrev pub decreases-loop-message : goal.decreases-loop-message
-decreases-loop-message l = length l.taken.items

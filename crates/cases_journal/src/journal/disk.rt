@@ -1,0 +1,100 @@
+//! A journal's sink over a file, whose disk may fail.
+ghost use Rattle.std.specs.Prelude.{Some, take};
+
+use crate::journal::refusal::Refusal;
+use chpw_journal::{FileSink, SyncedFile};
+use chpw_table::JournalSink;
+use std::alloc::Global;
+use std::fs::{Metadata, OpenFile};
+use std::io::{self, Error, ErrorKind, Write};
+use support_streams::{Course, Taker, Way};
+
+/// The length of a record.
+const RECORD: usize = 66;
+
+/// Adds the result of appending a record to a file that takes bytes in this way, and is then synced (`synced`) or can't
+/// be (`not synced`), and how many bytes are on the disk.
+pub fn show_appended(
+    alloc: Global,
+    text: &mut String,
+    way: &str,
+    end: &str,
+) -> Result<(), Refusal> {
+    let disk = Disk {
+        taker: Taker {
+            taken: Vec::new(alloc),
+            course: Course::start(Way::of(way)),
+        },
+        is_synced: end == "synced",
+        kept: 0,
+    };
+    let mut sink = FileSink::new(disk);
+    let told = append_result(&mut sink);
+    let failures = sink.failures();
+    let kept = sink.file().kept;
+    drop(sink);
+    write!(text, "{told}, failures {failures}, on the disk {kept}").map_err(Refusal::from)
+}
+
+fn append_result(sink: &mut FileSink<Disk>) -> &'static str {
+    if sink.failures() == u64::MAX {
+        return "failed too often";
+    }
+    match sink.append(&[7; RECORD]) {
+        Ok(()) => "appended",
+        Err(_) => "failed",
+    }
+}
+
+/// A file, and whether what it takes can be synced.
+#[derive(Drop)]
+struct Disk {
+    taker: Taker,
+    is_synced: bool,
+    /// How many bytes it had when it was last synced.
+    kept: usize,
+}
+
+impl Write for Disk {
+    ghost contents = { λ disk. Some disk.taker.taken.items };
+
+    fn write(&mut self, bytes: &[u8]) -> io::Result<usize> {
+        self.taker.write(bytes)
+    }
+
+    fn flush(&mut self) -> io::Result<()> {
+        Ok(())
+    }
+}
+
+impl OpenFile for Disk {
+    fn metadata(&self) -> io::Result<Metadata> {
+        Err(Error::from(ErrorKind::Unsupported))
+    }
+
+    fn set_len(&self, _size: u64) -> io::Result<()> {
+        Err(Error::from(ErrorKind::Unsupported))
+    }
+
+    fn sync_all(&self) -> io::Result<()> {
+        if self.is_synced {
+            Ok(())
+        } else {
+            Err(Error::from(ErrorKind::Other))
+        }
+    }
+
+    fn sync_data(&self) -> io::Result<()> {
+        self.sync_all()
+    }
+}
+
+impl SyncedFile for Disk {
+    ghost synced = { λ disk. Some (take disk.kept disk.taker.taken.items) };
+
+    fn sync(&mut self) -> io::Result<()> {
+        self.sync_all()?;
+        self.kept = self.taker.taken.len();
+        Ok(())
+    }
+}

@@ -1,0 +1,86 @@
+//! A configuration, made from a case's words.
+ghost use Rattle.std.specs.Prelude.{◌≡◌, true, IfOk};
+ghost use Rattle.chpw_rules.specs.Fitting.{config_fits};
+
+use crate::reload::journal::number;
+use chpw_rules::{Config, Items, KeyBytes, Name, PrincipalRow};
+use std::alloc::{AllocError, Global};
+use support_cases::Fault;
+use support_realm::config;
+
+/// The configuration with these words, with `; ` between: `NAME KVNO KVNO ..`, a principal with these keys, newest
+/// first, whose bytes are of that number, or, with `!` after it, of another; `depth N`, default 2; `count N`, default
+/// 4096; `realm R`, default EXAMPLE.COM; `entries N`, default 100.
+pub fn config_of(alloc: Global, words: &str) -> Result<Config, Fault>
+    ensures fits { IfOk result (λ config. config_fits config ≡ true) }
+{
+    let mut config = config(alloc, Vec::new(alloc), 4096, 100).map_err(|_| Fault::NoSuchCase)?;
+    match put_words(alloc, &mut config, words) {
+        Ok(()) if config.fits() => Ok(config),
+        Ok(()) => Err(Fault::NoSuchCase),
+        Err(fault) => Err(fault),
+    }
+}
+
+fn bytes(alloc: Global, text: &str) -> Result<Items<u8>, AllocError> {
+    Ok(Items::of(Vec::from_slice(alloc, text.as_bytes())?))
+}
+
+fn put_words(alloc: Global, config: &mut Config, words: &str) -> Result<(), Fault> {
+    let mut rows = Vec::new(alloc);
+    for word in words.split("; ") {
+        put_word(alloc, config, &mut rows, word)?;
+    }
+    config.principals = Items::of(rows);
+    Ok(())
+}
+
+fn put_word(
+    alloc: Global,
+    config: &mut Config,
+    rows: &mut Vec<PrincipalRow>,
+    word: &str,
+) -> Result<(), Fault> {
+    let Some((what, rest)) = word.split_once(' ') else {
+        return Err(Fault::NoSuchCase);
+    };
+    match what {
+        "depth" => match u8::try_from(number(rest)?) {
+            Ok(depth) => config.policy.depth = depth,
+            Err(_) => return Err(Fault::NoSuchCase),
+        },
+        "count" => config.policy.iterations = number(rest)?,
+        "entries" => config.max_entries = number(rest)?,
+        "realm" => config.realm = bytes(alloc, rest)?,
+        name => rows.push(row(alloc, name, rest)?)?,
+    }
+    Ok(())
+}
+
+fn row(alloc: Global, name: &str, kvnos: &str) -> Result<PrincipalRow, Fault> {
+    let mut keys = Vec::new(alloc);
+    for word in kvnos.split(' ') {
+        keys.push(key(word)?)?;
+    }
+    match Name::parse(alloc, name)? {
+        Some(name) => Ok(PrincipalRow {
+            name,
+            keys: Items::of(keys),
+        }),
+        None => Err(Fault::NoSuchCase),
+    }
+}
+
+fn key(word: &str) -> Result<KeyBytes, Fault> {
+    let (kvno, is_other) = match word.strip_suffix("!") {
+        Some(kvno) => (number(kvno)?, true),
+        None => (number(word)?, false),
+    };
+    let byte = if is_other { 0xff } else { (kvno % 256) as u8 };
+    Ok(KeyBytes {
+        kvno,
+        iterations: 4096,
+        aes128: [byte; 16],
+        aes256: [byte; 32],
+    })
+}

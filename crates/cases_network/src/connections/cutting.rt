@@ -1,0 +1,51 @@
+//! A message that comes in two pieces, or isn't whole.
+
+use crate::connections::script::Script;
+use chpw_connections::ConnectionLimits;
+use std::alloc::Global;
+use std::io;
+use support_cases::Census;
+
+const BOUNDS: ConnectionLimits = ConnectionLimits {
+    connections: 1,
+    bytes: 100,
+    idle: 100,
+    grace: 100,
+    wait: 100,
+    linger: 100,
+};
+
+/// What comes of a message that is cut before each of its bytes and at its end. The rest follows, or the input ends
+/// there.
+pub fn each(alloc: Global, bytes: &[u8], is_ended: bool) -> io::Result<String> {
+    let mut census = Census::new(alloc);
+    for place in 0..=bytes.len() {
+        let answer = cut_at(alloc, bytes, place, is_ended)?;
+        census.add(alloc, place, answer.as_str())?;
+    }
+    Ok(census.text(alloc)?)
+}
+
+fn cut_at(alloc: Global, bytes: &[u8], place: usize, is_ended: bool) -> io::Result<String> {
+    let mut script = Script::new(alloc, BOUNDS, 1)?;
+    let told = cut_told(&mut script, bytes, place, is_ended);
+    script.end();
+    told
+}
+
+fn cut_told(script: &mut Script, bytes: &[u8], place: usize, is_ended: bool) -> io::Result<String> {
+    let alloc = script.alloc;
+    let Some(slot) = script.connections.accept([10, 0, 0, 1], 0) else {
+        return Ok(String::from_str(alloc, "no room")?);
+    };
+    let (front, rest) = bytes.split_at(place.min(bytes.len()));
+    script.read(slot, front, 0);
+    if is_ended {
+        script.connections.input_ended(slot);
+    } else {
+        script.read(slot, rest, 1);
+    }
+    let taken = script.take(0, 1)?;
+    let state = script.state(slot)?;
+    Ok(format!(in alloc; "{taken}, {state}")?)
+}

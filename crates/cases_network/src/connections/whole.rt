@@ -1,0 +1,98 @@
+//! Lines that concern no particular slot.
+
+use crate::connections::script::Script;
+use crate::connections::showing::{bytes_text, peer_text, slots_text};
+use crate::connections::words::{address, number};
+use crate::words::no_case;
+use chpw_connections::{TakenMessage, Todo};
+use std::io;
+
+/// More than any case here notes.
+const LOOKS: usize = 10_000;
+
+impl Script {
+    /// `accept A.B.C.D`, `pass`, `room`, `look`, `show`, `confirm MARK` or `overdue WAIT`.
+    pub fn whole(&mut self, kind: &str, words: &str, now: u64) -> io::Result<String> {
+        match kind {
+            "accept" => self.accept(words, now),
+            "look" => self.look(),
+            "show" => self.overview(),
+            "pass" => {
+                self.connections.pass(now);
+                Ok(String::from_str(self.alloc, "passed")?)
+            }
+            "confirm" => {
+                self.connections.confirm(number(words)?, now);
+                Ok(String::from_str(self.alloc, "confirmed")?)
+            }
+            "overdue" => self.overdue(number(words)?, now),
+            "room" if self.connections.make_room().is_some() => {
+                Ok(String::from_str(self.alloc, "made room")?)
+            }
+            "room" => Ok(String::from_str(self.alloc, "nobody waits")?),
+            _ => Err(no_case()),
+        }
+    }
+
+    fn accept(&mut self, words: &str, now: u64) -> io::Result<String> {
+        let peer = address(self.alloc, words)?;
+        match self.connections.accept(peer, now) {
+            None => Ok(String::from_str(self.alloc, "no room")?),
+            Some(slot) => Ok(format!(in self.alloc; "slot {slot}")?),
+        }
+    }
+
+    /// The message that a worker takes, with its slot and peer.
+    pub fn take(&mut self, worker: usize, now: u64) -> io::Result<String> {
+        let waits = self.connections.has_message(worker);
+        match self.connections.take(worker, now) {
+            Some(taken) => {
+                let told = self.taken_told(&taken);
+                self.keep(taken, now)?;
+                told
+            }
+            None if waits => Ok(String::from_str(self.alloc, "dropped")?),
+            None => Ok(String::from_str(self.alloc, "none")?),
+        }
+    }
+
+    fn taken_told(&self, taken: &TakenMessage) -> io::Result<String> {
+        let slot = taken.slot();
+        let peer = peer_text(self.alloc, taken.peer())?;
+        let message = bytes_text(self.alloc, taken.message())?;
+        Ok(format!(in self.alloc; "slot {slot} from {peer}: {message}")?)
+    }
+
+    /// The slot whose reply has waited for its confirmation for `wait`, and its mark.
+    fn overdue(&mut self, wait: u64, now: u64) -> io::Result<String> {
+        match self.connections.overdue(wait, now) {
+            None => Ok(String::from_str(self.alloc, "none")?),
+            Some(unconfirmed) => {
+                let peer = peer_text(self.alloc, unconfirmed.peer)?;
+                let mark = unconfirmed.mark;
+                Ok(format!(in self.alloc; "{peer} waited for {mark}")?)
+            }
+        }
+    }
+
+    /// The slots that were noted, each once, if something is to be done that the socket doesn't report.
+    fn look(&mut self) -> io::Result<String> {
+        let mut slots = Vec::new(self.alloc);
+        for _ in 0..LOOKS {
+            let Some(slot) = self.connections.take_changed() else {
+                break;
+            };
+            let is_told = matches!(self.connections.todo(slot), Todo::Read(_) | Todo::Wait);
+            if !is_told && !slots.contains(&slot) {
+                slots.push(slot)?;
+            }
+        }
+        let more = if self.connections.has_changed() {
+            " and more"
+        } else {
+            ""
+        };
+        let slots = slots_text(self.alloc, &slots)?;
+        Ok(format!(in self.alloc; "look at {slots}{more}")?)
+    }
+}

@@ -1,0 +1,60 @@
+//! Requests from words.
+
+use crate::log::words::bytes;
+use chpw_rules::{Items, Name};
+use chpw_table::{Body, Digest, Opened, Target};
+use std::alloc::Global;
+use support_cases::Fault;
+
+/// A request of this client for this target.
+pub fn opened_request(alloc: Global, client: &str, target: &str) -> Result<Opened, Fault> {
+    let Target { realm, name } = principal(alloc, client)?;
+    Ok(Opened {
+        crealm: realm,
+        client: name,
+        initial: true,
+        invalid: false,
+        starts: 0,
+        ends: 0,
+        ctime: 0,
+        cusec: 0,
+        stamp: None,
+        body: body(alloc, target)?,
+    })
+}
+
+// A principal, or `own` for none, or the kind of a bad KRB-PRIV.
+fn body(alloc: Global, target: &str) -> Result<Body, Fault> {
+    let target = match target {
+        "bad-private" => return Ok(Body::BadPrivate),
+        "bad-data" => return Ok(Body::BadData),
+        "own" => None,
+        text => Some(principal(alloc, text)?),
+    };
+    match Digest::of(8, 3, Vec::new(alloc)) {
+        Some(digest) => Ok(Body::Ask { target, digest }),
+        None => Err(Fault::NoSuchCase),
+    }
+}
+
+// REALM:PART.PART, in hexadecimal; a name without components has no `:`.
+fn principal(alloc: Global, text: &str) -> Result<Target, Fault> {
+    let mut parts = Vec::new(alloc);
+    let realm = match text.split_once(':') {
+        None => text,
+        Some((realm, name)) => {
+            for part in name.split('.') {
+                parts
+                    .push(Items::of(bytes(alloc, part)?))
+                    .map_err(|_| Fault::Memory)?;
+            }
+            realm
+        }
+    };
+    Ok(Target {
+        realm: Items::of(bytes(alloc, realm)?),
+        name: Name {
+            parts: Items::of(parts),
+        },
+    })
+}

@@ -1,0 +1,64 @@
+//! The service's replies, and the client's configuration.
+ghost use Rattle.std.specs.Prelude.{◌≡◌, true, IfOk};
+ghost use Rattle.chpw_rules.specs.Fitting.{config_fits};
+
+use crate::words::no_case;
+use chpw_config::read_config;
+use chpw_frame::{LONGEST_MESSAGE, Received, read_tcp, write_tcp};
+use chpw_rules::Config;
+use chpw_serve::serve_alone;
+use std::alloc::Global;
+use std::io;
+use support_realm::{Counting, Standing, Tally, World};
+
+/// The client's address.
+const PEER: [u8; 4] = [127, 0, 0, 1];
+
+/// A configuration.
+pub fn read_configuration(alloc: Global, text: &str) -> io::Result<Config>
+    ensures fits { IfOk result (λ config. config_fits config ≡ true) }
+{
+    match read_config(alloc, text) {
+        Ok(config) => Ok(config),
+        Err(_) => Err(no_case()),
+    }
+}
+
+/// The reply of a world to a message at this second.
+pub fn reply_of(
+    alloc: Global,
+    world: &mut World<Tally>,
+    second: i64,
+    message: &[u8],
+) -> io::Result<Vec<u8>> {
+    let stream = stream_of(alloc, message)?;
+    let mut written = Vec::new(alloc);
+    serve_alone(
+        alloc,
+        &world.service,
+        PEER,
+        &mut stream.as_slice(),
+        &mut written,
+        &mut world.alone,
+        &mut Standing::at(second),
+        &mut Counting::new(),
+    );
+    first_reply(alloc, &written)
+}
+
+/// The first of these replies.
+fn first_reply(alloc: Global, mut replies: &[u8]) -> io::Result<Vec<u8>> {
+    match read_tcp(alloc, &mut replies)? {
+        Received::Message(reply) => Ok(reply),
+        _ => Err(no_case()),
+    }
+}
+
+/// A message after its length.
+fn stream_of(alloc: Global, message: &[u8]) -> io::Result<Vec<u8>> {
+    let mut stream = Vec::new(alloc);
+    if message.len() > LONGEST_MESSAGE || write_tcp(&mut stream, message).is_err() {
+        return Err(no_case());
+    }
+    Ok(stream)
+}

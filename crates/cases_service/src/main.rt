@@ -1,0 +1,44 @@
+//! Answers cases of the service on one stream, of its client, and of the program's commands.
+//!
+//! A line on standard input that is a topic's name in brackets begins the topic, and the lines below it are cases of it;
+//! README.md lists their kinds.
+#![tactic(auto)]
+
+mod client;
+mod commands;
+mod import;
+mod stream;
+mod words;
+
+use std::alloc::Global;
+use std::io::{self, Write};
+use support_cases::{Topics, answer_blocks, answer_lines, print_topics, refuse_lines};
+
+#[derive(Drop)]
+struct Cases;
+
+impl Topics for Cases {
+    fn has(&self, topic: &str) -> bool {
+        matches!(topic, "stream" | "client" | "import" | "commands")
+    }
+
+    fn print<W: Write>(
+        &mut self,
+        alloc: Global,
+        out: &mut W,
+        topic: &str,
+        lines: &str,
+    ) -> io::Result<()> {
+        match topic {
+            "stream" => answer_lines(alloc, out, &mut stream::Cases::new(alloc), lines),
+            "client" => answer_lines(alloc, out, &mut client::Cases::new(alloc), lines),
+            "import" => answer_lines(alloc, out, &mut import::Cases, lines),
+            "commands" => answer_blocks(alloc, out, &mut commands::Cases::new(alloc), lines),
+            _ => refuse_lines(out, lines),
+        }
+    }
+}
+
+fn main(rt: HostRuntime) -> io::Result<()> {
+    print_topics(&rt, &mut Cases)
+}
