@@ -188,7 +188,13 @@ impl<
     {
         let now = milliseconds(self.rt);
         for _ in 0..self.clients {
-            let released = self.engine.hub.lock(self.rt).state.overdue(wait, now);
+            let released = self
+                .engine
+                .hub
+                .lock(self.rt)
+                .state
+                .connections
+                .overdue(wait, now);
             match released {
                 None => return,
                 Some(change) => self.link.follower.unconfirmed(change),

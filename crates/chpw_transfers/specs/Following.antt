@@ -2,8 +2,6 @@
 use Rattle.std.specs.Prelude.{◌≡◌, ℕ, Bool, ◌||◌, Option, Some, None, is_some, if◌then◌else◌}
 use Rattle.slab.specs.Slab.{Slab, get}
 use Rattle.chpw_connection.specs.Confirming.{Confirms}
-use Rattle.chpw_connections.specs.Confirming.{ReleasesOverdue, NoneIsOverdue}
-use Rattle.chpw_connections.specs.declared.confirming.Unconfirmed.{Unconfirmed}
 use Rattle.chpw_connection.specs.declared.connection.Connection.{Connection}
 use Rattle.chpw_follower.specs.Asks.{State, has_mark, after_want, asks_now}
 use Rattle.chpw_connections.specs.declared.taking.Reply.{Reply}
@@ -28,8 +26,3 @@ Releases (Some mark) now old new = (slot : ℕ) → Confirms mark now (get old s
 -- an answer of the follower is due, or something is to be asked
 abbrev pub is_waited_for : State → Bool
 is_waited_for s = is_some s.asked || asks_now s
-
--- a reply that has waited this long is to be written; or there is none
-abbrev pub ReleasesOne : ℕ → ℕ → Slab Connection → Slab Connection → Option Unconfirmed → Type 0
-ReleasesOne wait now old new None = NoneIsOverdue wait now old
-ReleasesOne wait now old new (Some u) = ReleasesOverdue wait now old new u.peer u.mark

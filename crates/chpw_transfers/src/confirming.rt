@@ -6,11 +6,11 @@ ghost use Rattle.chpw_slots.specs.Counting.{count_in};
 ghost use Rattle.chpw_connections.specs.Turns.{slot_of};
 ghost use Rattle.chpw_connection.specs.declared.counting.Counted.TheVariants as counted;
 ghost use Rattle.chpw_follower.specs.Asks.{asked_by, at_start, after_ask, after_bytes, after_loss, confirmed_by};
-ghost use Rattle.chpw_transfers.specs.Following.{awaited, asking_after, Releases, ReleasesOne, is_waited_for as is_waited};
+ghost use Rattle.chpw_transfers.specs.Following.{awaited, asking_after, Releases, is_waited_for as is_waited};
 ghost use Rattle.chpw_transfers.specs.Steps.{IsAnswered};
 
 use crate::state::State;
-use chpw_connections::{Counted, Reply, Turn, Unconfirmed};
+use chpw_connections::{Counted, Reply, Turn};
 use chpw_follower::{FollowerDialog, ProtocolFault};
 
 impl State {
@@ -90,16 +90,6 @@ impl State {
             return Ok(None);
         }
         self.hear(bytes, now)
-    }
-
-    /// The first reply that has waited this long for the follower: it is to be written.
-    pub fn overdue(&mut self, wait: u64, now: u64) -> Option<Unconfirmed>
-        ensures released { ReleasesOne wait now (slots_of self.old.connections) (slots_of self.new.connections) result }
-        ensures unchanged { result ≡ None → self.new ≡ self.old }
-        ensures asking { self.new.asking ≡ self.old.asking }
-        ensures rest { self.new ≡ record self.old { connections = self.new.connections } }
-    {
-        self.connections.overdue(wait, now)
     }
 
     /// Whether an answer of the follower is due, or something is to be asked.
