@@ -1,5 +1,7 @@
 //! The command lines and what they ask for, and words that are no UTF-8.
-use chpw_invocation::{ConnectionLimit, Invocation, PasswordSource, command_of};
+use chpw_invocation::{
+    ClientOptions, ConnectionLimit, Invocation, PasswordSource, ServeOptions, command_of,
+};
 use chpw_program::{Ending, explain_misuse, words as words_of};
 use std::alloc::{AllocError, Global};
 use std::env::FillError;
@@ -272,25 +274,7 @@ fn show(text: &mut String, asked: Invocation<'_>) -> Result<(), AllocError> {
             write!(text, "key {} {} {} ", it.realm, it.name, it.password_file)?;
             write!(text, "iterations {} kvno {}", it.iterations, it.kvno)
         }
-        Invocation::Serve(it) => {
-            write!(text, "serve {} {} {} ", it.config, it.journal, it.seed)?;
-            write!(text, "port {} workers {} ", it.port, it.workers)?;
-            match it.connections {
-                ConnectionLimit::Unlimited => text.push_str("connections unlimited ")?,
-                ConnectionLimit::Of(count) => write!(text, "connections {count} ")?,
-            }
-            write!(text, "idle {} ", it.idle)?;
-            write!(text, "clients {} buffers {} raise ", it.clients, it.buffers)?;
-            match it.raise {
-                Some(count) => write!(text, "{count}")?,
-                None => text.push_str("-")?,
-            }
-            write!(text, " log {}", it.log.unwrap_or("-"))?;
-            match it.control {
-                Some(socket) => write!(text, " control {socket}"),
-                None => Ok(()),
-            }
-        }
+        Invocation::Serve(it) => show_serve(text, &it),
         Invocation::Control(it) => {
             write!(text, "control {} {}", it.socket, it.command.word())?;
             match it.command.file() {
@@ -298,18 +282,43 @@ fn show(text: &mut String, asked: Invocation<'_>) -> Result<(), AllocError> {
                 None => Ok(()),
             }
         }
-        Invocation::Client(it) => {
-            write!(text, "client {} {} port {} ", it.config, it.seed, it.port)?;
-            write!(text, "client {} ", it.client)?;
-            match it.password {
-                PasswordSource::Text(it) => write!(text, "password {it} ")?,
-                PasswordSource::File(it) => write!(text, "password-file {it} ")?,
-                PasswordSource::StandardInput => text.push_str("password-file standard input ")?,
-            }
-            write!(text, "target {} ", it.target.unwrap_or("-"))?;
-            write!(text, "no-initial {} old {}", it.no_initial, it.old)
-        }
+        Invocation::Client(it) => show_client(text, &it),
     }
+}
+
+fn show_serve(text: &mut String, it: &ServeOptions<'_>) -> Result<(), AllocError> {
+    write!(text, "serve {} {} {} ", it.config, it.journal, it.seed)?;
+    write!(text, "port {} workers {} ", it.port, it.workers)?;
+    match it.connections {
+        ConnectionLimit::Unlimited => text.push_str("connections unlimited ")?,
+        ConnectionLimit::Of(count) => write!(text, "connections {count} ")?,
+    }
+    write!(
+        text,
+        "idle {} clients {} buffers {} ",
+        it.idle, it.clients, it.buffers
+    )?;
+    match it.raise {
+        Some(count) => write!(text, "raise {count} ")?,
+        None => text.push_str("raise - ")?,
+    }
+    write!(text, "log {}", it.log.unwrap_or("-"))?;
+    match it.control {
+        Some(socket) => write!(text, " control {socket}"),
+        None => Ok(()),
+    }
+}
+
+fn show_client(text: &mut String, it: &ClientOptions<'_>) -> Result<(), AllocError> {
+    write!(text, "client {} {} port {} ", it.config, it.seed, it.port)?;
+    write!(text, "client {} ", it.client)?;
+    match it.password {
+        PasswordSource::Text(it) => write!(text, "password {it} ")?,
+        PasswordSource::File(it) => write!(text, "password-file {it} ")?,
+        PasswordSource::StandardInput => text.push_str("password-file standard input ")?,
+    }
+    write!(text, "target {} ", it.target.unwrap_or("-"))?;
+    write!(text, "no-initial {} old {}", it.no_initial, it.old)
 }
 
 // A line that asks for a command is shown whole; of another the text has the word.
