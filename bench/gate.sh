@@ -13,7 +13,7 @@ command_line any word "$@"
 cd "$(dirname "$0")/.."
 copy=$(mktemp -d)
 trap 'rm -rf "$copy"' EXIT
-tar --exclude='*/out/incremental' -cf - crates crates.txt HANDLES prove trials must-fail interop/command.py | tar -C "$copy" -xf -
+tar --exclude='*/out/incremental' -cf - crates crates.txt HANDLES prove trials must-fail interop/command.py interop/topic.py | tar -C "$copy" -xf -
 git -C "$copy" init --quiet
 cd "$copy"
 names=("$@")
