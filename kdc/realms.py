@@ -9,7 +9,8 @@ A realm has `folder`, `passwords`, `keytab()`, `kvno(name)`; and
 - `ask_for_change(name)`: has the KDC say that the password has expired, and has to be changed;
 - `days_left(name)`: until it ends, which is in `LIFE` days after a change;
 - `locked()`: the project's own kadmin holds the database for as long as that lasts;
-- `follower(options)`: a command that follows into it, and its environment.
+- `follower(options)`: a command that follows into it, and its environment;
+- `agent(program)`: the agent, or another one of it, and its environment.
 """
 
 import calendar
@@ -24,6 +25,7 @@ import time
 HERE = pathlib.Path(__file__).resolve().parent
 sys.path.insert(0, str(HERE.parent / "interop"))
 
+import agent_process
 import configuration
 from building import built
 from heimdal_realm import HeimdalRealm, escaped
@@ -120,6 +122,9 @@ class Mit(Realm):
     def follower(self, options):
         return [self.program, "--realm", REALM, *options], self.environment(self.mit)
 
+    def agent(self, program=None):
+        return program or agent_process.program_of(self, "mit"), self.environment(self.mit)
+
 
 class Heimdal(HeimdalRealm):
     KIND = "Heimdal"
@@ -178,6 +183,9 @@ class Heimdal(HeimdalRealm):
 
     def follower(self, options):
         return [self.program, "--realm", REALM, *options], self.environment()
+
+    def agent(self, program=None):
+        return program or agent_process.program_of(self, "heimdal"), self.environment()
 
 
 KINDS = {"mit": Mit, "heimdal": Heimdal}

@@ -1,0 +1,59 @@
+"""What the cases of an agent have in common. Expected values come from the project's own programs."""
+
+import contextlib
+import sys
+import traceback
+
+import realms
+from agent_database import database_of
+from agent_process import Agent, keys_of
+from cases import Cases
+
+FIRST = realms.FIRST
+
+
+class AgentCase(Cases):
+    """`cases` are run in turn, each with an agent of its own unless it makes one."""
+
+    def __init__(self, *words):
+        super().__init__(*words)
+        self.kdc = database_of(self.realm)
+
+    def cases(self):
+        return []
+
+    def run(self, only=None):
+        for case in self.cases():
+            if only is None or only in case.__name__:
+                print(f"- {case.__name__}", flush=True)
+                self.run_one(case)
+
+    def run_one(self, case):
+        """A case that can't be gone on with has failed, and the next one is run."""
+        try:
+            case()
+        except Exception as fault:
+            traceback.print_exc(file=sys.stdout)
+            self.tell(f"{case.__name__} goes to its end", repr(fault), None)
+
+    @contextlib.contextmanager
+    def talking(self, *options, **more):
+        with Agent(self.realm, *options, **more) as agent, agent.connected() as connection:
+            connection.agent = agent
+            yield connection
+
+    def held(self, name):
+        """What the KDC has of it: each key with its version."""
+        return {(kvno, etype, key) for _, kvno, etype, key in self.realm.keys([name])}
+
+    def state(self, *names):
+        """All that the KDC has of them, to be compared with what it has later."""
+        return [(sorted(self.held(name)), self.kdc.entry(name)) for name in names]
+
+    def of(self, name, kvno, password):
+        """The keys of that password under that version, and no others."""
+        first, second = keys_of(name, password).split()
+        return {(kvno, 18, first), (kvno, 17, second)}
+
+    def logs_in(self, name, *passwords):
+        return [self.realm.kinit(name, password) for password in passwords]
