@@ -1,5 +1,6 @@
 pub mod FitLemmas
 pub mod GivesLemmas
+pub mod KdcLemmas
 pub mod KindLemmas
 pub mod KvnoLemmas
 pub mod SeenLemmas

@@ -4,7 +4,7 @@ use Rattle.std.specs.Fmt.{decimal}
 use Rattle.chpw_config.specs.declared.fault.ConfigFaultKind.{ConfigFaultKind}
 use Rattle.chpw_config.specs.declared.fault.Part.{Part}
 use Rattle.chpw_config.specs.declared.fault.ConfigFaultKind.TheVariants.{NotToml, MissingKey, WrongKind, OutOfRange, BadHex, Duplicate}
-use Rattle.chpw_config.specs.declared.fault.Part.TheVariants.{File, Service, ServiceKey, Policy, Rule, Principal, PrincipalKey}
+use Rattle.chpw_config.specs.declared.fault.Part.TheVariants.{File, Service, ServiceKey, Policy, Rule, Principal, PrincipalKey, Kdc, KdcInclude, KdcExclude}
 use Rattle.chpw_config.specs.declared.fault.Location.{Location}
 use Rattle.chpw_config.specs.declared.fault.ConfigFault.{ConfigFault}
 use Rattle.chpw_config.specs.declared.fault.ConfigError.{ConfigError}
@@ -55,6 +55,9 @@ part_text Policy = codes "policy"
 part_text Rule = codes "rule"
 part_text Principal = codes "principal"
 part_text PrincipalKey = codes "principalkey"
+part_text Kdc = codes "kdc"
+part_text KdcInclude = codes "kdcinclude"
+part_text KdcExclude = codes "kdcexclude"
 
 abbrev pub fault_text : ConfigFault → List ℕ
 fault_text fault = kind_text fault.kind ++ codes " " ++ part_text fault.part ++ codes " "

@@ -1,4 +1,5 @@
 pub mod Faults
+pub mod Kdc
 pub mod Kinds
 pub mod Rows
 pub mod Seen

@@ -1,6 +1,6 @@
 -- What the parts of a configuration's file set, each with its first fault: within a table the keys
 -- are read in the order of these lines.
-use Rattle.std.specs.Prelude.{ℕ, ◌+◌, pos, Bool, true, ◌==◌, List, [], ◌∷◌, ◌++◌, length, map, codes, Result, Ok, Err, if◌then◌else◌}
+use Rattle.std.specs.Prelude.{ℕ, pos, Bool, true, nat_lt, List, [], ◌∷◌, ◌++◌, length, map, codes, Result, Ok, Err, if◌then◌else◌}
 use Rattle.std.specs.List.{list_any}
 use Rattle.toml.specs.Data.{Data, Items, no_items, item, Members}
 use Rattle.chpw_rules.specs.declared.name.Name.{Name}
@@ -67,10 +67,10 @@ rule_row before value = do
   target ← required at (codes "target") a_target members
   Ok (record { actor = actor; target = target })
 
--- a version number is one less than that of the key before it
+-- a version number is less than that of the key before it
 abbrev pub comes_after : List KeyBytes → ℕ → Bool
 comes_after [] kvno = true
-comes_after (newer ∷ []) kvno = kvno + 1 == newer.kvno
+comes_after (newer ∷ []) kvno = nat_lt kvno newer.kvno
 comes_after (_ ∷ newer ∷ keys) kvno = comes_after (newer ∷ keys) kvno
 
 abbrev pub step_down : Location → List KeyBytes → ℕ → Result ℕ ConfigFault

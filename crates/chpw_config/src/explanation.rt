@@ -4,7 +4,8 @@ use crate::reading::DEFAULT_ENTRIES;
 use chpw_rules::{
     AES128_LENGTH, AES256_LENGTH, COMPONENT_COUNTS, COMPONENT_LENGTHS, DEPTHS, ENTRY_COUNTS,
     ETYPES, ITERATION_COUNTS, KEY_COUNTS, KVNOS, Limits, MIN_CLASS_COUNTS, MIN_LENGTHS,
-    PRINCIPAL_COUNTS, REALM_LENGTHS, RULE_COUNTS, SERVICE_KEY_COUNTS, key_length,
+    PATTERN_COUNTS, PATTERN_LENGTHS, PRINCIPAL_COUNTS, REALM_LENGTHS, RULE_COUNTS,
+    SERVICE_KEY_COUNTS, key_length,
 };
 use std::alloc::{AllocError, Global};
 use toml::{Table, Value};
@@ -110,6 +111,9 @@ fn explain_part(alloc: Global, file: &Table, fault: ConfigFault) -> Result<Strin
             }
         }
         Part::PrincipalKey => explain_keys(alloc, element(file.get("principal"), index), index),
+        Part::Kdc => String::from_str(alloc, "[kdc] must be a table"),
+        Part::KdcInclude => explain_patterns(alloc, file.get("kdc"), "include", index),
+        Part::KdcExclude => explain_patterns(alloc, file.get("kdc"), "exclude", index),
     }
 }
 
@@ -228,6 +232,41 @@ fn explain_keys(
     at(alloc, place, "a key is wrong")
 }
 
+// What is wrong with a list of patterns, or with the one at this index.
+fn explain_patterns(
+    alloc: Global,
+    kdc: Option<&Value>,
+    key: &str,
+    index: usize,
+) -> Result<String, AllocError> {
+    let list = member(kdc, key);
+    let wrong = match list.and_then(|value| value.as_array()) {
+        None => String::from_str(alloc, " must be a list of texts")?,
+        Some(patterns) if !PATTERN_COUNTS.allow(patterns.len()) => {
+            let counts = range_text(alloc, PATTERN_COUNTS)?;
+            format!(in alloc; " must have {} patterns", counts.as_str())?
+        }
+        Some(_) => {
+            let number = index.saturating_add(1);
+            let wrong = pattern_fault(alloc, element(list, index))?;
+            format!(in alloc; ", pattern {number}: must be {}", wrong.as_str())?
+        }
+    };
+    format!(in alloc; "[kdc] {key}{}", wrong.as_str())
+}
+
+// What a pattern must be that this value isn't.
+fn pattern_fault(alloc: Global, value: Option<&Value>) -> Result<String, AllocError> {
+    match value {
+        Some(Value::String(_)) => limits_text(
+            alloc,
+            &Table::new(alloc),
+            Holds::Text(PATTERN_LENGTHS),
+        ),
+        _ => String::from_str(alloc, kind_text(Holds::Text(PATTERN_LENGTHS))),
+    }
+}
+
 // What is wrong with a principal's key that follows one of the version number `newer`.
 fn key_fault(
     alloc: Global,
@@ -240,7 +279,7 @@ fn key_fault(
     let kvno = table.get("kvno").and_then(|kvno| kvno.as_integer());
     match (newer, kvno) {
         (Some(newer), Some(kvno)) if newer.checked_sub(1) != Some(kvno) => {
-            let wrong = "kvno must be one less than that of the key before it";
+            let wrong = "kvno must be less than that of the key before it";
             Ok(Some(String::from_str(alloc, wrong)?))
         }
         _ => keys_fault(alloc, table, &PRINCIPAL_KEY),

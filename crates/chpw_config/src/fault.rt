@@ -41,6 +41,12 @@ pub enum Part {
     Principal,
     /// A principal's list `key`, and each key in it.
     PrincipalKey,
+    /// The table `kdc`.
+    Kdc,
+    /// The list `kdc.include`, and each pattern in it.
+    KdcInclude,
+    /// The list `kdc.exclude`, and each pattern in it.
+    KdcExclude,
 }
 
 /// The first fault of a configuration, displayed as `C4 policy 0`.
@@ -85,6 +91,9 @@ impl Part {
             Part::Rule => "rule",
             Part::Principal => "principal",
             Part::PrincipalKey => "principalkey",
+            Part::Kdc => "kdc",
+            Part::KdcInclude => "kdcinclude",
+            Part::KdcExclude => "kdcexclude",
         }
     }
 }

@@ -21,8 +21,8 @@ pub struct Named<'a> {
     pub text: &'a str,
 }
 
-// The value of a key, if it is present.
-fn get<'a>(table: &'a Table, key: &str) -> Option<&'a Value>
+/// The value of a key, if it is present.
+pub fn get<'a>(table: &'a Table, key: &str) -> Option<&'a Value>
     ensures value { option_map (λ v. view v.now) result
         ≡ get_member key.now (table_view table.now) }
 {

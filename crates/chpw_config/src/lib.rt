@@ -3,6 +3,7 @@
 
 mod explanation;
 mod fault;
+mod kdc;
 mod keys;
 mod kinds;
 mod reading;
@@ -10,4 +11,5 @@ mod seen;
 
 pub use explanation::explain;
 pub use fault::{ConfigError, ConfigFault, ConfigFaultKind, Part};
+pub use kdc::read_kdc;
 pub use reading::read_config;

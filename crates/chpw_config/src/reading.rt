@@ -100,7 +100,7 @@ fn comes_after(before: &[KeyBytes], kvno: u32) -> bool
 {
     match before {
         [] => true,
-        [.., newer] => kvno as u64 + 1 == newer.kvno as u64,
+        [.., newer] => kvno < newer.kvno,
     }
 }
 

@@ -1,6 +1,7 @@
 -- A list is read as it is written, element by element.
 use Rattle.std.proofs.Common.{◌≡◌, ◌∙◌, sym, ℕ, suc, ◌+◌, true, false, not, ◌&&◌, ◌==◌, List, []}
 use Rattle.std.proofs.Common.{◌∷◌, ◌++◌, length, map, Result, Ok, refl, ap, append-nil, append_assoc}
+use Rattle.std.specs.Prelude.{nat_lt}
 use Rattle.std.specs.List.{list_all, list_any}
 use Rattle.std.proofs.lemmas.Bool.{and_parts, not-true}
 use Rattle.toml.specs.Data.{Data}
@@ -70,7 +71,7 @@ rules_read before (rule ∷ rules) fit writable =
 
 -- a version number is held against the last key's
 comes_after_end : (before : List KeyBytes) (newer : KeyBytes) (kvno : ℕ)
-    → comes_after (before ++ newer ∷ []) kvno ≡ (kvno + 1 == newer.kvno)
+    → comes_after (before ++ newer ∷ []) kvno ≡ nat_lt kvno newer.kvno
 comes_after_end [] newer kvno = refl
 comes_after_end (_ ∷ []) newer kvno = refl
 comes_after_end (_ ∷ next ∷ before) newer kvno = comes_after_end (next ∷ before) newer kvno
@@ -82,7 +83,7 @@ keys_read_after at before newer [] fit typed down = tt
 keys_read_after at before newer (key ∷ keys) fit typed down =
     let (fits, more_fit) = and_parts (key_fits key) (list_all key_fits keys) fit in
     let (here, more_typed) = and_parts (is_typed_key key) (list_all is_typed_key keys) typed in
-    let (step, more_down) = and_parts (key.kvno + 1 == newer.kvno) (descend_from key.kvno keys) down in (
+    let (step, more_down) = and_parts (nat_lt key.kvno newer.kvno) (descend_from key.kvno keys) down in (
       key_read at (before ++ newer ∷ []) key fits here (comes_after_end before newer key.kvno ∙ step),
       keys_read_after at (before ++ newer ∷ []) key keys more_fit more_typed more_down,
     )

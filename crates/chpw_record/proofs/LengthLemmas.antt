@@ -12,7 +12,8 @@ use Rattle.chpw_record.specs.declared.record.Change.{Change}
 use Rattle.chpw_record.specs.declared.record.Record.{Record}
 use Rattle.chpw_record.specs.declared.record.Record.TheVariants as record_of
 use Rattle.chpw_record.specs.Laws.{LengthsAreAllowed}
-use Rattle.chpw_record.specs.Records.{ChangeFits, RecordFits, body_text, change_lengths, is_record_length, key_text, name_bytes, part_bytes, version_bytes}
+use Rattle.chpw_record.specs.Records.{ChangeFits, RecordFits, body_text, key_lengths, is_record_length, key_text}
+use Rattle.chpw_record.specs.Records.{kind_number, name_bytes, part_bytes, version_bytes}
 use Rattle.chpw_record.proofs.VersionLemmas.{version_length}
 
 -- ---- a name
@@ -56,15 +57,14 @@ key_low kind c f =
     omega (arith, size_of kind c, version_length kind c.key f.aes128 f.aes256, low_parts c.name.parts f.name)
 
 pub text_short : (r : Record) → RecordFits r → length (body_text r) ≤ 1090
-text_short (record_of.Change c) f = key_short 1 c f
+text_short (record_of.Key kind c) f = key_short (kind_number kind) c f
 text_short (record_of.Raise count) f = omega arith
-text_short (record_of.Base c) f = key_short 3 c f
 
-in_range : (n : ℕ) → 60 ≤ n → n ≤ 1090 → is_in change_lengths n ≡ true
+in_range : (n : ℕ) → 60 ≤ n → n ≤ 1090 → is_in key_lengths n ≡ true
 in_range n h g = grind (arith, nat_tests)
 
 -- the length of a change is that of a record
-of_change : (n : ℕ) → is_in change_lengths n ≡ true → is_record_length n ≡ true
+of_change : (n : ℕ) → is_in key_lengths n ≡ true → is_record_length n ≡ true
 of_change n h = rw h (or-true (n == 5))
 
 key_range : (kind : ℕ) (c : Change) → ChangeFits c → is_record_length (length (key_text kind c.name c.key)) ≡ true
@@ -73,17 +73,16 @@ key_range kind c f =
     of_change n (in_range n (key_low kind c f) (key_short kind c f))
 
 pub text_range : LengthsAreAllowed
-text_range (record_of.Change c) f = key_range 1 c f
+text_range (record_of.Key kind c) f = key_range (kind_number kind) c f
 text_range (record_of.Raise count) f = refl
-text_range (record_of.Base c) f = key_range 3 c f
 
-most_of_change : (n : ℕ) → is_in change_lengths n ≡ true → n ≤ 1090
+most_of_change : (n : ℕ) → is_in key_lengths n ≡ true → n ≤ 1090
 most_of_change n h = grind (arith, nat_tests)
 
 pub length_most : (n : ℕ) → is_record_length n ≡ true → n ≤ 1090
 length_most n h = at (n == 5) refl h
   where
-    at : (b : Bool) → (n == 5) ≡ b → (b || is_in change_lengths n) ≡ true → n ≤ 1090
+    at : (b : Bool) → (n == 5) ≡ b → (b || is_in key_lengths n) ≡ true → n ≤ 1090
     at true e k = let five : n ≡ 5 = grind (arith, nat_tests) in omega (arith, five)
     at false e k = most_of_change n k
 

@@ -1,5 +1,5 @@
 -- A record's text is that of no other, and reading gives it back.
-use Rattle.std.proofs.Common.{◌≡◌, ℕ, ◌^◌, ◌<◌, List, [], ◌∷◌, ◌++◌, length, true, false, Option}
+use Rattle.std.proofs.Common.{◌≡◌, ℕ, ◌^◌, ◌<◌, List, [], ◌∷◌, ◌++◌, length, Bool, true, false, ◌==◌, if◌then◌else◌, Option}
 use Rattle.std.proofs.Common.{Some, None, refl, sym, ◌∙◌, ap, arith, append_assoc, append-nil}
 use Rattle.std.specs.Prelude.{nat_eq}
 use Rattle.std.specs.Int.{from_be_bytes, to_be_bytes, w16, w32}
@@ -7,11 +7,14 @@ use Rattle.std.proofs.lemmas.Bool.Decides.{nat_tests}
 use Rattle.std.proofs.lemmas.Nat.{from_be_bytes-to_be_bytes_2, from_be_bytes-to_be_bytes_4}
 use Rattle.chpw_rules.specs.Limits.{is_in, iteration_counts}
 use Rattle.chpw_record.specs.declared.record.Change.{Change}
+use Rattle.chpw_record.specs.declared.record.KeyKind.{KeyKind}
+use Rattle.chpw_record.specs.declared.record.KeyKind.TheVariants as kind
 use Rattle.chpw_record.specs.declared.record.Record.{Record}
 use Rattle.chpw_record.specs.declared.record.Record.TheVariants as record_of
 use Rattle.chpw_record.specs.Laws.{IsOnlyRecord, ReadsBack}
 use Rattle.chpw_record.specs.RecordKeys.{key_at}
-use Rattle.chpw_record.specs.Records.{ChangeFits, RecordFits, body_text, framed, key_text, name_bytes, record_text, records_text, version_bytes}
+use Rattle.chpw_record.specs.Records.{ChangeFits, RecordFits, body_text, framed, key_text, kind_number, kind_with}
+use Rattle.chpw_record.specs.Records.{name_bytes, record_text, records_text, version_bytes}
 use Rattle.chpw_record.proofs.LengthLemmas.{text_short}
 use Rattle.chpw_record.proofs.ListLemmas.{front_same}
 use Rattle.chpw_record.proofs.PartsLemmas.{same_parts}
@@ -30,9 +33,8 @@ records_joined (c ∷ cs) ds = ap (λ (xs : List ℕ). record_text c ++ xs) (rec
 
 -- a record is its text behind the text's length
 pub framed_is : (r : Record) → framed (body_text r) ≡ record_text r
-framed_is (record_of.Change c) = refl
+framed_is (record_of.Key kind c) = refl
 framed_is (record_of.Raise count) = refl
-framed_is (record_of.Base c) = refl
 
 -- ---- two records with the same text
 
@@ -60,16 +62,36 @@ heads m n xs ys h = cc
 apart_kinds : (m n : ℕ) (xs ys : List ℕ) → nat_eq m n ≡ false → m ∷ xs ≡ n ∷ ys → ⊥
 apart_kinds m n xs ys d h = let same = heads m n xs ys h in grind (arith, nat_tests)
 
+-- a kind's number is that of no other, and not that of a raise
+number_back : (k : KeyKind) → kind_with (kind_number k) ≡ Some k
+number_back kind.Change = refl
+number_back kind.Base = refl
+number_back kind.Adopt = refl
+number_back kind.Lift = refl
+number_back kind.Remove = refl
+
+same_kind : (k l : KeyKind) → kind_number k ≡ kind_number l → k ≡ l
+same_kind k l e = let a = number_back k in let b = number_back l in let c = ap kind_with e in cc
+
+not_raise : (k : KeyKind) → nat_eq (kind_number k) 2 ≡ false
+not_raise kind.Change = refl
+not_raise kind.Base = refl
+not_raise kind.Adopt = refl
+not_raise kind.Lift = refl
+not_raise kind.Remove = refl
+
+nat_eq_sym : (m n : ℕ) → nat_eq m n ≡ false → nat_eq n m ≡ false
+nat_eq_sym m n h = grind (arith, nat_tests)
+
 same_body : (r q : Record) → RecordFits r → RecordFits q → body_text r ≡ body_text q → r ≡ q
-same_body (record_of.Change c) (record_of.Change d) f g e = ap record_of.Change (same_change 1 c d f g e)
-same_body (record_of.Change c) (record_of.Raise n) f g e = absurd (apart_kinds 1 2 _ _ refl e)
-same_body (record_of.Change c) (record_of.Base d) f g e = absurd (apart_kinds 1 3 _ _ refl e)
-same_body (record_of.Raise m) (record_of.Change d) f g e = absurd (apart_kinds 2 1 _ _ refl e)
+same_body (record_of.Key k c) (record_of.Key l d) f g e =
+    let kinds : k ≡ l = same_kind k l (heads (kind_number k) (kind_number l) _ _ e) in
+    let texts : key_text (kind_number k) c.name c.key ≡ key_text (kind_number k) d.name d.key =
+    e ∙ ap (λ (x : KeyKind). key_text (kind_number x) d.name d.key) (sym kinds) in
+    λ i. record_of.Key (kinds i) (same_change (kind_number k) c d f g texts i)
+same_body (record_of.Key k c) (record_of.Raise n) f g e = absurd (apart_kinds (kind_number k) 2 _ _ (not_raise k) e)
+same_body (record_of.Raise m) (record_of.Key l d) f g e = absurd (apart_kinds 2 (kind_number l) _ _ (nat_eq_sym (kind_number l) 2 (not_raise l)) e)
 same_body (record_of.Raise m) (record_of.Raise n) f g e = ap record_of.Raise (same_count m n f g (tails 2 2 _ _ e))
-same_body (record_of.Raise m) (record_of.Base d) f g e = absurd (apart_kinds 2 3 _ _ refl e)
-same_body (record_of.Base c) (record_of.Change d) f g e = absurd (apart_kinds 3 1 _ _ refl e)
-same_body (record_of.Base c) (record_of.Raise n) f g e = absurd (apart_kinds 3 2 _ _ refl e)
-same_body (record_of.Base c) (record_of.Base d) f g e = ap record_of.Base (same_change 3 c d f g e)
 
 -- ---- two records that begin the same text
 
@@ -94,3 +116,20 @@ same_record r q x y f g e =
 pub reads_back : ReadsBack
 reads_back r None f h = absurd (h r f refl)
 reads_back r (Some q) f h = ap Some (sym (same_body r q f h.0 h.1))
+
+-- a number that a kind is found by is that kind's
+picked : (n m : ℕ) (j : KeyKind) (rest : Option KeyKind) (k : KeyKind) → kind_number j ≡ m → (rest ≡ Some k → n ≡ kind_number k)
+    → (if n == m then Some j else rest) ≡ Some k → n ≡ kind_number k
+picked n m j rest k is others h = at (n == m) refl h
+  where
+    at : (b : Bool) → (n == m) ≡ b → (if b then Some j else rest) ≡ Some k → n ≡ kind_number k
+    at true e g = let same : n ≡ m = grind (arith, nat_tests) in cc
+    at false e g = others g
+
+no_kind : (n : ℕ) (k : KeyKind) → None ≡ Some k → n ≡ kind_number k
+no_kind n k h = cc
+
+pub kind_back : (n : ℕ) (k : KeyKind) → kind_with n ≡ Some k → n ≡ kind_number k
+kind_back n k =
+    picked n 1 kind.Change _ k refl (picked n 3 kind.Base _ k refl (picked n 4 kind.Adopt _ k refl
+    (picked n 5 kind.Lift _ k refl (picked n 6 kind.Remove _ k refl (no_kind n k)))))

@@ -6,7 +6,7 @@ ghost use Rattle.chpw_rules.specs.declared.name.Name.{Name};
 ghost use Rattle.chpw_rules.specs.Limits.{is_in, iteration_counts};
 ghost use Rattle.chpw_rules.specs.Names.{is_component, is_name};
 ghost use Rattle.chpw_record.specs.RecordKeys.{key_at, key_fits};
-ghost use Rattle.chpw_record.specs.Records.{base_bytes as base_bytes_spec, framed, is_record_length as is_length_spec};
+ghost use Rattle.chpw_record.specs.Records.{framed, is_record_length as is_length_spec, key_bytes as key_bytes_spec, kind_number};
 ghost use Rattle.chpw_record.specs.Records.{key_text, name_bytes, part_bytes, raise_bytes as raise_bytes_spec};
 ghost use Rattle.chpw_record.specs.Records.{record_bytes as record_bytes_spec, version_bytes};
 
@@ -14,43 +14,81 @@ use crate::key::KeyRow;
 use chpw_rules::{ITERATION_COUNTS, Items, KVNOS, Limits, Name};
 use std::alloc::{AllocError, Global};
 
-// The kind of a change: a record's first byte after its length.
-const CHANGE_KIND: u8 = 1;
-
-// The kind of a raised iteration count.
+// The kind of a raised iteration count: a record's first byte after its length.
 const RAISE_KIND: u8 = 2;
-
-// The kind of a base.
-const BASE_KIND: u8 = 3;
 
 // The length of a raise, without the two bytes of the length.
 const RAISE_LENGTH: usize = 5;
 
-// The lengths of changes and bases: 58 bytes, and 1 to 8 components of 1 to 128 bytes, each after its length.
-const CHANGE_LENGTHS: Limits = Limits {
+// The lengths of the records of keys: 58 bytes, and 1 to 8 components of 1 to 128 bytes, each after its length.
+const KEY_LENGTHS: Limits = Limits {
     low: 60,
     high: 1090,
 };
 
-// How many bytes of a change or a base stand between its length and its name.
+// How many bytes of a key's record stand between its length and its name.
 const VERSION_LENGTH: usize = 57;
 
-/// A principal's key: the new one of an accepted change, or a base.
+/// A principal and a key of its own.
 #[derive(Drop)]
 pub struct Change {
     pub name: Name,
     pub key: KeyRow,
 }
 
+/// What a record says of a principal and a key.
+#[derive(Clone, Copy, PartialEq, Eq, Debug, Drop)]
+pub enum KeyKind {
+    /// The principal's new key, of an accepted change.
+    Change,
+    /// The key that a compact journal begins a principal with: it has this key alone then.
+    Base,
+    /// A key of the KDC's: newer than those held of the principal, or the first of one that wasn't held.
+    Adopt,
+    /// The principal's newest key, under the version that the KDC gave it.
+    Lift,
+    /// The newest key of a principal that the KDC has no more: it isn't held any more.
+    Remove,
+}
+
 /// What was accepted, as the journal keeps it; or what a compact journal keeps of that.
 #[derive(Drop)]
 pub enum Record {
-    /// A principal's new key.
-    Change(Change),
+    /// A principal's key.
+    Key(KeyKind, Change),
     /// A new iteration count of new keys.
     Raise(u32),
-    /// The key that a compact journal begins a principal with: it has this key alone then.
-    Base(Change),
+}
+
+impl KeyKind {
+    ghost use Rattle.chpw_record.specs.Records.{kind_number, kind_with};
+
+    // A record's first byte after its length.
+    fn number(self) -> u8
+        ensures value { result ≡ kind_number self }
+    {
+        match self {
+            KeyKind::Change => 1,
+            KeyKind::Base => 3,
+            KeyKind::Adopt => 4,
+            KeyKind::Lift => 5,
+            KeyKind::Remove => 6,
+        }
+    }
+
+    // The kind with this first byte, if it is that of a key.
+    fn with_number(number: u8) -> Option<KeyKind>
+        ensures value { result ≡ kind_with number }
+    {
+        match number {
+            1 => Some(KeyKind::Change),
+            3 => Some(KeyKind::Base),
+            4 => Some(KeyKind::Adopt),
+            5 => Some(KeyKind::Lift),
+            6 => Some(KeyKind::Remove),
+            _ => None,
+        }
+    }
 }
 
 /// The record of a change: its length, two bytes, and then the kind 1, kvno and iteration count, four bytes each, the
@@ -60,16 +98,21 @@ pub fn record_bytes(alloc: Global, name: &Name, key: &KeyRow) -> Result<Vec<u8>,
     requires name { is_name name.now ≡ true }
     ensures value { IfOk result (λ r. r.items ≡ record_bytes_spec name.now key.now) }
 {
-    framed_key(alloc, CHANGE_KIND, name, key)
+    framed_key(alloc, KeyKind::Change.number(), name, key)
 }
 
-/// The record of a base: what the record of a change is, with the kind 3. The name has 1 to 8 components of 1 to 128
-/// bytes.
-pub fn base_bytes(alloc: Global, name: &Name, key: &KeyRow) -> Result<Vec<u8>, AllocError>
+/// The record of this kind: what the record of a change is, with the kind's number. The name has 1 to 8 components of 1
+/// to 128 bytes.
+pub fn key_bytes(
+    alloc: Global,
+    kind: KeyKind,
+    name: &Name,
+    key: &KeyRow,
+) -> Result<Vec<u8>, AllocError>
     requires name { is_name name.now ≡ true }
-    ensures value { IfOk result (λ r. r.items ≡ base_bytes_spec name.now key.now) }
+    ensures value { IfOk result (λ r. r.items ≡ key_bytes_spec kind name.now key.now) }
 {
-    framed_key(alloc, BASE_KIND, name, key)
+    framed_key(alloc, kind.number(), name, key)
 }
 
 /// The record of a raise: its length, which is 5, two bytes, and then the kind 2 and the iteration count, four bytes.
@@ -133,14 +176,14 @@ fn put_part(bytes: &mut Vec<u8>, part: &Items<u8>) -> Result<(), AllocError>
 pub fn is_record_length(length: usize) -> bool
     ensures value { result ≡ is_length_spec length }
 {
-    length == RAISE_LENGTH || CHANGE_LENGTHS.allow(length)
+    length == RAISE_LENGTH || KEY_LENGTHS.allow(length)
 }
 
 impl Record {
     ghost use Rattle.chpw_record.specs.Records.{RecordFits, body_text};
 
     /// The record with this text, from behind its length; none where it is that of no record within the limits. A raise
-    /// has 5 bytes, and no change and no base has as few.
+    /// has 5 bytes, and no key's record has as few.
     pub fn read(alloc: Global, body: &[u8]) -> Result<Option<Record>, AllocError>
         ensures value { IfOk result (λ found. MatchOption found
             ((r : _) → RecordFits r → body.now ≢ body_text r)
@@ -150,37 +193,36 @@ impl Record {
         if body.len() == RAISE_LENGTH {
             return Ok(raise_in(body).map(Record::Raise));
         }
-        if let Some(change) = Change::read(alloc, CHANGE_KIND, body)? {
-            return Ok(Some(Record::Change(change)));
-        }
-        match Change::read(alloc, BASE_KIND, body)? {
-            Some(base) => Ok(Some(Record::Base(base))),
-            None => Ok(None),
-        }
+        let Some((kind, change)) = Change::read(alloc, body)? else {
+            return Ok(None);
+        };
+        Ok(Some(Record::Key(kind, change)))
     }
 }
 
 impl Change {
     ghost use Rattle.chpw_record.specs.Records.{ChangeFits};
 
-    // The change with this text, if the text is of this kind; none where it is that of no change within the limits. A
-    // base has such a text too, of another kind.
-    fn read(alloc: Global, kind: u8, body: &[u8]) -> Result<Option<Change>, AllocError>
+    // The key with this text, from its kind on, and the kind; none where it is that of no key's record within the limits.
+    fn read(alloc: Global, body: &[u8]) -> Result<Option<(KeyKind, Change)>, AllocError>
         ensures value { IfOk result (λ found. MatchOption found
-            ((c : _) → ChangeFits c → body.now ≢ key_text kind c.name c.key)
-            (λ c. ChangeFits c × (body.now ≡ key_text kind c.name c.key))) }
+            ((kind : _) → (c : _) → ChangeFits c → body.now ≢ key_text (kind_number kind) c.name c.key)
+            (λ f. ChangeFits f.1 × (body.now ≡ key_text (kind_number f.0) f.1.name f.1.key))) }
         ensures small { length body.now < 57 → IsOk result }
     {
         if body.len() < VERSION_LENGTH {
             return Ok(None);
         }
         let (version, name) = body.split_at(VERSION_LENGTH);
+        let Some(kind) = KeyKind::with_number(version[0]) else {
+            return Ok(None);
+        };
         let key = key_in(version);
-        if version[0] != kind || !fits(&key) {
+        if !fits(&key) {
             return Ok(None);
         }
         match name_in(alloc, name)? {
-            Some(name) => Ok(Some(Change { name, key })),
+            Some(name) => Ok(Some((kind, Change { name, key }))),
             None => Ok(None),
         }
     }

@@ -1,2 +1,3 @@
 pub mod DistinctLemmas
 pub mod NameLemmas
+pub mod PatternLemmas

@@ -1,5 +1,5 @@
 -- A configuration within the limits, as the service takes it.
-use Rattle.std.specs.Prelude.{ℕ, ◌+◌, ℤ, pos, negsuc, Bool, true, false, not, ◌&&◌, ◌==◌, nat_le, List, [], ◌∷◌, ◌++◌, length, Option, Some, None}
+use Rattle.std.specs.Prelude.{ℕ, ℤ, pos, negsuc, Bool, true, false, not, ◌&&◌, ◌==◌, nat_le, nat_lt, List, [], ◌∷◌, ◌++◌, length, Option, Some, None}
 use Rattle.std.specs.List.{list_all, list_any}
 use Rattle.chpw_rules.specs.declared.name.Name.{Name}
 use Rattle.chpw_rules.specs.declared.policy.Policy.{Policy}
@@ -58,10 +58,10 @@ rule_fits rule = is_name rule.actor && target_fits rule.target
 abbrev pub key_fits : KeyBytes → Bool
 key_fits key = is_in kvnos key.kvno && is_in iteration_counts key.iterations
 
--- each version number is one less than the one before it, the first than `newer`
+-- each version number is less than the one before it, the first than `newer`
 abbrev pub descend_from : ℕ → List KeyBytes → Bool
 descend_from newer [] = true
-descend_from newer (key ∷ keys) = (key.kvno + 1 == newer) && descend_from key.kvno keys
+descend_from newer (key ∷ keys) = nat_lt key.kvno newer && descend_from key.kvno keys
 
 abbrev pub kvnos_descend : List KeyBytes → Bool
 kvnos_descend [] = true

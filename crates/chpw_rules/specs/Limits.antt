@@ -72,3 +72,10 @@ component_counts = range 1 8
 
 abbrev pub component_lengths : Limits
 component_lengths = range 1 128
+
+-- the patterns of a list of `[kdc]`, and the bytes of each
+abbrev pub pattern_counts : Limits
+pattern_counts = range 0 64
+
+abbrev pub pattern_lengths : Limits
+pattern_lengths = range 1 255

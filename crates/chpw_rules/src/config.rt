@@ -33,7 +33,7 @@ pub struct KeyBytes {
 #[derive(Drop)]
 pub struct PrincipalRow {
     pub name: Name,
-    /// Newest first, 1 to 16, each version number one less than the one before it.
+    /// Newest first, 1 to 16, each version number less than the one before it.
     pub keys: Items<KeyBytes>,
 }
 

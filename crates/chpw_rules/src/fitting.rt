@@ -18,7 +18,7 @@ use crate::rules::Rule;
 
 impl Config {
     /// Whether every value is within its limits, no service key and no name is repeated, and each principal's version
-    /// numbers go down by one. An empty list of service keys fits.
+    /// numbers go down. An empty list of service keys fits.
     ///
     /// Each name is compared with those before it, which is quadratic in the number of principals.
     pub fn fits(&self) -> bool
@@ -124,7 +124,7 @@ fn descend_from(mut newer: u32, keys: &[KeyBytes]) -> bool
     ensures value { result ≡ descend_from newer keys.now }
 {
     for key in keys {
-        if key.kvno as u64 + 1 != newer as u64 {
+        if key.kvno >= newer {
             return false;
         }
         newer = key.kvno;

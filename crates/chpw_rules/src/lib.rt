@@ -7,6 +7,7 @@ mod items;
 mod limits;
 mod name;
 mod password;
+mod pattern;
 mod policy;
 mod rules;
 
@@ -16,9 +17,11 @@ pub use items::Items;
 pub use limits::{
     AES128_LENGTH, AES256_LENGTH, COMPONENT_COUNTS, COMPONENT_LENGTHS, DEPTHS, ENTRY_COUNTS,
     ETYPES, ITERATION_COUNTS, KEY_COUNTS, KVNOS, Limits, MIN_CLASS_COUNTS, MIN_LENGTHS,
-    PRINCIPAL_COUNTS, REALM_LENGTHS, RULE_COUNTS, SERVICE_KEY_COUNTS, key_length,
+    PATTERN_COUNTS, PATTERN_LENGTHS, PRINCIPAL_COUNTS, REALM_LENGTHS, RULE_COUNTS,
+    SERVICE_KEY_COUNTS, key_length,
 };
 pub use name::Name;
 pub use password::{Facts, password_facts};
+pub use pattern::{NamePattern, NamePatterns};
 pub use policy::Policy;
 pub use rules::{Rule, Rules};

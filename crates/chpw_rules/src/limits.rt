@@ -53,6 +53,10 @@ pub const PRINCIPAL_COUNTS: Limits = Limits {
 pub const COMPONENT_COUNTS: Limits = Limits { low: 1, high: 8 };
 /// The length of a name's component in bytes.
 pub const COMPONENT_LENGTHS: Limits = Limits { low: 1, high: 128 };
+/// How many patterns a list of `[kdc]` has.
+pub const PATTERN_COUNTS: Limits = Limits { low: 0, high: 64 };
+/// The length of a pattern in bytes.
+pub const PATTERN_LENGTHS: Limits = Limits { low: 1, high: 255 };
 /// The length in bytes of a key of encryption type 17 (RFC 3962 section 7).
 pub const AES128_LENGTH: usize = 16;
 /// The length in bytes of a key of encryption type 18.

@@ -81,7 +81,7 @@ agrees_keys t s v now o io a name =
     then option_map (put (max f.policy.depth 1) (new_key s o)) (keys_held s name) else keys_held s name) a.fixed
     ∙ sym (keys_after s v now o io name))))
 
-still_young : (clock now ctime : ℤ) → is_later (int_max clock now) ctime ≡ false → is_later clock ctime ≡ false
+pub still_young : (clock now ctime : ℤ) → is_later (int_max clock now) ctime ≡ false → is_later clock ctime ≡ false
 still_young clock now ctime h = grind (arith, ints, clamps)
 
 used_alike : (b : Bool) (x id : RequestId) (xs ys : List RequestId)

@@ -7,7 +7,7 @@ use Rattle.chpw_rules.specs.Limits.{is_in, iteration_counts}
 use Rattle.chpw_record.specs.declared.key.KeyRow.{KeyRow}
 use Rattle.chpw_table.specs.declared.table.Principal.{Principal}
 use Rattle.chpw_table.specs.declared.table.restoring.KeyFault.{KeyFault}
-use Rattle.chpw_table.specs.declared.table.restoring.KeyFault.TheVariants.{UnknownPrincipal, WrongVersion, Memory}
+use Rattle.chpw_table.specs.declared.table.restoring.KeyFault.TheVariants.{UnknownPrincipal, WrongVersion, TooMany, Memory}
 use Rattle.chpw_table.specs.State.{State, keys_held}
 use Rattle.chpw_table.specs.Step.{with_key}
 use Rattle.chpw_table.specs.Agreement.{Agrees}
@@ -42,6 +42,7 @@ known_for_all t s name known a = subst IsSome (a.principals name) known
 pub unbased_for_all : (t s : State) (name : Name) (fault : KeyFault) → IsBaseRefused t name fault → Agrees t s → IsBaseRefused s name fault
 unbased_for_all t s name UnknownPrincipal r a = sym (a.principals name) ∙ r
 unbased_for_all t s name WrongVersion r a = r
+unbased_for_all t s name TooMany r a = r
 unbased_for_all t s name Memory r a = known_for_all t s name r a
 
 -- where the key was put in its place

@@ -36,7 +36,7 @@ pub find-all : {A : Type 0} (t p : A → Bool) (xs : List A) → list_all t xs �
 find-all t p [] h = tt
 find-all t p (x ∷ xs) h = found_at t x (find p xs) (p x) (and_left _ _ h) (find-all t p xs (and_right _ _ h))
 
-all-take : {A : Type 0} (t : A → Bool) (n : ℕ) (xs : List A) → list_all t xs ≡ true → list_all t (take n xs) ≡ true
+pub all-take : {A : Type 0} (t : A → Bool) (n : ℕ) (xs : List A) → list_all t xs ≡ true → list_all t (take n xs) ≡ true
 all-take t zero xs h = refl
 all-take t (suc n) [] h = refl
 all-take t (suc n) (x ∷ xs) h = both (and_left _ _ h) (all-take t n xs (and_right _ _ h))
@@ -92,7 +92,7 @@ kept_high : (kept n : ℕ) → kept ≤ 16 → min kept n ≤ 16
 kept_high kept n a = omega arith
 
 -- the newest of some keys are as many as a principal holds
-kept_in_range : {A : Type 0} (kept : ℕ) (keys : List A) → 1 ≤ kept → kept ≤ 16 → 1 ≤ length keys → is_in key_counts (length (take kept keys)) ≡ true
+pub kept_in_range : {A : Type 0} (kept : ℕ) (keys : List A) → 1 ≤ kept → kept ≤ 16 → 1 ≤ length keys → is_in key_counts (length (take kept keys)) ≡ true
 kept_in_range kept keys a b h = rw (length-take kept keys)
     (in_range (min kept (length keys)) (kept_low kept (length keys) a h) (kept_high kept (length keys) b))
 

@@ -11,7 +11,7 @@ use Rattle.chpw_table.specs.declared.request.Opened.{Opened}
 use Rattle.chpw_table.specs.declared.verdict.Verdict.{Verdict}
 use Rattle.chpw_table.specs.declared.verdict.Verdict.TheVariants.{Skew, Replay, NotYet, Expired, BadPrivate, BadBody, Denied, NeedInitial, Unknown, Done}
 use Rattle.chpw_table.specs.declared.history.Event.{Event}
-use Rattle.chpw_table.specs.declared.history.Event.TheVariants.{Ask, Raise}
+use Rattle.chpw_table.specs.declared.history.Event.TheVariants.{Ask, Raise, Update}
 use Rattle.chpw_record.specs.declared.key.KeyRow.{KeyRow}
 use Rattle.chpw_table.specs.declared.table.Principal.{Principal}
 use Rattle.chpw_table.specs.Requests.{target_of}
@@ -21,7 +21,7 @@ use Rattle.chpw_table.specs.Decision.{verdict, newest_kvno, message_row}
 use Rattle.chpw_table.specs.Times.{clock_at}
 use Rattle.chpw_table.specs.Step.{step, after, new_key, with_key}
 use Rattle.chpw_table.specs.History.{IsJudged, step_event, step_entry, outcome}
-use Rattle.chpw_table.specs.Laws.{DoneRaisesTarget, OthersStay, event_keys, keys_made, HoldsFew, KeepsNewest}
+use Rattle.chpw_table.specs.Laws.{DoneRaisesTarget, OthersStay}
 use Rattle.chpw_table.specs.Decision.{key_row}
 use Rattle.chpw_table.proofs.NameLemmas.{is_same_name-Decides, is_same_name-itself}
 
@@ -30,7 +30,7 @@ abbrev pub keys_in : List Principal → Name → Option (List KeyRow)
 keys_in ps name = option_map (λ (p : Principal). p.keys) (find (λ (p : Principal). is_same_name p.name name) ps)
 
 -- a test of names that are equal
-same_test : (a b name : Name) → is_same_name a b ≡ true → is_same_name a name ≡ is_same_name b name
+pub same_test : (a b name : Name) → is_same_name a b ≡ true → is_same_name a name ≡ is_same_name b name
 same_test a b name h = ap (λ (n : Name). is_same_name n name) ((is_same_name-Decides a b).0 h)
 
 -- a key in front of others, of which the newest are kept
@@ -139,61 +139,16 @@ done_raises_target s now o io h =
     (all.0, ap (λ (x : Option (List KeyRow)). option_map newest_kvno x) keys ∙ all.1)
 
 -- cut before or after something is put in front
-take_front : (m n : ℕ) (xs ys : List KeyRow) → m ≤ n → take m (xs ++ take n ys) ≡ take m (xs ++ ys)
+pub take_front : (m n : ℕ) (xs ys : List KeyRow) → m ≤ n → take m (xs ++ take n ys) ≡ take m (xs ++ ys)
 take_front m n [] ys h = take-take m n ys h
 take_front zero n (x ∷ xs) ys h = refl
 take_front (suc m) n (x ∷ xs) ys h = ap (λ (zs : List KeyRow). x ∷ zs) (take_front m n xs ys (omega arith))
-
-few_take : (kept : ℕ) (made : List KeyRow) (held : Option (List KeyRow))
-    → IfSome (option_map (λ keys. take kept (made ++ keys)) held) (λ keys. length keys ≤ kept)
-few_take kept made None = search rules
-few_take kept made (Some keys) = simp length-take (omega arith)
-
-one_made : (kept : ℕ) (key : KeyRow) (b : Bool) (held : Option (List KeyRow)) → IfSome held (λ keys. length keys ≤ kept)
-    → (if b then option_map (put kept key) held else held) ≡ option_map (λ keys. take kept ((if b then key ∷ [] else []) ++ keys)) held
-one_made kept key true held few = refl
-one_made kept key false None few = refl
-one_made kept key false (Some keys) few = ap Some (sym (take_all kept keys few))
-
-joined : (kept : ℕ) (more made : List KeyRow) (held : Option (List KeyRow))
-    → option_map (λ keys. take kept (more ++ keys)) (option_map (λ keys. take kept (made ++ keys)) held)
-    ≡ option_map (λ keys. take kept ((more ++ made) ++ keys)) held
-joined kept more made None = refl
-joined kept more made (Some keys) = ap Some (take_front kept kept more (made ++ keys) (omega arith) ∙ ap (take kept) (sym (append_assoc more made keys)))
-
-kept_all : (kept : ℕ) (held : Option (List KeyRow)) → IfSome held (λ keys. length keys ≤ kept) → held ≡ option_map (λ keys. take kept keys) held
-kept_all kept None few = refl
-kept_all kept (Some keys) few = ap Some (sym (take_all kept keys few))
-
-made_after : (s : State) (now : Moment) (io : Bool) (event : Event) (name : Name) → IsJudged s now io event → HoldsFew s
-    → keys_held (step_event s now io event) name ≡ option_map (λ keys. take (kept_count s) (event_keys s event name ++ keys)) (keys_held s name)
-made_after s now io (Ask o v) name legal few =
-    subst (λ (w : Verdict). keys_held (after w s now o io) name ≡ option_map (λ keys. take (kept_count s)
-    (event_keys s (Ask o v) name ++ keys)) (keys_held s name)) legal.verdict_is
-    (keys_after s v now o io name ∙ one_made (kept_count s) (new_key s o) (is_done v && is_same_name (target_of o).name name) (keys_held s name) (few name))
-made_after s now io (Raise count v) name legal few = kept_all (kept_count s) (keys_held s name) (few name)
 
 -- what an event leaves fixed
 pub same_fixed : (s : State) (now : Moment) (io : Bool) (event : Event) → (step_event s now io event).fixed ≡ s.fixed
 same_fixed s now io (Ask o v) = refl
 same_fixed s now io (Raise count v) = refl
+same_fixed s now io (Update u v) = refl
 
 pub same_kept : (s : State) (now : Moment) (io : Bool) (event : Event) → kept_count (step_event s now io event) ≡ kept_count s
 same_kept s now io event = ap (λ (f : Fixed). max f.policy.depth 1) (same_fixed s now io event)
-
--- the law on the newest keys
-pub keeps_newest : KeepsNewest
-keeps_newest s [] name legal few = kept_all (kept_count s) (keys_held s name) (few name)
-keeps_newest s (e ∷ es) name legal few =
-    let here : (n : Name) → keys_held (step_entry s e) n ≡ option_map (λ keys. take (kept_count s) (event_keys s e.event n ++ keys)) (keys_held s n) =
-    λ n. made_after s e.now e.io_failed e.event n legal.0 few in
-    let same : kept_count (step_entry s e) ≡ kept_count s = same_kept s e.now e.io_failed e.event in
-    let few' : HoldsFew (step_entry s e) =
-    λ n. subst (λ (k : ℕ). IfSome (keys_held (step_entry s e) n) (λ keys. length keys ≤ k)) (sym same)
-    (subst (λ (x : Option (List KeyRow)). IfSome x (λ keys. length keys ≤ kept_count s))
-    (sym (here n)) (few_take (kept_count s) (event_keys s e.event n) (keys_held s n))) in
-    subst (λ (k : ℕ). keys_held (outcome (step_entry s e) es) name ≡ option_map (λ keys. take k
-    (keys_made (step_entry s e) es name ++ keys)) (keys_held (step_entry s e) name)) same
-    (keeps_newest (step_entry s e) es name legal.1 few')
-    ∙ (ap (λ (x : Option (List KeyRow)). option_map (λ keys. take (kept_count s) (keys_made (step_entry s e) es name ++ keys)) x) (here name)
-    ∙ joined (kept_count s) (keys_made (step_entry s e) es name) (event_keys s e.event name) (keys_held s name))

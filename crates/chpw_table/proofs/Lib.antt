@@ -28,3 +28,8 @@ pub mod HeldIdLemmas
 pub mod SendLemmas
 pub mod RaisingLemmas
 pub mod StandingLemmas
+pub mod UpdateLemmas
+pub mod NewestLemmas
+pub mod PlacingLemmas
+pub mod UpdatingLemmas
+pub mod RestoringUpdateLemmas

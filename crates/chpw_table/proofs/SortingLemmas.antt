@@ -207,3 +207,23 @@ pub name_at_place : (name : Name) (ps : List Principal) (i : ℕ)
 name_at_place name ps i h =
     let placed = position-Some (has_name name) ps i none h in
     name_got ps i placed.0 ∙ ap (λ (n : Name). Some n) ((is_same_name-Decides (get_or ps i none).name name).0 placed.1)
+
+differs : (x : Principal) (ys : List Principal) → list_all (λ m. is_lt (name_cmp x.name m)) (names ys) ≡ true
+    → AllByRecursion (λ y. is_same_principal x y ≡ false) ys
+differs x [] h = tt
+differs x (y ∷ ys) h = (apart_names (name_cmp x.name y.name) refl (and_left _ _ h), differs x ys (and_right _ _ h))
+  where
+    apart_names : (c : Ordering) → name_cmp x.name y.name ≡ c → is_lt (name_cmp x.name y.name) ≡ true → is_same_name x.name y.name ≡ false
+    apart_names Less e k = same_name_ties x.name y.name ∙ ap is_eq e
+    apart_names Equal e k = absurd (no (is_lt (name_cmp x.name y.name)) (ap is_lt e) k)
+    apart_names Greater e k = same_name_ties x.name y.name ∙ ap is_eq e
+
+distinct_from_order : (xs : List Principal) → are_in_order (names xs) ≡ true → IsDistinct is_same_principal xs
+unfolding IsDistinct
+distinct_from_order [] h = tt
+distinct_from_order (x ∷ xs) h = (differs x xs (and_left _ _ h), distinct_from_order xs (and_right _ _ h))
+
+-- principals in the order of their names are distinct
+pub ordered_distinct : (xs : List Principal) → are_in_order (names xs) ≡ true → are_distinct is_same_principal xs ≡ true
+ordered_distinct xs h =
+    from_distinct [] xs (distinct_from_order xs h) (all_so (λ y. list_any (is_same_principal y) [] ≡ false) (λ y. refl) xs)

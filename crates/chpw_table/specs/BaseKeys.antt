@@ -3,7 +3,7 @@ use Rattle.std.specs.Prelude.{◌≡◌, IsSome, None, map}
 use Rattle.chpw_rules.specs.declared.name.Name.{Name}
 use Rattle.chpw_record.specs.declared.key.KeyRow.{KeyRow}
 use Rattle.chpw_table.specs.declared.table.restoring.KeyFault.{KeyFault}
-use Rattle.chpw_table.specs.declared.table.restoring.KeyFault.TheVariants.{UnknownPrincipal, WrongVersion, Memory}
+use Rattle.chpw_table.specs.declared.table.restoring.KeyFault.TheVariants.{UnknownPrincipal, WrongVersion, TooMany, Memory}
 use Rattle.chpw_table.specs.State.{State, keys_held}
 use Rattle.chpw_table.specs.Step.{with_key}
 
@@ -15,4 +15,5 @@ with_base_key name key s = record s { principals = map (with_key 1 name key) s.p
 abbrev pub IsBaseRefused : State → Name → KeyFault → Type 0
 IsBaseRefused s name UnknownPrincipal = keys_held s name ≡ None
 IsBaseRefused s name WrongVersion = ⊥
+IsBaseRefused s name TooMany = ⊥
 IsBaseRefused s name Memory = IsSome (keys_held s name)

@@ -1,8 +1,8 @@
 -- For the proofs of a step: what a table becomes at an event, part by part.
-use Rattle.std.specs.Prelude.{◌≡◌, ℕ, zero, suc, ◌+◌, ℤ, List, [], ◌∷◌, ◌<◌, length, map, take, Some, Bool, true, ◌&&◌, if◌then◌else◌}
+use Rattle.std.specs.Prelude.{◌≡◌, ℕ, zero, suc, ◌+◌, ℤ, List, [], ◌∷◌, ◌<◌, length, map, take, slice_index_or, Some, Bool, true, ◌&&◌, if◌then◌else◌}
 use Rattle.chpw_ordered_keys.specs.Trees.{with_first}
 use Rattle.chpw_rules.specs.declared.name.Name.{Name}
-use Rattle.chpw_rules.specs.Names.{is_name}
+use Rattle.chpw_rules.specs.Names.{is_name, is_same_name}
 use Rattle.chpw_table.specs.declared.times.Moment.{Moment}
 use Rattle.chpw_table.specs.declared.request.Opened.{Opened}
 use Rattle.chpw_table.specs.declared.request.RequestId.{RequestId}
@@ -40,6 +40,7 @@ pub record IsAt (s : State) (name : Name) (n : ℕ) (p : Principal) : Type 0 whe
   pub within : n < length s.principals
   pub held : keys_held s name ≡ Some p.keys
   pub fits : is_name name ≡ true
+  pub named : is_same_name (slice_index_or s.principals n p).name name ≡ true
   pub change : (kept : ℕ) (key : KeyRow) → map (with_key kept name key) s.principals ≡ with_keys_at n (take kept (key ∷ p.keys)) s.principals
 
 -- the ids held at a clock, after one more is used

@@ -25,3 +25,8 @@ pub mod Entering
 pub mod Preparing
 pub mod Completing
 pub mod Inserting
+pub mod Updates
+pub mod Updating
+pub mod Placing
+pub mod Planning
+pub mod EnteringUpdates

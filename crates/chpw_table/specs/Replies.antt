@@ -9,6 +9,10 @@ use Rattle.krb_protocol.specs.declared.codes.TheConstants.{KRB_AP_ERR_REPEAT, KR
 use Rattle.krb_protocol.specs.declared.codes.TheConstants.{KRB_AP_ERR_TKT_EXPIRED}
 use Rattle.chpw_table.specs.declared.raising.RaiseVerdict.{RaiseVerdict}
 use Rattle.chpw_table.specs.declared.raising.RaiseVerdict.TheVariants as raise
+use Rattle.chpw_table.specs.declared.updating.KdcUpdate.{KdcUpdate}
+use Rattle.chpw_table.specs.declared.updating.KdcUpdate.TheVariants as update
+use Rattle.chpw_table.specs.declared.updating.UpdateVerdict.{UpdateVerdict}
+use Rattle.chpw_table.specs.declared.updating.UpdateVerdict.TheVariants as taking
 use Rattle.chpw_table.specs.declared.verdict.Verdict.{Verdict}
 use Rattle.chpw_table.specs.declared.verdict.Verdict.TheVariants.{Skew, Replay, NotYet, Expired, BadPrivate}
 use Rattle.chpw_table.specs.declared.verdict.Verdict.TheVariants.{BadBody, Denied, NeedInitial, Unknown, Short}
@@ -53,3 +57,15 @@ abbrev pub told_of : RaiseVerdict → Told
 told_of raise.NotHigher = record { code = KRB5_KPASSWD_SOFTERROR; text = codes "count not higher" }
 told_of raise.Broken = record { code = KRB5_KPASSWD_HARDERROR; text = codes "journal failed" }
 told_of raise.Raised = record { code = KRB5_KPASSWD_SUCCESS; text = codes "count raised" }
+
+-- the answer to an update from the KDC, likewise
+abbrev pub taken_text : KdcUpdate → List ℕ
+taken_text (update.Adopt name key) = codes "adopted"
+taken_text (update.Lift name kvno) = codes "lifted"
+taken_text (update.Remove name) = codes "removed"
+
+abbrev pub told_of_update : KdcUpdate → UpdateVerdict → Told
+told_of_update u taking.NoSuchPrincipal = record { code = KRB5_KPASSWD_HARDERROR; text = codes "no such principal" }
+told_of_update u taking.NotNewer = record { code = KRB5_KPASSWD_HARDERROR; text = codes "not newer" }
+told_of_update u taking.Broken = record { code = KRB5_KPASSWD_HARDERROR; text = codes "journal failed" }
+told_of_update u taking.Taken = record { code = KRB5_KPASSWD_SUCCESS; text = taken_text u }

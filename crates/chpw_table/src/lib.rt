@@ -17,6 +17,7 @@ mod sink;
 mod standing;
 mod table;
 mod times;
+mod updating;
 mod verdict;
 
 pub use change::{Accepted, KeyChange};
@@ -32,6 +33,9 @@ pub use request::{Body, Opened, RequestId, Target};
 pub use same_keys::are_same_keys;
 pub use sink::{JournalSink, SinkFault};
 pub use standing::StandingRules;
-pub use table::{KeyFault, Lookup, MOST_CARRIED, Prepared, Principal, RowChange, Table};
+pub use table::{
+    KeyFault, Lookup, MOST_CARRIED, Prepared, PreparedUpdate, Principal, RowChange, Table,
+};
 pub use times::{CLOCK_SKEW, LAST_SECOND, Moment};
+pub use updating::{KdcUpdate, UpdateFault, UpdateOutcome, UpdateRefused, UpdateVerdict};
 pub use verdict::Verdict;

@@ -19,7 +19,7 @@ pub fn are_same_keys(keys: &[KeyRow], others: &[KeyRow]) -> bool
     true
 }
 
-fn is_same_key(key: &KeyRow, other: &KeyRow) -> bool
+pub(crate) fn is_same_key(key: &KeyRow, other: &KeyRow) -> bool
     ensures value { IsTrue result ↔ key.now ≡ other.now }
 {
     key.kvno == other.kvno

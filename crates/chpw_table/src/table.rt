@@ -18,11 +18,15 @@ mod base;
 mod changing;
 mod decision;
 mod opening;
+mod placing;
+mod planning;
 mod preparing;
 mod raising;
 mod reopening;
 mod restoring;
+mod restoring_updates;
 mod step;
+mod updating;
 mod wanted;
 
 use crate::counts::Counts;
@@ -38,6 +42,7 @@ pub use reopening::MOST_CARRIED;
 pub use restoring::KeyFault;
 use std::alloc::{AllocError, Global};
 use std::marker::Model;
+pub use updating::PreparedUpdate;
 
 /// A principal and its keys, newest first.
 #[derive(Drop)]
@@ -76,6 +81,7 @@ impl Keyed<Name> for Principal {
 #[derive(Drop)]
 pub struct Table {
     standing: StandingRules,
+    // There is room for as many as a configuration may have, so that one joins them without taking memory.
     principals: Vec<Principal>,
     // Each in the memory that it brought.
     used: KeyTree<RequestId>,
@@ -89,9 +95,9 @@ pub struct Table {
 }
 
 impl Model for Table {
-    ghost use Rattle.std.specs.Prelude.{◌≡◌, ◌≤◌, ◌+◌, length, IsTrue};
+    ghost use Rattle.std.specs.Prelude.{◌≡◌, ◌≤◌, ◌+◌, length, IsTrue, vec_capacity};
     ghost use Rattle.std.specs.List.Sorted.{IsStrictlySortedBy};
-    ghost use Rattle.chpw_rules.specs.Limits.{is_in, entry_counts, iteration_counts};
+    ghost use Rattle.chpw_rules.specs.Limits.{is_in, entry_counts, iteration_counts, principal_counts};
     ghost use Rattle.chpw_rules.specs.Fitting.{policy_fits};
     ghost use Rattle.chpw_table.specs.Times.{IsTime};
     ghost use Rattle.chpw_table.specs.Agreement.{Held};
@@ -117,7 +123,8 @@ impl Model for Table {
         × IsTrue (is_in entry_counts t.max_entries) × IsTime t.clock
         × IsTrue (policy_fits t.standing.policy) × IsTrue (are_holders t.principals.items)
         × (length t.used ≤ t.events + 2147483648) × IsStrictlySortedBy id_cmp t.used
-        × (young_ids t.clock t.used ≡ t.used) × IsTrue (is_in iteration_counts t.count) };
+        × (young_ids t.clock t.used ≡ t.used) × IsTrue (is_in iteration_counts t.count)
+        × (principal_counts.high ≤ vec_capacity t.principals) };
 }
 
 impl Table {

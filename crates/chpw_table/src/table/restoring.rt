@@ -20,8 +20,10 @@ use std::alloc::AllocError;
 pub enum KeyFault {
     /// There is no such principal.
     UnknownPrincipal,
-    /// The version is not the one after the newest held.
+    /// The version is not the one after the newest held; of a key from the KDC, it is not above that.
     WrongVersion,
+    /// The key would add a principal, and there are as many as a configuration may have.
+    TooMany,
     /// A growth was refused.
     Memory,
 }

@@ -35,6 +35,7 @@ invariant_of-result c =
       none.1,
       none.2,
       count,
+      search rules,
     )
 
 pub returns-clause-opening : goal.returns-clause-opening

@@ -14,4 +14,5 @@ invariant_of-self c = (
   rw c.put_ids.ensures.value (sorted_held _ _ _ c.self.invariant.7),
   search (rules, c.put_ids.ensures.young),
   search rules,
+  search rules,
 )
