@@ -14,12 +14,15 @@ use Rattle.chpw_table.specs.declared.times.Moment.{Moment}
 use Rattle.chpw_table.specs.declared.request.Opened.{Opened}
 use Rattle.chpw_table.specs.declared.outcome.Outcome.{Outcome}
 use Rattle.chpw_table.specs.declared.history.Event.{Event}
-use Rattle.chpw_table.specs.declared.history.Event.TheVariants.{Ask}
+use Rattle.chpw_table.specs.declared.history.Event.TheVariants.{Ask, Update}
 use Rattle.chpw_table.specs.declared.history.Entry.{Entry}
 use Rattle.chpw_table.specs.State.{State}
 use Rattle.chpw_table.specs.History.{IsJudged, is_accepted, step_event, step_entry, outcome}
 use Rattle.chpw_table.specs.Verdicts.{is_done}
-use Rattle.chpw_table.specs.Outcomes.{Steps}
+use Rattle.chpw_table.specs.declared.updating.KdcUpdate.{KdcUpdate}
+use Rattle.chpw_table.specs.declared.updating.UpdateVerdict.{UpdateVerdict}
+use Rattle.chpw_table.specs.Updates.{is_taken, name_in, update_fits}
+use Rattle.chpw_table.specs.Outcomes.{Steps, StepsBy}
 use Rattle.chpw_table.specs.Journal.{journal, appended, event_appended}
 use Rattle.chpw_table.specs.Agreement.{Held, Agrees}
 use Rattle.chpw_table.specs.State.{keys_held}
@@ -29,7 +32,7 @@ use Rattle.chpw_journal.proofs.JoinedLemmas.{whole_more}
 use Rattle.chpw_book.specs.Receipts.{IsNumbered, IsCounted, is_of, entries_of, next_entry}
 use Rattle.chpw_book.specs.Recorded.{RecordedView, IsLinearized}
 use Rattle.chpw_book.specs.Wholeness.{NewestIsWhole}
-use Rattle.chpw_book.proofs.WholeLemmas.{brings_whole}
+use Rattle.chpw_book.proofs.WholeLemmas.{brings_whole, update_brings_whole}
 use Rattle.chpw_decider.proofs.KeepingLemmas.{legal_on, outcome_on, journal_on, journal_goes_on}
 
 -- ---- the workers' entries
@@ -174,4 +177,20 @@ kept_step opening workers prior b w now o r t es counts changes n told k steps t
     kept_event opening workers prior b w now r.io_failed (Ask o r.verdict) t es counts changes n told k
     (steps.legal s k.agrees) (steps.agrees s k.agrees)
     (brings_whole s t.state now o r.io_failed r.verdict (steps.legal s k.agrees) (steps.agrees s k.agrees) newest)
+    (tells s k.agrees) steps.events below h c d total
+
+-- an update that the table took or not, and its entry
+pub kept_update : (opening : State) (workers : ℕ) (prior : List ℕ) (b : RecordedView) (w : ℕ) (now : Moment) (io : Bool)
+    (u : KdcUpdate) (v : UpdateVerdict) (t : Held) (es : List Entry) (counts : List ℕ) (changes n : ℕ) (told : Option (List ℕ))
+    → IsLinearized opening workers prior b → StepsBy b.table t now io (Update u v)
+    → ((s : State) → Agrees b.table.state s → told ≡ option_map (λ xs. xs ++ event_appended s (Update u v)) b.told)
+    → update_fits u ≡ true → NewestIsWhole (keys_held t.state (name_in u))
+    → w < length b.counts → es ≡ b.history ++ next_entry b.history w now io (Update u v) ∷ []
+    → counts ≡ slice_set b.counts w (slice_index b.counts w + 1) → changes ≡ (if is_taken v then b.changes + 1 else b.changes) → n ≡ b.total + 1
+    → IsLinearized opening workers prior (record { table = t; history = es; counts = counts; changes = changes; total = n; told = told })
+kept_update opening workers prior b w now io u v t es counts changes n told k steps tells fits newest below h c d total =
+    let s : State = outcome opening b.history in
+    kept_event opening workers prior b w now io (Update u v) t es counts changes n told k
+    (steps.legal s k.agrees) (steps.agrees s k.agrees)
+    (update_brings_whole s t.state now u io v (steps.legal s k.agrees) (steps.agrees s k.agrees) fits newest)
     (tells s k.agrees) steps.events below h c d total

@@ -1,7 +1,7 @@
 -- What the laws of changes go by.
 use Rattle.chpw_snapshots.proofs.RiseLemmas.{no_older, no_lower}
 use Rattle.chpw_book.proofs.ChangeLemmas.{accepted_on, changes_counted, beginnings}
-use Rattle.chpw_book.proofs.KeptLemmas.{kept_list, known_before}
+use Rattle.chpw_book.proofs.KeptLemmas.{kept_list, names_known}
 use Rattle.chpw_book.proofs.RiseLemmas.{versions_rise}
 use Rattle.chpw_book.proofs.ShownLemmas.{histories_shown, lookups_of_histories}
 
@@ -10,7 +10,7 @@ pub ruleset change_laws = (
   changes_counted,
   beginnings,
   kept_list,
-  known_before,
+  names_known,
   versions_rise,
   no_older,
   no_lower,

@@ -1,6 +1,6 @@
 -- The published list goes on with the history.
 use Rattle.std.proofs.Common.{◌≡◌, ℕ, ◌+◌, ◌^◌, ◌<◌, List, [], ◌∷◌, ◌++◌, ◌≤◌, length, length-append, Bool, true, false}
-use Rattle.std.proofs.Common.{◌&&◌, ◌||◌, Option, None, Some, refl, sym, ◌∙◌, ap, subst, arith, if◌then◌else◌, append-nil}
+use Rattle.std.proofs.Common.{not, ◌&&◌, ◌||◌, Option, None, Some, refl, sym, ◌∙◌, ap, subst, arith, if◌then◌else◌, append-nil}
 use Rattle.std.proofs.lemmas.List.Sums.{count_by-le-length}
 use Rattle.std.specs.Prelude.{IfSome}
 use mathlib.Core.List.{IsPrefix}
@@ -158,32 +158,43 @@ adds_next opening workers prior b later mine mid more s t u now event p h q begi
       grows = h.grows;
     }
 
--- ---- the published snapshots after a decision
+-- ---- what waits to be published after an event
 
-pending_at : (before : State) (was now : Bool) (o : Opened) (row v : Verdict) (s t : PublishedList) → (was ≡ false → s.waiting ≡ None)
-    → (d io : Bool) → is_done row ≡ d → v ≡ (if d && io then Broken else row)
-    → now ≡ (was || io) → t ≡ with_waiting d (change_by before (Ask o Done)) s → LeavesPending before now (Ask o v) s t
-pending_at before was now o row v s t free true io is vi ni ti = record {
+was_whole : (was io now : Bool) → now ≡ (was || io) → now ≡ false → was ≡ false
+was_whole true io now ni b = absurd (let x : now ≡ true = ni in cc)
+was_whole false io now ni b = refl
+
+pending_at : (before : State) (was now io d : Bool) (event : Event) (c : Accepted) (s t : PublishedList) → (was ≡ false → s.waiting ≡ None)
+    → is_accepted event ≡ (d && not io) → now ≡ (was || io) → c ≡ change_by before event
+    → t ≡ with_waiting d c s → LeavesPending before now event s t
+pending_at before was now io true event c s t free ai ni ci ti = record {
   list = ap (λ (x : PublishedList). x.list) ti;
-  waits = λ h. ap (λ (x : PublishedList). x.waiting) ti;
-  free = λ h b. absurd (at was io vi ni h b);
+  waits = λ h. ap (λ (x : PublishedList). x.waiting) ti ∙ ap Some ci;
+  free = λ h b. absurd (at was io ni ai h b);
 }
   where
-    at : (was io : Bool) → v ≡ (if true && io then Broken else row) → now ≡ (was || io) → is_done v ≡ false → now ≡ false → ⊥
-    at true io vi ni h b = let x : now ≡ true = ni in cc
-    at false true vi ni h b = let x : now ≡ true = ni in cc
-    at false false vi ni h b = let x : is_done v ≡ true = ap is_done vi ∙ is in cc
-pending_at before was now o row v s t free false io is vi ni ti = record {
+    at : (was io : Bool) → now ≡ (was || io) → is_accepted event ≡ (true && not io) → is_accepted event ≡ false → now ≡ false → ⊥
+    at true io ni ai h b = let x : now ≡ true = ni in cc
+    at false true ni ai h b = let x : now ≡ true = ni in cc
+    at false false ni ai h b = let x : is_accepted event ≡ true = ai in cc
+pending_at before was now io false event c s t free ai ni ci ti = record {
   list = ap (λ (x : PublishedList). x.list) ti;
-  waits = λ h. absurd (let x : is_done v ≡ false = ap is_done vi ∙ is in cc);
-  free = λ h b. ap (λ (x : PublishedList). x.waiting) ti ∙ free (at was ni b);
+  waits = λ h. absurd (let x : is_accepted event ≡ false = ai in cc);
+  free = λ h b. ap (λ (x : PublishedList). x.waiting) ti ∙ free (was_whole was io now ni b);
 }
-  where
-    at : (was : Bool) → now ≡ (was || io) → now ≡ false → was ≡ false
-    at true ni b = absurd (let x : now ≡ true = ni in cc)
-    at false ni b = refl
 
-pub pending_next : (before : State) (was now io : Bool) (o : Opened) (row v : Verdict) (s t : PublishedList) → (was ≡ false → s.waiting ≡ None)
-    → v ≡ (if is_done row && io then Broken else row) → now ≡ (was || io)
-    → t ≡ with_waiting (is_done row) (change_by before (Ask o Done)) s → LeavesPending before now (Ask o v) s t
-pending_next before was now io o row v s t free vi ni ti = pending_at before was now o row v s t free (is_done row) io refl vi ni ti
+-- An event was to be accepted unless its append failed, and its change was prepared if so: it is prepared then, and
+-- otherwise none is.
+pub pending_next : (before : State) (was now io d : Bool) (event : Event) (c : Accepted) (s t : PublishedList) → (was ≡ false → s.waiting ≡ None)
+    → is_accepted event ≡ (d && not io) → now ≡ (was || io) → c ≡ change_by before event
+    → t ≡ with_waiting d c s → LeavesPending before now event s t
+pending_next before was now io d event c s t free ai ni ci ti = pending_at before was now io d event c s t free ai ni ci ti
+
+-- a decision is accepted so
+pub written_done : (row v : Verdict) (io : Bool) → v ≡ (if is_done row && io then Broken else row) → is_done v ≡ (is_done row && not io)
+written_done row v io vi = ap is_done vi ∙ at (is_done row) io refl
+  where
+    at : (b io : Bool) → is_done row ≡ b → is_done (if b && io then Broken else row) ≡ (b && not io)
+    at true true e = refl
+    at true false e = e
+    at false io e = e

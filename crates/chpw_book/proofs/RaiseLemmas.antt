@@ -6,11 +6,12 @@ use Rattle.chpw_table.specs.declared.change.Accepted.TheVariants.{Count}
 use Rattle.chpw_table.specs.declared.raising.RaiseVerdict.{RaiseVerdict}
 use Rattle.chpw_table.specs.declared.raising.RaiseVerdict.TheVariants as raise
 use Rattle.chpw_table.specs.declared.history.Event.TheVariants.{Raise}
-use Rattle.chpw_table.specs.State.{State, new_count}
+use Rattle.chpw_table.specs.State.{new_count}
 use Rattle.chpw_table.specs.Raising.{raise_verdict, is_raised, would_raise}
 use Rattle.chpw_table.specs.Agreement.{Held}
 use Rattle.chpw_snapshots.specs.Known.{PublishedList}
 use Rattle.chpw_book.specs.Publishing.{LeavesPending, with_waiting}
+use Rattle.chpw_book.proofs.PublishLemmas.{pending_next}
 
 both_true : (a b : Bool) → (a && b) ≡ true → (a ≡ true) × (b ≡ true)
 both_true true b h = (refl, h)
@@ -45,39 +46,19 @@ would_at t count room =
     ap (λ (b : Bool). b && (nat_lt (new_count t.state) count && not t.state.broken)) free
     ∙ ap (λ (b : Bool). b && not t.state.broken) (turned (new_count t.state) count)
 
-was_whole : (was io now : Bool) → now ≡ (was || io) → now ≡ false → was ≡ false
-was_whole true io now ni b = absurd (let x : now ≡ true = ni in cc)
-was_whole false io now ni b = refl
-
-raised_at : (before : State) (count : ℕ) (v : RaiseVerdict) (s t : PublishedList) (now low was io : Bool) → (was ≡ false → s.waiting ≡ None)
-    → v ≡ (if low then raise.NotHigher else if was || io then raise.Broken else raise.Raised)
-    → now ≡ (was || io) → t ≡ with_waiting (not low && not was) (Count count) s
-    → LeavesPending before now (Raise count v) s t
-raised_at before count v s t now true was io free vi ni ti = record {
-  list = ap (λ (x : PublishedList). x.list) ti;
-  waits = λ h. absurd (let x : is_raised v ≡ false = ap is_raised vi in cc);
-  free = λ h b. ap (λ (x : PublishedList). x.waiting) ti ∙ free (was_whole was io now ni b);
-}
-raised_at before count v s t now false true io free vi ni ti = record {
-  list = ap (λ (x : PublishedList). x.list) ti;
-  waits = λ h. absurd (let x : is_raised v ≡ false = ap is_raised vi in cc);
-  free = λ h b. absurd (let x : now ≡ true = ni in cc);
-}
-raised_at before count v s t now false false true free vi ni ti = record {
-  list = ap (λ (x : PublishedList). x.list) ti;
-  waits = λ h. absurd (let x : is_raised v ≡ false = ap is_raised vi in cc);
-  free = λ h b. absurd (let x : now ≡ true = ni in cc);
-}
-raised_at before count v s t now false false false free vi ni ti = record {
-  list = ap (λ (x : PublishedList). x.list) ti;
-  waits = λ h. ap (λ (x : PublishedList). x.waiting) ti;
-  free = λ h b. absurd (let x : is_raised v ≡ true = ap is_raised vi in cc);
-}
+raised_at : (low was io : Bool)
+    → is_raised (if low then raise.NotHigher else if was || io then raise.Broken else raise.Raised) ≡ ((not low && not was) && not io)
+raised_at true was io = refl
+raised_at false true io = refl
+raised_at false false true = refl
+raised_at false false false = refl
 
 pub raise_pending : (b : Held) (count : ℕ) (v : RaiseVerdict) (io now : Bool) (s t : PublishedList)
     → b.events < b.max_entries → (b.state.broken ≡ false → s.waiting ≡ None)
     → v ≡ raise_verdict b.state count io → now ≡ (b.state.broken || io)
     → t ≡ with_waiting (would_raise b count) (Count count) s → LeavesPending b.state now (Raise count v) s t
 raise_pending b count v io now s t room free vi ni ti =
-    raised_at b.state count v s t now (nat_le count (new_count b.state)) b.state.broken io free vi ni
+    let low : Bool = nat_le count (new_count b.state) in
+    pending_next b.state b.state.broken now io (not low && not b.state.broken) (Raise count v) (Count count) s t free
+    (ap is_raised vi ∙ raised_at low b.state.broken io) ni refl
     (ti ∙ ap (λ (w : Bool). with_waiting w (Count count) s) (would_at b count room))

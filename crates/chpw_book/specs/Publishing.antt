@@ -15,9 +15,11 @@ use Rattle.chpw_table.specs.History.{is_accepted}
 use Rattle.chpw_table.specs.declared.change.Accepted.{Accepted}
 use Rattle.chpw_table.specs.Versions.{change_by, accepted}
 use Rattle.chpw_changelog.specs.declared.change.NumberedChange.{NumberedChange}
-use Rattle.chpw_changelog.specs.declared.change.NumberedChange.TheVariants.{Key, Count}
+use Rattle.chpw_changelog.specs.declared.change.NumberedChange.TheVariants.{Keys, Count}
+use Rattle.chpw_changelog.specs.declared.change.KeysChange.{KeysChange}
+use Rattle.chpw_changelog.specs.declared.change.KeysChange.TheVariants.{Key, Adopted, Lifted, Removed}
 use Rattle.chpw_changelog.specs.Changes.{EndsWith}
-use Rattle.chpw_snapshots.specs.declared.rows.Row.{Row}
+use Rattle.chpw_snapshots.specs.declared.row.Row.{Row}
 use Rattle.chpw_snapshots.specs.Known.{Known, PublishedList}
 use Rattle.chpw_snapshots.specs.Rows.{Rowed}
 use Rattle.chpw_snapshots.specs.Looking.{LooksUp}
@@ -86,9 +88,16 @@ pub record Tells (opening : State) (before later : List Entry) (mine more : Know
 abbrev pub MayShow : Held → Known → Known → Name → Option Lookup → Type 0
 MayShow opening mine more name found = ((found ≡ None) × (more ≡ mine)) ⊎ LooksUp opening mine more name found
 
--- the version in a change of a key
+-- the version that a name's newest keys have after a change; none once it is removed
+abbrev pub kvno_after : KeysChange → Option ℕ
+kvno_after (Key kvno count) = Some kvno
+kvno_after (Adopted kvno count) = Some kvno
+kvno_after (Lifted kvno) = Some kvno
+kvno_after Removed = None
+
+-- the version in a change; none in one of the count of new keys
 abbrev pub kvno_in : NumberedChange → Option ℕ
-kvno_in (Key key) = Some key.kvno
+kvno_in (Keys whose change) = kvno_after change
 kvno_in (Count count) = None
 
 -- nothing was learnt and there is no version; or this is the version in the last change of what was learnt, unless that
@@ -100,12 +109,15 @@ IsKvnoTold opening own kvno =
 
 -- the row of a name of which this is shown
 abbrev pub row_showing : Name → Lookup → Row
-row_showing name l = record { name = name; kvno = l.kvno; counts = l.held }
+row_showing name l = record { name = name; shown = Some (record { kvno = l.kvno; counts = l.held }) }
 
 -- the row of a name whose keys are these
 abbrev pub row_with : Name → Option (List KeyRow) → Row
-row_with name None = record { name = name; kvno = 0; counts = [] }
-row_with name (Some keys) = record { name = name; kvno = newest_kvno keys; counts = map (λ (k : KeyRow). k.count) keys }
+row_with name None = record { name = name; shown = None }
+row_with name (Some keys) = record {
+  name = name;
+  shown = Some (record { kvno = newest_kvno keys; counts = map (λ (k : KeyRow). k.count) keys });
+}
 
 abbrev pub row_under : State → Name → Row
 row_under s name = row_with name (keys_held s name)
@@ -114,6 +126,7 @@ row_under s name = row_with name (keys_held s name)
 abbrev pub table_rows : Held → Rowed
 table_rows t = record {
   rows = map (λ (p : Principal). row_under t.state p.name) t.state.principals;
+  added = [];
   kept = kept_count t.state;
   policy = new_count t.state;
   seen = t.seen;

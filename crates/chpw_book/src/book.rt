@@ -5,18 +5,18 @@ ghost use mathlib.Core.List.{IsPrefix};
 ghost use Rattle.chpw_changelog.specs.Pens.{opening_state};
 ghost use Rattle.chpw_table.specs.declared.outcome.DecideFault.TheVariants.{Full};
 ghost use Rattle.chpw_rules.specs.Limits.{is_in, iteration_counts};
-ghost use Rattle.chpw_table.specs.declared.history.Event.TheVariants.{Ask, Raise};
+ghost use Rattle.chpw_table.specs.declared.history.Event.TheVariants.{Ask, Raise, Update};
 ghost use Rattle.chpw_table.specs.Times.{IsMoment};
 ghost use Rattle.chpw_table.specs.Requests.{target_of};
 ghost use Rattle.chpw_table.specs.Completing.{salt_of, completed};
 ghost use Rattle.chpw_table.specs.Refusals.{IsRefused};
 ghost use Rattle.chpw_table.specs.Verdicts.{is_done};
-ghost use Rattle.chpw_table.specs.Raising.{is_raised};
+ghost use Rattle.chpw_table.specs.Updates.{update_fits};
 ghost use Rattle.chpw_table.specs.Versions.{accepted};
 ghost use Rattle.chpw_decider.specs.Deciding.{IsCompletedFrom, IsFinal};
 ghost use Rattle.chpw_book.specs.Closing.{IsRefusal, IsWhole, is_full};
 ghost use Rattle.chpw_book.specs.Recorded.{IsLinearized};
-ghost use Rattle.chpw_book.specs.Calls.{Adds, AsksAfter, LacksAfter, IsFirstFault};
+ghost use Rattle.chpw_book.specs.Calls.{Adds, AsksAfter, LacksAfter, IsFirstFault, IsUpdateFault, IsRefusedAfter};
 ghost use Rattle.chpw_table.specs.History.{missing};
 ghost use Rattle.chpw_book.specs.Passes.{new_pass};
 ghost use Rattle.chpw_book.specs.Starting.{IsNamed, table_of, workers_of};
@@ -30,9 +30,11 @@ use crate::raising::RaiseFault;
 use crate::recorded::RecordedTable;
 use crate::rows::rows_of;
 use crate::unnamed::{StartFault, UnnamedDesk};
+use crate::updating::DeskUpdateRefused;
 use chpw_snapshots::SnapshotWriter;
 use chpw_table::{
-    Counts, DecideFault, Entry, JournalSink, Moment, Opened, RaiseVerdict, Refused, Verdict,
+    Counts, DecideFault, Entry, JournalSink, KdcUpdate, Moment, Opened, RaiseVerdict, Refused,
+    UpdateVerdict, Verdict,
 };
 use std::alloc::Global;
 use std::marker::Model;
@@ -162,7 +164,7 @@ impl<D: DeskName, S: JournalSink> Book<D, S> {
         let verdict = self
             .recorded
             .decide(&mut self.snapshots, pass, now, opened)?;
-        tell(rt, &mut self.snapshots, pass, verdict);
+        tell(rt, &mut self.snapshots, pass, is_accepted(verdict));
         Ok(verdict)
     }
 
@@ -234,7 +236,42 @@ impl<D: DeskName, S: JournalSink> Book<D, S> {
     {
         self.snapshots.has(pass.known_front());
         let verdict = self.recorded.raise(&mut self.snapshots, pass, now, count)?;
-        tell_raise(rt, &mut self.snapshots, pass, verdict);
+        tell(rt, &mut self.snapshots, pass, verdict.is_raised());
+        Ok(verdict)
+    }
+
+    /// Takes what the KDC says of a principal: an entry of the pass's worker at the end of the history, and its receipt in
+    /// the pass. If it is taken, lookups show it, and the pass learns the new list of accepted changes; this waits for
+    /// lookups that still read what it changes.
+    ///
+    /// `now` has seconds from 0 to `chpw_table::LAST_SECOND`, and the update is within the limits
+    /// (`chpw_table::KdcUpdate::fits`). After a fault nothing has changed: `Full` exactly if the table is full; then
+    /// `TooMany` exactly if it has 10,000 principals and the update would add one; then, only where it would add one,
+    /// `Composite` and `NoRoom`; and `Memory`.
+    pub fn update<R: Wait>(
+        &mut self,
+        rt: &R,
+        pass: &mut Pass<D>,
+        now: Moment,
+        update: KdcUpdate,
+    ) -> Result<UpdateVerdict, DeskUpdateRefused>
+        requires moment { IsMoment now }
+        requires fits { update_fits update ≡ true }
+        ensures adds { IfOk result (λ v. Adds (opening_state D.root) self.old.kept self.new.kept
+            pass.old pass.new now (Update update v)) }
+        ensures first { IfErr result (λ r. IsUpdateFault (opening_state D.root) self.old.list
+            self.old.kept.table update r.fault) }
+        ensures returned { IfErr result (λ r. r.update ≡ update) }
+        ensures unchanged { OnErr result ((self.new ≡ self.old) × (pass.new ≡ pass.old)) }
+        ensures after { IfErr result (λ r. IsRefusedAfter (opening_state D.root) update r.fault) }
+        ensures told { IsPrefix pass.old.place.told
+            (accepted (opening_state D.root) self.old.kept.history) }
+    {
+        self.snapshots.has(pass.known_front());
+        let verdict = self
+            .recorded
+            .update(&mut self.snapshots, pass, now, update)?;
+        tell(rt, &mut self.snapshots, pass, verdict.is_taken());
         Ok(verdict)
     }
 
@@ -304,48 +341,32 @@ impl<D: DeskName, S: JournalSink> Book<D, S> {
     }
 }
 
-// After this verdict: the prepared change, which the history accepted, is published, and the pass learns it.
+// Whether the verdict accepts the request.
+fn is_accepted(verdict: Verdict) -> bool
+    ensures value { result ≡ is_done verdict }
+{
+    verdict == Verdict::Done
+}
+
+// After an event that was accepted or not: the prepared change, which the history accepted, is published, and the pass
+// learns the list.
 fn tell<D: DeskName, R: Wait>(
     rt: &R,
     snapshots: &mut SnapshotWriter<D>,
     pass: &mut Pass<D>,
-    verdict: Verdict,
+    accepted: bool,
 )
-    requires waits { is_done verdict ≡ true → IsSome snapshots.old.waiting }
-    requires accepted { is_done verdict ≡ true → IfSome snapshots.old.waiting (λ change.
+    requires waits { accepted ≡ true → IsSome snapshots.old.waiting }
+    requires accepted { accepted ≡ true → IfSome snapshots.old.waiting (λ change.
         AreAccepted (opening_state D.root) (snapshots.old.list ++ change ∷ [])) }
     requires room { length snapshots.old.list + 1 < 2 ^ 31 }
     requires told { IsPrefix pass.old.place.told snapshots.old.list }
-    ensures snapshots { snapshots.new ≡ published (is_done verdict) snapshots.old }
+    ensures snapshots { snapshots.new ≡ published accepted snapshots.old }
     ensures pass { pass.new ≡ record pass.old {
-      place = told_list (is_done verdict) snapshots.new.list pass.old.place;
+      place = told_list accepted snapshots.new.list pass.old.place;
     } }
 {
-    if verdict == Verdict::Done {
-        let front = snapshots.publish(rt);
-        pass.tell(front);
-    }
-}
-
-// After this verdict on a raise: the prepared change, which the history accepted, is published if the count was raised,
-// and the pass learns the list.
-fn tell_raise<D: DeskName, R: Wait>(
-    rt: &R,
-    snapshots: &mut SnapshotWriter<D>,
-    pass: &mut Pass<D>,
-    verdict: RaiseVerdict,
-)
-    requires waits { is_raised verdict ≡ true → IsSome snapshots.old.waiting }
-    requires accepted { is_raised verdict ≡ true → IfSome snapshots.old.waiting (λ change.
-        AreAccepted (opening_state D.root) (snapshots.old.list ++ change ∷ [])) }
-    requires room { length snapshots.old.list + 1 < 2 ^ 31 }
-    requires told { IsPrefix pass.old.place.told snapshots.old.list }
-    ensures snapshots { snapshots.new ≡ published (is_raised verdict) snapshots.old }
-    ensures pass { pass.new ≡ record pass.old {
-      place = told_list (is_raised verdict) snapshots.new.list pass.old.place;
-    } }
-{
-    if verdict.is_raised() {
+    if accepted {
         let front = snapshots.publish(rt);
         pass.tell(front);
     }

@@ -114,7 +114,14 @@ fn read_newest(table: &Table, opened: &Opened, verdict: Verdict)
     if verdict != Verdict::Done {
         return;
     }
-    match table.keys_of(target_name(opened)) {
+    read_newest_of(table, target_name(opened));
+}
+
+/// Reads the newest key of a name, if it has one.
+pub(crate) fn read_newest_of(table: &Table, name: &Name)
+    ensures whole { NewestIsWhole (keys_held table.now.state name.now) }
+{
+    match table.keys_of(name) {
         None => {}
         Some(keys) => read_first(keys),
     }

@@ -4,14 +4,15 @@ ghost use mathlib.Core.List.{IsPrefix};
 ghost use Rattle.std.specs.List.{range_with_len};
 ghost use Rattle.chpw_changelog.specs.Pens.{opening_state, opening_table};
 ghost use Rattle.chpw_rules.specs.Limits.{is_in, iteration_counts};
-ghost use Rattle.chpw_table.specs.declared.history.Event.TheVariants.{Ask, Raise};
+ghost use Rattle.chpw_table.specs.declared.history.Event.TheVariants.{Ask, Raise, Update};
 ghost use Rattle.chpw_table.specs.Times.{IsMoment};
 ghost use Rattle.chpw_table.specs.Completing.{completed};
 ghost use Rattle.chpw_table.specs.Refusals.{AsksPositive};
 ghost use Rattle.chpw_table.specs.Standing.{refused_anyway};
+ghost use Rattle.chpw_table.specs.Updates.{update_fits};
 ghost use Rattle.chpw_decider.specs.Deciding.{IsCompletedFrom, IsFinal};
-ghost use Rattle.chpw_book.specs.Passes.{refused_with, raise_refused_with, new_pass};
-ghost use Rattle.chpw_book.specs.Calls.{Notes, AsksAfter, LacksAfter};
+ghost use Rattle.chpw_book.specs.Passes.{refused_with, raise_refused_with, update_refused_with, new_pass};
+ghost use Rattle.chpw_book.specs.Calls.{Notes, AsksAfter, LacksAfter, IsRefusedAfter};
 ghost use Rattle.chpw_book.specs.Starting.{IsNamed, table_of, workers_of};
 ghost use Rattle.chpw_snapshots.specs.Looking.{LooksUp};
 
@@ -21,10 +22,12 @@ use crate::pass::Pass;
 use crate::raising::RaiseFault;
 use crate::standing::OpeningRules;
 use crate::unnamed::{StartFault, UnnamedDesk};
+use crate::updating::{DeskUpdateFault, DeskUpdateRefused};
 use chpw_rules::Name;
 use chpw_snapshots::NotEntered;
 use chpw_table::{
-    Counts, DecideFault, JournalSink, Lookup, Moment, Opened, RaiseVerdict, Refused, Verdict,
+    Counts, DecideFault, JournalSink, KdcUpdate, Lookup, Moment, Opened, RaiseVerdict, Refused,
+    UpdateVerdict, Verdict,
 };
 use std::alloc::Global;
 use std::sync::{Mutex, MutexGuard, Wait};
@@ -171,6 +174,34 @@ impl<D: DeskName, S: JournalSink> Desk<D, S> {
         raise_noted(pass, raised)
     }
 
+    /// Takes what the KDC says of a principal, under the lock; the receipt joins the pass. If it is taken, lookups show it
+    /// before the lock is released, and the pass learns the new list of accepted changes.
+    ///
+    /// `now` has seconds from 0 to `chpw_table::LAST_SECOND`, and the update is within the limits
+    /// (`chpw_table::KdcUpdate::fits`). After a fault the pass is as before, except that it notes `Full`; the update is
+    /// returned. After `NoRoom` this history takes no further name, as after `Full` no further event: the next one does.
+    #[tactic(auto, using(crate::proofs::CallLemmas::notes_of_update))]
+    pub fn update<R: Wait>(
+        &self,
+        rt: &R,
+        pass: &mut Pass<D>,
+        now: Moment,
+        update: KdcUpdate,
+    ) -> Result<UpdateVerdict, DeskUpdateRefused>
+        requires moment { IsMoment now }
+        requires fits { update_fits update ≡ true }
+        ensures receipt { IfOk result (λ v.
+            Notes (opening_state D.root) pass.old pass.new now (Update update v)) }
+        ensures refused { IfErr result (λ r.
+            (pass.new ≡ update_refused_with r.fault pass.old) × (r.update ≡ update)) }
+        ensures after { IfErr result (λ r. IsRefusedAfter (opening_state D.root) update r.fault) }
+    {
+        let mut book = self.book.lock(rt);
+        let updated = book.update(rt, pass, now, update);
+        MutexGuard::unlock(book);
+        update_noted(pass, updated)
+    }
+
     /// What a table shows of a name after the accepted changes of some legal history from the opening, which begin with
     /// all that the pass has seen and learnt; none for an unknown name. It takes no lock and waits for nobody. The counts
     /// are at least 1. After `NotEntered` the pass is unchanged.
@@ -227,4 +258,25 @@ fn raise_noted<D: DeskName>(
         pass.note_full();
     }
     raised
+}
+
+// The pass notes that the history was full at an update.
+fn update_noted<D: DeskName>(
+    pass: &mut Pass<D>,
+    updated: Result<UpdateVerdict, DeskUpdateRefused>,
+) -> Result<UpdateVerdict, DeskUpdateRefused>
+    ensures same { result ≡ updated }
+    ensures ok { OnOk updated (pass.new ≡ pass.old) }
+    ensures err { IfErr updated (λ r. pass.new ≡ update_refused_with r.fault pass.old) }
+{
+    if let Err(
+        DeskUpdateRefused {
+            fault: DeskUpdateFault::Full,
+            ..
+        },
+    ) = &updated
+    {
+        pass.note_full();
+    }
+    updated
 }

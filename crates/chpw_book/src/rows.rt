@@ -6,7 +6,7 @@ ghost use Rattle.chpw_snapshots.specs.Rows.{names_of_rows, HasPositive, IsPositi
 ghost use Rattle.chpw_book.specs.Publishing.{row_showing, row_under, table_rows};
 
 use chpw_rules::Name;
-use chpw_snapshots::{Row, Rows};
+use chpw_snapshots::{KeysShown, Row, Rows};
 use chpw_table::{Lookup, Table};
 use std::alloc::{AllocError, Global};
 
@@ -19,7 +19,7 @@ pub(crate) fn rows_of(alloc: Global, table: &Table) -> Result<Rows, AllocError>
     let policy = table.policy();
     let rows = all_rows(alloc, table)?;
     let kept = policy.depth.max(1);
-    Ok(Rows::of(rows, kept, table.count(), table.changes_accepted()))
+    Rows::of(alloc, rows, kept, table.count(), table.changes_accepted())
 }
 
 fn all_rows(alloc: Global, table: &Table) -> Result<Vec<Row>, AllocError>
@@ -46,7 +46,9 @@ fn row_of(name: &Name, shown: Lookup) -> Result<Row, AllocError>
 {
     Ok(Row {
         name: name.clone()?,
-        kvno: shown.kvno,
-        counts: shown.held,
+        shown: Some(KeysShown {
+            kvno: shown.kvno,
+            counts: shown.held,
+        }),
     })
 }

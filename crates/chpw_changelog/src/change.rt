@@ -2,30 +2,76 @@
 ghost use Rattle.std.specs.Prelude.{◌≡◌, IsTrue};
 ghost use Rattle.chpw_changelog.specs.declared.change.NumberedChange.TheVariants.{Count};
 
-/// A principal's new kvno, and the iteration count of its new keys. `number` is the principal's place
-/// in the opening, from 0.
+use crate::short_name::ShortName;
+
+/// The principal that a change is of.
 #[derive(Clone, Copy, Drop)]
-pub struct NumberedKey {
-    pub number: usize,
-    pub kvno: u32,
-    pub count: u32,
+pub enum Whose {
+    /// The one with this place in the opening, from 0.
+    Number(usize),
+    /// The one with this name, which may lack in the opening.
+    Short(ShortName),
 }
 
-/// What was accepted (`chpw_table::Accepted`), with a number in place of the name.
+/// What happens to a principal's keys.
+#[derive(Clone, Copy, Drop)]
+pub enum KeysChange {
+    /// A new key: its kvno, and the iteration count of the new keys.
+    Key { kvno: u32, count: u32 },
+    /// A key of the KDC's, in front or as the first.
+    Adopted { kvno: u32, count: u32 },
+    /// The newest key has this version from then on.
+    Lifted(u32),
+    /// The principal isn't held any more.
+    Removed,
+}
+
+/// What was accepted (`chpw_table::Accepted`).
 #[derive(Clone, Copy, Drop)]
 pub enum NumberedChange {
-    /// A new key of a principal.
-    Key(NumberedKey),
+    /// A change of a principal's keys.
+    Keys(Whose, KeysChange),
     /// A new iteration count of new keys.
     Count(u32),
 }
 
-impl NumberedKey {
-    fn is_same(self, other: NumberedKey) -> bool
+impl Whose {
+    fn is_same(self, other: Whose) -> bool
         ensures same { IsTrue result → self ≡ other }
         ensures other { self ≡ other → IsTrue result }
     {
-        self.number == other.number && self.kvno == other.kvno && self.count == other.count
+        match (self, other) {
+            (Whose::Number(number), Whose::Number(other)) => number == other,
+            (Whose::Short(name), Whose::Short(other)) => name.is_same(other),
+            _ => false,
+        }
+    }
+}
+
+impl KeysChange {
+    fn is_same(self, other: KeysChange) -> bool
+        ensures same { IsTrue result → self ≡ other }
+        ensures other { self ≡ other → IsTrue result }
+    {
+        match (self, other) {
+            (
+                KeysChange::Key { kvno, count },
+                KeysChange::Key {
+                    kvno: other,
+                    count: others,
+                },
+            ) => kvno == other && count == others,
+            (
+                KeysChange::Adopted { kvno, count },
+                KeysChange::Adopted {
+                    kvno: other,
+                    count: others,
+                },
+            ) => kvno == other && count == others,
+            (KeysChange::Lifted(kvno), KeysChange::Lifted(other)) => kvno == other,
+            (KeysChange::Removed, KeysChange::Removed) => true,
+            _ => false,
+        }
     }
 }
 
@@ -43,7 +89,9 @@ impl NumberedChange {
         ensures other { self ≡ other → IsTrue result }
     {
         match (self, other) {
-            (NumberedChange::Key(key), NumberedChange::Key(other)) => key.is_same(other),
+            (NumberedChange::Keys(whose, keys), NumberedChange::Keys(other, others)) => {
+                whose.is_same(other) && keys.is_same(others)
+            }
             (NumberedChange::Count(count), NumberedChange::Count(other)) => count == other,
             _ => false,
         }

@@ -5,7 +5,7 @@ use Rattle.std.proofs.lemmas.Bool.Decides.{nat_tests}
 use Rattle.chpw_table.specs.declared.times.Moment.{Moment}
 use Rattle.chpw_table.specs.declared.raising.RaiseVerdict.TheVariants as raise
 use Rattle.chpw_table.specs.declared.history.Event.{Event}
-use Rattle.chpw_table.specs.declared.history.Event.TheVariants.{Ask, Raise}
+use Rattle.chpw_table.specs.declared.history.Event.TheVariants.{Ask, Raise, Update}
 use Rattle.chpw_table.specs.declared.history.Entry.{Entry}
 use Rattle.chpw_table.specs.State.{State, new_count}
 use Rattle.chpw_table.specs.Raising.{raise_verdict, is_raised}
@@ -44,6 +44,8 @@ count_after t s now io (Raise count v) d same true h =
     ∙ sym (raised_count (is_raised (raise_verdict s count io)) count (new_count s) done)
 count_after t s now io (Raise count v) d same false h =
     same ∙ sym (stayed_count (is_raised (raise_verdict s count io)) count (new_count s) (ap is_raised (sym d.verdict_is) ∙ h))
+count_after t s now io (Update u v) d same true h = same
+count_after t s now io (Update u v) d same false h = same
 
 count_history : (t s : State) (es : List Entry) → IsLegal s es → new_count t ≡ new_count s → new_count (restored t (records_of s es)) ≡ new_count (outcome s es)
 count_history t s [] legal same = same

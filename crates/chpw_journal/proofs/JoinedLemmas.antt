@@ -1,12 +1,8 @@
 -- Runs that follow on one another.
 use Rattle.std.proofs.Common.{◌≡◌, ℕ, ◌≤◌, max, List, [], ◌∷◌, ◌++◌, true, Option, Some, None, refl, sym, ◌∙◌, ap, subst, append_assoc, append-nil}
-use Rattle.std.specs.Prelude.{IsSome, IfSome}
 use Rattle.std.specs.Io.KnownBytes.{Consumes, IsAtEnd}
-use Rattle.chpw_rules.specs.Limits.{is_in, kvnos, iteration_counts}
 use Rattle.chpw_table.specs.declared.history.Entry.{Entry}
-use Rattle.chpw_record.specs.declared.key.KeyRow.{KeyRow}
 use Rattle.chpw_table.specs.State.{Fixed, State, new_count, opening_of}
-use Rattle.chpw_table.specs.Decision.{newest_kvno}
 use Rattle.chpw_table.specs.Agreement.{Agrees}
 use Rattle.chpw_table.specs.History.{step_entry, outcome, is_accepted, IsLegal}
 use Rattle.chpw_table.specs.Journal.{journal}
@@ -21,6 +17,7 @@ use Rattle.chpw_journal.specs.JoinedLaws.{EventsStaySound, HistoriesStaySound, R
 use Rattle.chpw_journal.specs.JoinedLaws.{TablesMayOpen, RestoredMayOpen, ReadMayOpen, TwoRunsFollowOn}
 use Rattle.chpw_journal.proofs.CountLemmas.{count_runs}
 use Rattle.chpw_journal.proofs.OpeningLemmas.{openings_are_sound}
+use Rattle.chpw_journal.proofs.SoundLemmas.{sound_alike}
 use Rattle.chpw_journal.proofs.RunLemmas.{sound_event, same_next, same_itself, runs_next, reads_journals}
 
 same_back : (s t : State) → SameKeys s t → SameKeys t s
@@ -37,14 +34,6 @@ agrees_alike : (t s : State) → Agrees t s → IsAlike t s
 agrees_alike t s a = record {
   keys = record { kept = ap (λ (f : Fixed). max f.policy.depth 1) a.fixed; keys = a.principals };
   count = a.count;
-}
-
--- like a state within the limits, it is within them
-sound_alike : (s t : State) → IsAlike s t → IsSound s → IsSound t
-sound_alike s t h sound = record {
-  count = subst (λ (n : ℕ). is_in iteration_counts n ≡ true) h.count sound.count;
-  names = λ name some. sound.names name (subst IsSome (sym (h.keys.keys name)) some);
-  versions = λ name. subst (λ (o : Option (List KeyRow)). IfSome o (λ keys. newest_kvno keys ≤ kvnos.high)) (h.keys.keys name) (sound.versions name);
 }
 
 pub events_stay_sound : EventsStaySound

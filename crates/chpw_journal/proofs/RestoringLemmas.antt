@@ -4,21 +4,18 @@ use Rattle.std.proofs.Common.{inr, Option, refl, sym, ◌∙◌, ap, subst, arit
 use Rattle.std.specs.Int.{from_be_bytes, to_be_bytes, w16}
 use Rattle.std.specs.Io.KnownBytes.{Consumes, IsAtEnd}
 use Rattle.std.proofs.lemmas.List.{take-append-le}
-use Rattle.chpw_table.specs.declared.table.restoring.KeyFault.TheVariants as key
 use Rattle.chpw_table.specs.State.{State}
 use Rattle.chpw_table.specs.Agreement.{Held, Agrees}
-use Rattle.chpw_table.specs.Restoring.{IsKeyRefused}
-use Rattle.chpw_table.proofs.AgreementLemmas.{agrees_itself}
-use Rattle.chpw_record.specs.declared.record.Change.{Change}
+use Rattle.chpw_record.specs.declared.record.KeyKind.TheVariants as kind
 use Rattle.chpw_record.specs.declared.record.Record.{Record}
 use Rattle.chpw_record.specs.declared.record.Record.TheVariants as record_of
 use Rattle.chpw_journal.specs.declared.fault.RestoreFault.{RestoreFault}
-use Rattle.chpw_journal.specs.declared.fault.RestoreFault.TheVariants.{BadRecord, WrongVersion, UnknownPrincipal, CannotRead, Memory}
+use Rattle.chpw_journal.specs.declared.fault.RestoreFault.TheVariants.{BadRecord, WrongVersion, UnknownPrincipal, TooMany, CannotRead, Memory}
 use Rattle.chpw_journal.specs.declared.restoring.Restored.{Restored}
-use Rattle.chpw_record.specs.Records.{ChangeFits, RecordFits, body_text, record_text, records_text, stated_length, is_record_length, framed}
-use Rattle.chpw_journal.specs.JournalText.{restored, IsOfUnknown, is_cut_off, HasBadLength, HasBadBody, Begins}
-use Rattle.chpw_journal.specs.Restoring.{is_there, IsRestored, IsRefused}
-use Rattle.chpw_journal.specs.Taking.{IsRecordRefused, TakesRecord, IsRecordFault, IsSoFar}
+use Rattle.chpw_record.specs.Records.{RecordFits, body_text, record_text, records_text, stated_length, is_record_length, framed}
+use Rattle.chpw_journal.specs.JournalText.{restored, is_cut_off, HasBadLength, HasBadBody, Begins}
+use Rattle.chpw_journal.specs.Restoring.{is_there, IsRestored, IsTooMany, IsRefused}
+use Rattle.chpw_journal.specs.Taking.{TakesRecord, IsOneTooMany, IsRecordFault, IsSoFar}
 use Rattle.chpw_record.proofs.LengthLemmas.{length_short, text_short}
 use Rattle.chpw_journal.proofs.CutLemmas.{header_states}
 use Rattle.chpw_read_fully.proofs.FillingLemmas.{consumes_none, consumes_more}
@@ -141,18 +138,25 @@ of_record before old now r h s a body more c e =
     subst (λ (xs : List ℕ). Begins s ((records_text h.whole_records ++ framed body) ++ more) h.whole_records (xs
     ++ more)) (ap framed e ∙ framed_is c) (begins before old now r h s a (framed body) more)
 
--- a record that isn't put back, since there is no such principal
-pub refused_unknown : (t : Held) (r : Record) → IsRecordRefused t r key.UnknownPrincipal → (s : State) → Agrees t.state s → IsOfUnknown s r
-refused_unknown t (record_of.Change c) h s a = h s a
-refused_unknown t (record_of.Raise count) h s a = h
-refused_unknown t (record_of.Base c) h s a = h s a
-
--- one of a wrong version is a change
-pub refused_version : (t : Held) (r : Record) (body : List ℕ) → RecordFits r → body ≡ body_text r → IsRecordRefused t r key.WrongVersion
-    → (c : Change) × ChangeFits c × (body ≡ body_text (record_of.Change c)) × ((s : State) → Agrees t.state s → IsKeyRefused s c.name c.key key.WrongVersion)
-refused_version t (record_of.Change c) body f e h = (c, f, e, h)
-refused_version t (record_of.Raise count) body f e h = absurd h
-refused_version t (record_of.Base c) body f e h = absurd (h t.state (agrees_itself t.state))
+-- the table has no room for the principal that a record adopts
+too_many : (before : Held) (old now : Option (List ℕ)) (r : Restored) (body : List ℕ) (n : ℕ) (h : IsSoFar before old now r)
+    → n ≡ r.records + 1 → (q : Record) → RecordFits q → body ≡ body_text q → IsOneTooMany r.table q
+    → IsTooMany before (records_text h.whole_records ++ framed body) n
+too_many before old now r body n h e (record_of.Key kind.Adopt c) f text full = record {
+  whole_records = h.whole_records;
+  joining = c;
+  table = r.table;
+  given = λ s a. (h.table s a).1;
+  text = λ s more a. record {
+    left = more;
+    begins = of_record before old now r h s a body more (record_of.Key kind.Adopt c) text;
+    fits = f;
+  };
+  none_held = full.0;
+  full = full.1;
+  number = e ∙ ap (λ k. k + 1) h.records;
+}
+too_many before old now r body n h e q f text full = absurd full
 
 -- a record's fault
 pub record_fault : (before : Held) (old now new : Option (List ℕ)) (r : Restored) (body : List ℕ) (fault : RestoreFault)
@@ -187,21 +191,22 @@ record_fault before old now new r body (UnknownPrincipal n) h d range f = (
 record_fault before old now new r body (WrongVersion n) h d range f = (
   records_text h.whole_records ++ framed body,
   consumes_more old now new (records_text h.whole_records) (framed body) h.read d,
-  λ s more a.
-      let k = f.4 (restored s h.whole_records) (h.table s a).1 in (
-        h.whole_records,
-        f.1,
-        k.0,
-        record {
-          left = more;
-          begins = of_record before old now r h s a body more
-              (record_of.Change f.1) f.3;
-          fits = f.2;
-        },
-        k.1,
-        k.2,
-        f.0 ∙ ap (λ m. m + 1) h.records,
-      ),
+  λ s more a. (
+    h.whole_records,
+    f.1,
+    record {
+      left = more;
+      begins = of_record before old now r h s a body more f.1 f.3;
+      fits = f.2;
+    },
+    f.4 (restored s h.whole_records) (h.table s a).1,
+    f.0 ∙ ap (λ k. k + 1) h.records,
+  ),
+)
+record_fault before old now new r body (TooMany n) h d range f = (
+  records_text h.whole_records ++ framed body,
+  consumes_more old now new (records_text h.whole_records) (framed body) h.read d,
+  too_many before old now r body n h f.0 f.1 f.2 f.3 f.4,
 )
 record_fault before old now new r body CannotRead h d range f = absurd f
 record_fault before old now new r body Memory h d range f = tt

@@ -1,7 +1,7 @@
 -- Which states hold keys in a row.
-use Rattle.std.proofs.Common.{◌≡◌, ℕ, zero, suc, ◌+◌, ◌≤◌, max, List, [], ◌∷◌, map, take, length, Bool, true}
+use Rattle.std.proofs.Common.{◌≡◌, ℕ, zero, suc, ◌+◌, ◌≤◌, ◌<◌, max, List, [], ◌∷◌, map, take, length, Bool, true}
 use Rattle.std.proofs.Common.{false, if◌then◌else◌, Option, Some, None, refl, sym, ◌∙◌, ap, subst, arith}
-use Rattle.std.specs.Prelude.{option_map, IsSome, IfSome, ◌==◌}
+use Rattle.std.specs.Prelude.{IfSome, ◌==◌, nat_lt}
 use Rattle.std.specs.List.{list_all}
 use Rattle.std.proofs.lemmas.Bool.Decides.{nat_tests}
 use Rattle.std.proofs.lemmas.List.{length-take}
@@ -14,20 +14,23 @@ use Rattle.chpw_rules.specs.Fitting.{key_fits, descend_from, kvnos_descend, prin
 use Rattle.chpw_record.specs.declared.key.KeyRow.{KeyRow}
 use Rattle.chpw_table.specs.State.{Fixed, State, keys_held, kept_count, new_count, key_row_of, opening_principal}
 use Rattle.chpw_table.specs.Decision.{newest_kvno}
+use Rattle.chpw_table.specs.Updates.{keys_after, with_newest}
 use Rattle.chpw_table.proofs.BoolLemmas.{and_left, and_right}
 use Rattle.chpw_table.proofs.HoldingLemmas.{kept_at_least, principals_of_fits}
-use Rattle.chpw_table.proofs.KeyLemmas.{keys_in, keys_put, put}
-use Rattle.chpw_table.proofs.NameLemmas.{is_same_name-Decides}
+use Rattle.chpw_table.proofs.KeyLemmas.{keys_in}
+use Rattle.chpw_table.proofs.UpdateLemmas.{same_held}
 use Rattle.chpw_record.specs.declared.record.Change.{Change}
+use Rattle.chpw_record.specs.declared.record.KeyKind.{KeyKind}
+use Rattle.chpw_record.specs.declared.record.KeyKind.TheVariants as kind
 use Rattle.chpw_record.specs.declared.record.Record.{Record}
 use Rattle.chpw_record.specs.declared.record.Record.TheVariants as record_of
 use Rattle.chpw_record.specs.Records.{ChangeFits, RecordFits}
-use Rattle.chpw_journal.specs.JournalText.{with_record, restored, IsNextRecord}
+use Rattle.chpw_journal.specs.JournalText.{with_record, restored, may_follow, IsNextRecord}
 use Rattle.chpw_journal.specs.Runs.{SameKeys, records_in, last_state}
 use Rattle.chpw_journal.specs.Compact.{KeyInRange, IsAfter, AreInRow, AreKeptInRow, HoldsInRow}
 use Rattle.chpw_journal.specs.CompactLaws.{OpeningsHoldInRow, RunsHoldInRow, RestoredHoldInRow, AgreeHoldInRow, RunsMayCompact}
 use Rattle.chpw_journal.proofs.CountLemmas.{count_runs}
-use Rattle.chpw_journal.proofs.CoverLemmas.{restored_kept, restored_some}
+use Rattle.chpw_journal.proofs.CoverLemmas.{record_keys, restored_kept}
 use Rattle.chpw_journal.proofs.JoinedLemmas.{tables_may_open}
 use Rattle.chpw_journal.proofs.RunLemmas.{Follows, runs_next, same_itself}
 
@@ -49,51 +52,59 @@ length_taken n keys a b = let t = length-take n keys in (omega (arith, t, a, b),
 key_of_change : (c : Change) → ChangeFits c → KeyInRange c.key
 key_of_change c f = record { kvno = f.kvno; count = f.count }
 
-after_newest : (key : KeyRow) (keys : List KeyRow) → key.kvno ≡ newest_kvno keys + 1 → IsAfter key keys
+lower : (m n : ℕ) → nat_lt m n ≡ true → m < n
+lower m n h = grind (arith, nat_tests)
+
+after_newest : (key : KeyRow) (keys : List KeyRow) → newest_kvno keys < key.kvno → IsAfter key keys
 after_newest key [] h = tt
 after_newest key (k ∷ ks) h = h
 
--- the next key in front of others in a row, of which the newest are kept
-put_in_row : (kept : ℕ) (c : Change) (keys : List KeyRow) → 1 ≤ kept → ChangeFits c
-    → c.key.kvno ≡ newest_kvno keys + 1 → AreKeptInRow kept keys → AreKeptInRow kept (put kept c.key keys)
+next_above : (m n : ℕ) → (m == n + 1) ≡ true → n < m
+next_above m n h = grind (arith, nat_tests)
+
+-- a higher key in front of others in a row, of which the newest are kept
+put_in_row : (kept : ℕ) (c : Change) (keys : List KeyRow) → 1 ≤ kept → ChangeFits c → IsAfter c.key keys → AreInRow keys
+    → AreKeptInRow kept (take kept (c.key ∷ keys))
 put_in_row kept c keys low f next w =
     let many = length_taken kept (c.key ∷ keys) low (omega arith) in
-    record {
-      some = many.0;
-      few = many.1;
-      row = row_taken kept (c.key ∷ keys) (key_of_change c f, after_newest c.key keys next, w.row);
-    }
+    record { some = many.0; few = many.1; row = row_taken kept (c.key ∷ keys) (key_of_change c f, next, w) }
 
-base_in_row : (kept : ℕ) (c : Change) → 1 ≤ kept → ChangeFits c → AreKeptInRow kept (c.key ∷ [])
-base_in_row kept c low f = record { some = omega arith; few = low; row = (key_of_change c f, tt, tt) }
+-- and in place of the newest
+lift_in_row : (kept : ℕ) (c : Change) (keys : List KeyRow) → ChangeFits c → newest_kvno keys < c.key.kvno
+    → AreKeptInRow kept keys → AreKeptInRow kept (with_newest c.key keys)
+lift_in_row kept c [] f h w = w
+lift_in_row kept c (k ∷ ks) f h w = record { some = w.some; few = w.few; row = (key_of_change c f, above ks w.row.1, w.row.2) }
+  where
+    above : (older : List KeyRow) → IsAfter k older → IsAfter c.key older
+    above [] a = tt
+    above (l ∷ ls) a = omega (arith, a, h)
 
 -- ---- one record
 
-at_put : (b : Bool) (kept n : ℕ) (key : KeyRow) (x : Option (List KeyRow)) → IfSome x (AreKeptInRow kept)
-    → (b ≡ true → (keys : List KeyRow) → x ≡ Some keys → AreKeptInRow kept (put n key keys))
-    → IfSome (if b then option_map (put n key) x else x) (AreKeptInRow kept)
-at_put true kept n key None w f = tt
-at_put true kept n key (Some keys) w f = f refl keys refl
-at_put false kept n key x w f = w
-
-some_in_row : (kept : ℕ) (x : Option (List KeyRow)) (keys : List KeyRow) → x ≡ Some keys → IfSome x (AreKeptInRow kept) → AreKeptInRow kept keys
-some_in_row kept x keys e w = subst (λ (o : Option (List KeyRow)). IfSome o (AreKeptInRow kept)) e w
+after_in_row : (kind : KeyKind) (c : Change) (kept : ℕ) (x : Option (List KeyRow)) → 1 ≤ kept → ChangeFits c → may_follow kind c.key.kvno x ≡ true
+    → IfSome x (AreKeptInRow kept) → IfSome (keys_after kind kept c.key x) (AreKeptInRow kept)
+after_in_row kind.Change c kept None low f n w = tt
+after_in_row kind.Change c kept (Some keys) low f n w =
+    put_in_row kept c keys low f (after_newest c.key keys (next_above c.key.kvno (newest_kvno keys) n)) w.row
+after_in_row kind.Base c kept None low f n w = tt
+after_in_row kind.Base c kept (Some keys) low f n w = record { some = omega arith; few = low; row = (key_of_change c f, tt, tt) }
+after_in_row kind.Adopt c kept None low f n w = put_in_row kept c [] low f tt tt
+after_in_row kind.Adopt c kept (Some keys) low f n w = put_in_row kept c keys low f (after_newest c.key keys (lower (newest_kvno keys) c.key.kvno n)) w.row
+after_in_row kind.Lift c kept None low f n w = tt
+after_in_row kind.Lift c kept (Some keys) low f n w = lift_in_row kept c keys f (lower (newest_kvno keys) c.key.kvno n) w
+after_in_row kind.Remove c kept x low f n w = tt
 
 record_in_row : (s : State) (r : Record) → HoldsInRow s → RecordFits r → IsNextRecord s r → HoldsInRow (with_record r s)
-record_in_row s (record_of.Change c) w f n name =
-    subst (λ (o : Option (List KeyRow)). IfSome o (AreKeptInRow (kept_count s))) (sym (keys_put (kept_count s) c.name c.key s.principals name))
-    (at_put (is_same_name c.name name) (kept_count s) (kept_count s) c.key (keys_held s name) (w name)
-    (λ e keys is.
-    let same : c.name ≡ name = (is_same_name-Decides c.name name).0 e in
-    let held : Some n.keys ≡ Some keys = sym n.held ∙ (subst (λ (m : Name). keys_held s c.name ≡ keys_held s m) same refl ∙ is) in
-    let those : n.keys ≡ keys = cc in
-    put_in_row (kept_count s) c keys (kept_at_least s.fixed.policy.depth) f (subst (λ (ks : List KeyRow). c.key.kvno ≡ newest_kvno ks + 1) those n.next)
-    (some_in_row (kept_count s) (keys_held s name) keys is (w name))))
+record_in_row s (record_of.Key kind c) w f n name =
+    subst (λ (o : Option (List KeyRow)). IfSome o (AreKeptInRow (kept_count s))) (sym (record_keys s kind c name)) (at (is_same_name c.name name) refl)
+  where
+    at : (b : Bool) → is_same_name c.name name ≡ b
+        → IfSome (if b then keys_after kind (kept_count s) c.key (keys_held s name) else keys_held s name) (AreKeptInRow (kept_count s))
+    at true e =
+        after_in_row kind c (kept_count s) (keys_held s name) (kept_at_least s.fixed.policy.depth) f
+        (subst (λ (o : Option (List KeyRow)). may_follow kind c.key.kvno o ≡ true) (same_held s c.name name e) n.1) (w name)
+    at false e = w name
 record_in_row s (record_of.Raise count) w f n name = w name
-record_in_row s (record_of.Base c) w f n name =
-    subst (λ (o : Option (List KeyRow)). IfSome o (AreKeptInRow (kept_count s))) (sym (keys_put 1 c.name c.key s.principals name))
-    (at_put (is_same_name c.name name) (kept_count s) 1 c.key (keys_held s name) (w name)
-    (λ e keys is. base_in_row (kept_count s) c (kept_at_least s.fixed.policy.depth) f))
 
 pub restored_hold_in_row : RestoredHoldInRow
 restored_hold_in_row s [] w n = w
@@ -118,12 +129,11 @@ runs_hold_in_row s runs f w =
 -- records never lower the count
 pub count_grows : (s : State) (rs : List Record) → new_count s ≤ new_count (restored s rs)
 count_grows s [] = omega arith
-count_grows s ((record_of.Change c) ∷ rs) = count_grows (with_record (record_of.Change c) s) rs
+count_grows s ((record_of.Key kind c) ∷ rs) = count_grows (with_record (record_of.Key kind c) s) rs
 count_grows s ((record_of.Raise count) ∷ rs) = let more = count_grows (with_record (record_of.Raise count) s) rs in omega (arith, more)
-count_grows s ((record_of.Base c) ∷ rs) = count_grows (with_record (record_of.Base c) s) rs
 
 pub runs_may_compact : RunsMayCompact
-runs_may_compact opening s held runs f a w kept known low whole =
+runs_may_compact opening s held runs f a w kept low order whole =
     let follows : Follows s (records_in runs) (last_state s runs) = runs_next s s runs (same_itself s) f.each in
     let count : new_count (restored s (records_in runs)) ≡ new_count (last_state s runs) = count_runs s s runs f.each f.counts (omega arith) in
     let same : new_count held ≡ new_count (last_state s runs) = a.count in (
@@ -132,7 +142,7 @@ runs_may_compact opening s held runs f a w kept known low whole =
         row = agree_hold_in_row (last_state s runs) held a (runs_hold_in_row s runs f w);
         whole = whole;
         kept = kept ∙ (sym (restored_kept s (records_in runs)) ∙ (follows.1.kept ∙ ap (λ (x : Fixed). max x.policy.depth 1) (sym a.fixed)));
-        known = λ name some. subst IsSome (follows.1.keys name ∙ sym (a.principals name)) (restored_some s (records_in runs) name (known name some));
+        order = order;
       },
       omega (arith, low, count, same, count_grows s (records_in runs)),
     )
@@ -141,9 +151,6 @@ runs_may_compact opening s held runs f a w kept known low whole =
 
 counted : (n : ℕ) → is_in key_counts n ≡ true → 1 ≤ n
 counted n h = grind (arith, nat_tests)
-
-one_less : (m n : ℕ) → (m + 1 == n) ≡ true → n ≡ m + 1
-one_less m n h = grind (arith, nat_tests)
 
 row_of_bytes : (n : ℕ) (keys : List KeyBytes) → list_all key_fits keys ≡ true → kvnos_descend keys ≡ true → AreInRow (map key_row_of (take n keys))
 row_of_bytes zero keys f d = tt
@@ -161,11 +168,11 @@ row_of_bytes (suc n) (k ∷ ks) f d = (fits, after n ks d, row_of_bytes n ks (an
     after : (m : ℕ) (older : List KeyBytes) → descend_from k.kvno older ≡ true → IsAfter (key_row_of k) (map key_row_of (take m older))
     after zero older h = tt
     after (suc m) [] h = tt
-    after (suc m) (l ∷ ls) h = one_less l.kvno k.kvno (and_left (l.kvno + 1 == k.kvno) (descend_from l.kvno ls) h)
+    after (suc m) (l ∷ ls) h = lower l.kvno k.kvno (and_left (nat_lt l.kvno k.kvno) (descend_from l.kvno ls) h)
 
     later : (older : List KeyBytes) → descend_from k.kvno older ≡ true → kvnos_descend older ≡ true
     later [] h = refl
-    later (l ∷ ls) h = and_right (l.kvno + 1 == k.kvno) (descend_from l.kvno ls) h
+    later (l ∷ ls) h = and_right (nat_lt l.kvno k.kvno) (descend_from l.kvno ls) h
 
 length_map : {A B : Type 0} (f : A → B) (xs : List A) → length (map f xs) ≡ length xs
 length_map f [] = refl

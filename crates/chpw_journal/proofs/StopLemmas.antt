@@ -1,23 +1,18 @@
 -- Where the records of a journal stop: a text comes to one thing.
 use Rattle.std.proofs.Common.{◌≡◌, ◌≢◌, ℕ, zero, suc, ◌+◌, ◌≤◌, ◌<◌, List, [], ◌∷◌, ◌++◌, length}
-use Rattle.std.proofs.Common.{take, Bool, true, false, ⊎_elim, Option, Some, None, refl, sym, ◌∙◌}
+use Rattle.std.proofs.Common.{take, Bool, true, false, ⊎_elim, refl, sym, ◌∙◌}
 use Rattle.std.proofs.Common.{ap, subst, arith, lit<, length-append, length-take, append_assoc}
-use Rattle.std.specs.Prelude.{◌⊎◌, nat_lt, IsSome}
+use Rattle.std.specs.Prelude.{◌⊎◌, nat_lt}
 use Rattle.std.specs.Int.{to_be_bytes, w16}
 use Rattle.std.proofs.Math.Bool.{and-false}
 use Rattle.std.proofs.lemmas.Bool.Decides.{nat_tests}
-use Rattle.std.proofs.lemmas.Option.{none-some}
-use Rattle.chpw_record.specs.declared.key.KeyRow.{KeyRow}
-use Rattle.chpw_record.specs.declared.record.Change.{Change}
 use Rattle.chpw_record.specs.declared.record.Record.{Record}
 use Rattle.chpw_record.specs.declared.record.Record.TheVariants as record_of
-use Rattle.chpw_record.specs.Records.{ChangeFits, RecordFits, body_text, framed, record_text, records_text, stated_length, is_record_length}
+use Rattle.chpw_record.specs.Records.{RecordFits, body_text, framed, record_text, records_text, stated_length, is_record_length}
 use Rattle.chpw_record.proofs.LengthLemmas.{text_range}
 use Rattle.chpw_record.proofs.RecordLemmas.{framed_is, same_record}
 use Rattle.chpw_table.specs.State.{State, keys_held}
-use Rattle.chpw_table.specs.Decision.{newest_kvno}
-use Rattle.chpw_table.specs.Restoring.{IsNextKey}
-use Rattle.chpw_journal.specs.JournalText.{restored, AreNext, IsNextRecord, IsOfUnknown, with_record}
+use Rattle.chpw_journal.specs.JournalText.{restored, is_lacked, may_follow, AreNext, IsNextRecord, IsOfUnknown, IsOfWrongVersion, with_record}
 use Rattle.chpw_journal.specs.JournalText.{is_cut_off, HasBadLength, HasBadBody, Begins, Reading, whole}
 use Rattle.chpw_journal.specs.JournalText.{bad_record, unknown_principal, wrong_version, IsReading}
 use Rattle.chpw_journal.specs.Laws.{FrontsAreCutOff}
@@ -85,28 +80,22 @@ stops_bad s rest bad c left f k e =
     (λ (h : HasBadBody rest). h.1 c left f e)
     bad
 
-no_keys : (held : Option (List KeyRow)) → held ≡ None → IsSome held → ⊥
-no_keys None e h = cc
-no_keys (Some keys) e h = cc
-
--- a record of a principal that isn't held doesn't come next
-unknown_next : (s : State) (r : Record) → IsOfUnknown s r → IsNextRecord s r → ⊥
-unknown_next s (record_of.Change c) none k = none-some k.keys (sym none ∙ k.held)
+-- a record of a principal that isn't held doesn't come next, nor does one of a wrong version
+pub unknown_next : (s : State) (r : Record) → IsOfUnknown s r → IsNextRecord s r → ⊥
+unknown_next s (record_of.Key kind c) none k = apart (is_lacked kind (keys_held s c.name)) none k.0
 unknown_next s (record_of.Raise n) none k = none
-unknown_next s (record_of.Base c) none k = no_keys (keys_held s c.name) none k
+
+wrong_next : (s : State) (r : Record) → IsOfWrongVersion s r → IsNextRecord s r → ⊥
+wrong_next s (record_of.Key kind c) wrong k = apart (may_follow kind c.key.kvno (keys_held s c.name)) k.1 wrong.1
+wrong_next s (record_of.Raise n) wrong k = wrong
 
 stops_unknown : (s : State) (q : Record) (more : List ℕ) → RecordFits q → IsOfUnknown s q → Stops s (record_text q ++ more)
 stops_unknown s q more g none r left f k e =
     unknown_next s q none (subst (IsNextRecord s) (sym (same_record q r more left g f e).0) k)
 
-stops_version : (s : State) (d : Change) (more : List ℕ) (keys : List KeyRow)
-    → ChangeFits d → keys_held s d.name ≡ Some keys
-    → d.key.kvno ≢ newest_kvno keys + 1 → Stops s (record_text (record_of.Change d) ++ more)
-stops_version s d more keys g held wrong r left f k e =
-    let n : IsNextKey s d.name d.key = subst (IsNextRecord s) (sym (same_record (record_of.Change d) r more left g f e).0) k in
-    let both : Some keys ≡ Some n.keys = sym held ∙ n.held in
-    let others : keys ≡ n.keys = cc in
-    wrong (n.next ∙ ap (λ (ks : List KeyRow). newest_kvno ks + 1) (sym others))
+stops_version : (s : State) (q : Record) (more : List ℕ) → RecordFits q → IsOfWrongVersion s q → Stops s (record_text q ++ more)
+stops_version s q more g wrong r left f k e =
+    wrong_next s q wrong (subst (IsNextRecord s) (sym (same_record q r more left g f e).0) k)
 
 same_stop : (s : State) (cs ds : List Record) (x y : List ℕ) → AreNext s cs → AreNext s ds → Stops (restored s cs) x
     → Stops (restored s ds) y → records_text cs ++ x ≡ records_text ds ++ y → (cs ≡ ds) × (x ≡ y)
@@ -138,8 +127,8 @@ reads_one s text cs cut b c (unknown_principal n) h =
     (stops_cut (restored s cs) cut c) (sym h.2.begins.text_is ∙ b.text_is) in
     absurd (apart (is_cut_off rest) (ap is_cut_off m.1 ∙ c) (not_cut h.1 h.2.left h.2.fits))
 reads_one s text cs cut b c (wrong_version n) h =
-    let rest = record_text (record_of.Change h.1) ++ h.3.left in
-    let m = same_stop s h.0 cs rest cut h.3.begins.next b.next
-    (stops_version (restored s h.0) h.1 h.3.left h.2 h.3.fits h.4 h.5)
-    (stops_cut (restored s cs) cut c) (sym h.3.begins.text_is ∙ b.text_is) in
-    absurd (apart (is_cut_off rest) (ap is_cut_off m.1 ∙ c) (not_cut (record_of.Change h.1) h.3.left h.3.fits))
+    let rest = record_text h.1 ++ h.2.left in
+    let m =
+    same_stop s h.0 cs rest cut h.2.begins.next b.next (stops_version (restored s h.0) h.1 h.2.left h.2.fits h.3)
+    (stops_cut (restored s cs) cut c) (sym h.2.begins.text_is ∙ b.text_is) in
+    absurd (apart (is_cut_off rest) (ap is_cut_off m.1 ∙ c) (not_cut h.1 h.2.left h.2.fits))

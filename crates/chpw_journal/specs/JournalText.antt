@@ -1,40 +1,67 @@
 -- What a journal's text gives: its complete records, in order, followed by one that is cut off; or its first fault.
 -- Records are counted from 1, and each is checked for J1, J3, J2, in this order.
-use Rattle.std.specs.Prelude.{◌≡◌, ◌≢◌, ℕ, ◌+◌, ◌≤◌, List, [], ◌∷◌, ◌++◌, length, Bool, true, false, ◌&&◌, ◌||◌, nat_lt, ◌⊎◌, Some, None, IsSome}
+use Rattle.std.specs.Prelude.{◌≡◌, ◌≢◌, ℕ, ◌+◌, ◌≤◌, List, [], ◌∷◌, ◌++◌, length, Bool, true, false, ◌&&◌, ◌||◌, ◌==◌, nat_lt, ◌⊎◌}
+use Rattle.std.specs.Prelude.{Option, is_none, unwrap_or}
 use Rattle.chpw_record.specs.declared.key.KeyRow.{KeyRow}
-use Rattle.chpw_table.specs.State.{State, keys_held}
-use Rattle.chpw_table.specs.Decision.{newest_kvno}
-use Rattle.chpw_table.specs.Restoring.{with_kept_key, with_kept_count, IsNextKey}
-use Rattle.chpw_table.specs.BaseKeys.{with_base_key}
-use Rattle.chpw_record.specs.declared.record.Change.{Change}
+use Rattle.chpw_record.specs.declared.record.KeyKind.{KeyKind}
+use Rattle.chpw_record.specs.declared.record.KeyKind.TheVariants as kind
 use Rattle.chpw_record.specs.declared.record.Record.{Record}
 use Rattle.chpw_record.specs.declared.record.Record.TheVariants as record_of
 use Rattle.chpw_record.specs.Records.{RecordFits, record_text, records_text, stated_length, is_record_length}
+use Rattle.chpw_table.specs.State.{State, keys_held, kept_count}
+use Rattle.chpw_table.specs.Decision.{newest_kvno}
+use Rattle.chpw_table.specs.Restoring.{with_kept_count}
+use Rattle.chpw_table.specs.Updates.{with_keys, keys_after, is_newer}
 
--- the state after a record: a change does to its principal what an accepted request did, a raise leaves no lower count,
--- and a base leaves its principal no other key
+-- the state after a record: its name has what a record of its kind makes of the keys held, and a raise leaves no lower
+-- count
 abbrev pub with_record : Record → State → State
-with_record (record_of.Change c) s = with_kept_key c.name c.key s
+with_record (record_of.Key kind c) s =
+    record s { principals = with_keys c.name (keys_after kind (kept_count s) c.key (keys_held s c.name)) s.principals }
 with_record (record_of.Raise count) s = with_kept_count count s
-with_record (record_of.Base c) s = with_base_key c.name c.key s
 
 -- and after these records
 abbrev pub restored : State → List Record → State
 restored s [] = s
 restored s (r ∷ rs) = restored (with_record r s) rs
 
--- a record may come next: a change's principal is held, and its version is the next; a raise may always;
--- a base's principal is held, in whatever version
-abbrev pub IsNextRecord : State → Record → Type 0
-IsNextRecord s (record_of.Change c) = IsNextKey s c.name c.key
-IsNextRecord s (record_of.Raise count) = Unit {0}
-IsNextRecord s (record_of.Base c) = IsSome (keys_held s c.name)
+-- a record of this kind is of a name that is held; an adopted key may be the first of its name
+abbrev pub needs_held : KeyKind → Bool
+needs_held kind.Change = true
+needs_held kind.Base = true
+needs_held kind.Adopt = false
+needs_held kind.Lift = true
+needs_held kind.Remove = true
 
--- a record is of a principal that isn't held
+-- a record of this kind needs these keys, and there are none
+abbrev pub is_lacked : KeyKind → Option (List KeyRow) → Bool
+is_lacked kind held = needs_held kind && is_none held
+
+-- Its version may come behind these keys: a change's is the next, an adopted or lifted one is above the newest, if there is
+-- one, and those of the others may be any.
+abbrev pub may_follow : KeyKind → ℕ → Option (List KeyRow) → Bool
+may_follow kind.Change kvno held = kvno == newest_kvno (unwrap_or held []) + 1
+may_follow kind.Base kvno held = true
+may_follow kind.Adopt kvno held = is_newer kvno held
+may_follow kind.Lift kvno held = is_newer kvno held
+may_follow kind.Remove kvno held = true
+
+-- a record may come next: its principal is held, where its kind wants that, and so may its version; a raise may always
+abbrev pub IsNextRecord : State → Record → Type 0
+IsNextRecord s (record_of.Key kind c) =
+    (is_lacked kind (keys_held s c.name) ≡ false) × (may_follow kind c.key.kvno (keys_held s c.name) ≡ true)
+IsNextRecord s (record_of.Raise count) = Unit {0}
+
+-- a record is of a principal that isn't held and would have to be
 abbrev pub IsOfUnknown : State → Record → Type 0
-IsOfUnknown s (record_of.Change c) = keys_held s c.name ≡ None
+IsOfUnknown s (record_of.Key kind c) = is_lacked kind (keys_held s c.name) ≡ true
 IsOfUnknown s (record_of.Raise count) = ⊥
-IsOfUnknown s (record_of.Base c) = keys_held s c.name ≡ None
+
+-- it isn't, and has a version that may not come next
+abbrev pub IsOfWrongVersion : State → Record → Type 0
+IsOfWrongVersion s (record_of.Key kind c) =
+    (is_lacked kind (keys_held s c.name) ≡ false) × (may_follow kind c.key.kvno (keys_held s c.name) ≡ false)
+IsOfWrongVersion s (record_of.Raise count) = ⊥
 
 -- each record is within the limits and may come next
 abbrev pub AreNext : State → List Record → Type 0
@@ -77,5 +104,5 @@ IsReading s text (bad_record n) = (records : List Record)
     × (rest : List ℕ) × Begins s text records rest × (HasBadLength rest ⊎ HasBadBody rest) × (n ≡ length records + 1)
 IsReading s text (unknown_principal n) = (records : List Record) × (r : Record) × BeginsWith s text records r
     × IsOfUnknown (restored s records) r × (n ≡ length records + 1)
-IsReading s text (wrong_version n) = (records : List Record) × (c : Change) × (keys : List KeyRow) × BeginsWith s text records (record_of.Change c)
-    × (keys_held (restored s records) c.name ≡ Some keys) × (c.key.kvno ≢ newest_kvno keys + 1) × (n ≡ length records + 1)
+IsReading s text (wrong_version n) = (records : List Record) × (r : Record) × BeginsWith s text records r
+    × IsOfWrongVersion (restored s records) r × (n ≡ length records + 1)

@@ -7,11 +7,11 @@ ghost use Rattle.chpw_journal.specs.JoinedLaws.{EventsStaySound, HistoriesStaySo
 ghost use Rattle.chpw_journal.specs.JoinedLaws.{TablesMayOpen, RestoredMayOpen, ReadMayOpen, TwoRunsFollowOn};
 
 /// The journals of runs of the service, each opened with the principals that the one before it left, are read as their
-/// accepted changes and raises and in no other way, whether nothing or a torn record follows them; these records are
-/// the journals, so as many bytes are kept; and they give each principal the keys that the last run left. If each run
-/// also opened with the iteration count that the one before it left, they give the count that the last run left. A
-/// proper beginning of a record is a torn record. What a configuration that fits opens with is within the limits that
-/// this requires of an opening.
+/// accepted events and in no other way, whether nothing or a torn record follows them; these records are the journals, so as
+/// many bytes are kept; and they give each principal the keys that the last run left, those that joined among them, and no
+/// principal besides. If each run also opened with the iteration count that the one before it left, they give the count that
+/// the last run left. A proper beginning of a record is a torn record. What a configuration that fits opens with is within
+/// the limits that this requires of an opening.
 pub fn restoring()
     ensures read { ReadsJournals }
     ensures records { RecordsAreJournals }
@@ -38,17 +38,16 @@ pub fn runs()
     ensures two { TwoRunsFollowOn }
 {}
 
-/// About a compact journal (`compact_journal`), made for a state that is within the limits, holds keys in a row and has
-/// each of the opening's principals, over an opening that keeps as many keys. Restoring it onto the opening gives each
-/// of the opening's names the keys that the state has of it, no other name, and the greater of both counts. Its records
-/// are within the limits, and each may come next. It is read in no other way, with the journals of runs after it that
-/// go on from the state, and with nothing or a torn record after those, if none of these changes a principal that the
-/// opening lacks; then a start over it finds what the last run left. If the state has no principal that the opening
-/// lacks, a further run may open with what `restore` makes of a table like the opening and of all this.
+/// About a compact journal (`compact_journal`), made for a state that is within the limits and holds keys in a row, over an
+/// opening that keeps as many keys; both have their names in order. Restoring it onto the opening gives each name the keys
+/// that the state has of it, no other name, and the greater of both counts. Its records are within the limits, and each may
+/// come next. It is read in no other way, with the journals of runs after it that go on from the state, and with nothing or
+/// a torn record after those; then a start over it finds what the last run left. A further run may open with what `restore`
+/// makes of a table like the opening and of all this.
 ///
-/// Keys in a row are held by what a fitting configuration opens with, by what is restored, by what runs leave that go
-/// on from such a state, and by a table that agrees with one. So a compact journal may be made for what runs left, if
-/// the first of them opened with such a state, with each principal of the opening and no lower count.
+/// Keys in a row, of which each has a higher version than those behind it, are held by what a fitting configuration opens
+/// with, by what is restored, by what runs leave that go on from such a state, and by a table that agrees with one. So a
+/// compact journal may be made for what runs left, if the first of them opened with such a state and no lower count.
 pub fn compact()
     ensures gives { CompactGives }
     ensures next { CompactIsNext }

@@ -3,14 +3,15 @@ ghost use Rattle.std.specs.Prelude.{◌≡◌, ◌+◌, ◌-◌, ◌*◌, ◌≤
 ghost use Rattle.chpw_rules.specs.Limits.{is_in};
 ghost use Rattle.chpw_table.specs.State.{State};
 ghost use Rattle.chpw_table.specs.Agreement.{Agrees};
-ghost use Rattle.chpw_record.specs.Records.{RecordFits};
+ghost use Rattle.chpw_record.specs.declared.record.Record.TheVariants as record_of;
+ghost use Rattle.chpw_record.specs.Records.{ChangeFits, RecordFits};
 ghost use Rattle.chpw_journal.specs.JournalText.{IsNextRecord, with_record};
 ghost use Rattle.chpw_journal.specs.Restoring.{IsRestored, IsRefused};
 ghost use Rattle.chpw_journal.specs.Taking.{TakesRecord, IsRecordFault, IsRecordRefused};
 
 use crate::fault::RestoreFault;
 use crate::reading::{MAX_READS, Next, next_record};
-use chpw_record::Record;
+use chpw_record::{Change, KeyKind, Record};
 use chpw_table::{KeyFault, Table};
 use std::alloc::Global;
 use std::io::Read;
@@ -27,9 +28,10 @@ pub struct Restored {
     pub torn: bool,
 }
 
-/// Replays the records of a journal in a table: a change as the accepted request made it, the count of a raise if it is
-/// greater than the table's, and a base in place of its principal's keys. What follows the last complete record is
-/// torn; it is dropped and not checked, except its length.
+/// Replays the records of a journal in a table: a change as the accepted request made it; the count of a raise if it is
+/// greater than the table's; a base in place of its principal's keys; a key that was adopted in front of its principal's, or
+/// as the first of one that joins; a lifted version as the newest key's; and a removed principal is held no more. What
+/// follows the last complete record is torn; it is dropped and not checked, except its length.
 ///
 /// The journal is read to its end, in at most 4,294,967,296 reads; an interrupted one is tried again. A fault in a
 /// record that was read completely comes before that of a later read.
@@ -79,6 +81,7 @@ impl Restored {
             Ok(()) => {}
             Err(KeyFault::UnknownPrincipal) => return Err(RestoreFault::UnknownPrincipal(number)),
             Err(KeyFault::WrongVersion) => return Err(RestoreFault::WrongVersion(number)),
+            Err(KeyFault::TooMany) => return Err(RestoreFault::TooMany(number)),
             Err(KeyFault::Memory) => return Err(RestoreFault::Memory),
         }
         self.records = number;
@@ -97,11 +100,30 @@ fn put_back(table: &mut Table, taken: Record) -> Result<(), KeyFault>
     ensures first { IfErr result (λ fault. IsRecordRefused table.old taken fault) }
 {
     match taken {
-        Record::Change(change) => table.restore_key(&change.name, change.key),
-        Record::Base(base) => table.restore_base(&base.name, base.key),
+        Record::Key(kind, change) => put_key(table, kind, &change),
         Record::Raise(count) => {
             table.restore_count(count);
             Ok(())
         }
+    }
+}
+
+// Replays the record of a key, by its kind.
+fn put_key(table: &mut Table, kind: KeyKind, change: &Change) -> Result<(), KeyFault>
+    requires fits { ChangeFits change.now }
+    ensures step { OnOk result ((s : State) → Agrees table.old.state s
+        → IsNextRecord s (record_of.Key kind change.now)
+        × Agrees table.new.state (with_record (record_of.Key kind change.now) s)) }
+    ensures counts { (table.new.events ≡ table.old.events) × (table.new.seen ≡ table.old.seen)
+        × (table.new.max_entries ≡ table.old.max_entries) }
+    ensures first { IfErr result (λ fault. IsRecordRefused table.old (record_of.Key kind change.now) fault) }
+{
+    let name = &change.name;
+    match kind {
+        KeyKind::Change => table.restore_key(name, change.key),
+        KeyKind::Base => table.restore_base(name, change.key),
+        KeyKind::Adopt => table.restore_adopted(name, change.key),
+        KeyKind::Lift => table.restore_lifted(name, change.key),
+        KeyKind::Remove => table.restore_removed(name),
     }
 }

@@ -1,8 +1,11 @@
 pub mod DerivedLemmas
 pub mod ReuseLemmas
 pub mod KeptLemmas
+pub mod FrontLemmas
 pub mod ChangeLemmas
+pub mod AdoptionLemmas
 pub mod RestartLemmas
+pub mod WithoutLemmas
 pub mod MessageLemmas
 pub mod SecondLemmas
 pub mod WorkedHistory

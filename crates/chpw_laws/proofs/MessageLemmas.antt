@@ -67,6 +67,6 @@ judged_is_for s q target password name is same = subst (λ (n : Name). IsFor n p
 
 -- the law on a message as it is judged
 pub refused_as_judged : RefusedAsJudged
-refused_as_judged h q target now io few is same =
-    refused_until_depth h few now (judged (end_of h) q) io (judged_is_for (end_of h) q target h.password h.name is same)
+refused_as_judged h q target now io stays few is same =
+    refused_until_depth h stays few now (judged (end_of h) q) io (judged_is_for (end_of h) q target h.password h.name is same)
     (judged_lacks_none (end_of h) now q target h.password is)

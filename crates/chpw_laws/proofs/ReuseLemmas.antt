@@ -1,15 +1,17 @@
 -- A password whose key is compared is refused.
-use Rattle.std.proofs.Common.{◌≡◌, ◌≢◌, ℕ, zero, suc, ◌<◌, List, [], ◌∷◌, length, map, Bool, true, false, not, ◌||◌, if◌then◌else◌}
+use Rattle.std.proofs.Common.{◌≡◌, ◌≢◌, ℕ, zero, suc, ◌<◌, List, [], ◌∷◌, length, map, take, Bool, true, false, not, ◌&&◌, ◌||◌, if◌then◌else◌, Option}
 use Rattle.std.proofs.Common.{is_none, unwrap_or, refl, sym, ◌∙◌, ap, subst, arith}
-use Rattle.std.specs.Prelude.{◌==◌, nat_lt, int_le, bytes_eq, Contains, slice_index_or}
+use Rattle.std.specs.Prelude.{◌==◌, nat_lt, int_le, bytes_eq, option_map, Contains, slice_index_or}
 use Rattle.std.specs.List.{list_any}
 use Rattle.std.specs.Cmp.Lexicographic.{bytes_decides}
 use Rattle.std.proofs.lemmas.Bool.Decides.{nat_tests}
 use Rattle.chpw_rules.specs.declared.name.Name.{Name}
+use Rattle.chpw_rules.specs.Names.{is_same_name}
 use Rattle.chpw_record.specs.declared.key.KeyRow.{KeyRow}
 use Rattle.chpw_table.specs.declared.times.Moment.{Moment}
 use Rattle.chpw_table.specs.declared.request.Target.{Target}
 use Rattle.chpw_table.specs.declared.request.Opened.{Opened}
+use Rattle.chpw_table.specs.declared.updating.KdcUpdate.TheVariants.{Lift}
 use Rattle.chpw_table.specs.declared.verdict.Verdict.{Verdict}
 use Rattle.chpw_table.specs.declared.verdict.Verdict.TheVariants.{Skew, Replay, NotYet, Expired, BadPrivate}
 use Rattle.chpw_table.specs.declared.verdict.Verdict.TheVariants.{BadBody, Denied, NeedInitial, Unknown, Short}
@@ -17,13 +19,18 @@ use Rattle.chpw_table.specs.declared.verdict.Verdict.TheVariants.{Classes, Reuse
 use Rattle.chpw_table.specs.Digests.{aes256_under}
 use Rattle.chpw_table.specs.Completing.{salt_of}
 use Rattle.chpw_table.specs.Requests.{id_of, target_of, digest_of, is_bad_private, is_bad_data}
-use Rattle.chpw_table.specs.State.{State, keys_held, is_used, new_count}
+use Rattle.chpw_table.specs.State.{State, keys_held, is_used, new_count, kept_count}
 use Rattle.chpw_table.specs.Wanted.{wanted, lacking, compared_keys, is_one_of}
 use Rattle.chpw_table.specs.Verdicts.{reads_keys}
 use Rattle.chpw_table.specs.Times.{clock_at, is_far, is_later, is_stale}
 use Rattle.chpw_table.specs.Decision.{verdict, newest_kvno, is_denied, needs_initial, is_reused}
+use Rattle.chpw_table.specs.Updates.{name_in, kind_of, key_in, keys_after as keys_after_update, with_newest, lifted_key, is_taken, update_verdict}
 use Rattle.chpw_table.specs.History.{missing}
-use Rattle.chpw_laws.specs.OldPasswords.{IsFor, principal, IsKeyOf, MakesItsKeys, RefusedWhileCompared, RaiseComparesTheSame}
+use Rattle.chpw_table.specs.Laws.{unversioned}
+use Rattle.chpw_table.proofs.UpdateLemmas.{keys_updated}
+use Rattle.chpw_laws.specs.OldPasswords.{IsFor, Refuses, principal, IsKeyOf, MakesItsKeys, RefusedWhileCompared}
+use Rattle.chpw_laws.specs.OldPasswords.{RaiseComparesTheSame, UpdateLeavesOthers, LiftComparesTheSame}
+use Rattle.chpw_laws.proofs.KeptLemmas.{alike_first, lift_alike}
 use Rattle.chpw_laws.proofs.DerivedLemmas.{HasKeys, derived_keys, there, wants_new, wants_compared}
 
 -- ---- the rows
@@ -153,9 +160,10 @@ not_done v h done = apart (sym (h (ap reads_keys done)) ∙ done)
     apart : Reused ≡ Done → ⊥
     apart e = cc
 
--- the law on one state
-pub refused_while_compared : RefusedWhileCompared
-refused_while_compared s name password key inside is_key now o io asked none =
+-- so a password is refused whose key is compared as it is
+compared_is_refused : (s : State) (name : Name) (password : List ℕ) (key : KeyRow) →
+    Contains (compared_keys s name) key → IsKeyOf s name password key → Refuses s name password
+compared_is_refused s name password key inside is_key now o io asked none =
     let reused : reads_keys (verdict s now o io) ≡ true → verdict s now o io ≡ Reused = λ reads.
     is_behind s now o io none reads
     ∙ ap (λ (r : Bool). last_rows r (newest_kvno (unwrap_or (keys_held s (target_of o).name) []) == 4294967295) (s.broken || io))
@@ -163,6 +171,11 @@ refused_while_compared s name password key inside is_key now o io asked none =
     (subst (λ (n : Name). Contains (compared_keys s n) key) (sym asked.0) inside)
     (subst (λ (n : Name). IsKeyOf s n password key) (sym asked.0) is_key)) in
     (not_done (verdict s now o io) reused, reused)
+
+-- the law on one state; a password's key doesn't depend on its version
+pub refused_while_compared : RefusedWhileCompared
+refused_while_compared s name password key (kvno, inside) is_key =
+    compared_is_refused s name password (record key { kvno = kvno }) inside is_key
 
 -- the law on the keys that a change makes
 pub makes_its_keys : MakesItsKeys
@@ -173,3 +186,30 @@ makes_its_keys s now o io name password asked none done =
 -- the law on raises
 pub raise_compares_the_same : RaiseComparesTheSame
 raise_compares_the_same s now count io name = refl
+
+-- the law on updates of other names
+pub update_leaves_others : UpdateLeavesOthers
+update_leaves_others s now u io name other =
+    ap (λ (x : Option (List KeyRow)). take s.fixed.policy.depth (unwrap_or x []))
+    (keys_updated (update_verdict s u io) s now u io name ∙ at (is_taken (update_verdict s u io)) (is_same_name (name_in u) name) other)
+  where
+    at : (b same : Bool) → same ≡ false
+        → (if b && same then keys_after_update (kind_of u) (kept_count s) (key_in (keys_held s name) u) (keys_held s name) else keys_held s
+        name) ≡ keys_held s name
+    at true true h = cc
+    at true false h = refl
+    at false same h = refl
+
+-- the law on lifts
+pub lift_compares_the_same : LiftComparesTheSame
+lift_compares_the_same s now lifted kvno io name =
+    alike_first unversioned s.fixed.policy.depth _ _
+    (ap (λ (x : Option (List KeyRow)). map unversioned (unwrap_or x [])) (keys_updated (update_verdict s (Lift lifted kvno) io) s now (Lift
+    lifted kvno) io name)
+    ∙ at (is_taken (update_verdict s (Lift lifted kvno) io) && is_same_name lifted name) (keys_held s name))
+  where
+    at : (b : Bool) (held : Option (List KeyRow))
+        → map unversioned (unwrap_or (if b then option_map (with_newest (lifted_key kvno (unwrap_or held []))) held else held) []) ≡ map
+        unversioned (unwrap_or held [])
+    at true held = lift_alike unversioned kvno held (λ k n. refl)
+    at false held = refl

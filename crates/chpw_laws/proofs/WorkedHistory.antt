@@ -15,7 +15,8 @@ use Rattle.chpw_table.specs.declared.history.Event.TheVariants.{Ask}
 use Rattle.chpw_table.specs.declared.history.Entry.{Entry}
 use Rattle.chpw_table.specs.State.{State}
 use Rattle.chpw_table.specs.History.{IsLegal}
-use Rattle.chpw_laws.specs.OldPasswords.{IsFor, OneIsEnough}
+use Rattle.chpw_laws.specs.OldPasswords.{IsFor}
+use Rattle.chpw_laws.specs.WithoutUpdates.{OneIsEnough}
 
 abbrev athena : List ℕ
 athena = codes "ATHENA.MIT.EDU"
@@ -133,5 +134,6 @@ one_is_enough value =
       refl,
       is_for 3,
       refl,
+      (refl, tt),
       refl,
     )

@@ -1,6 +1,6 @@
--- An old password: which key a change makes of it, how long new passwords are compared with that key, and what is
--- refused meanwhile.
-use Rattle.std.specs.Prelude.{◌≡◌, ◌≢◌, ℕ, ◌<◌, ◌≤◌, List, [], ◌∷◌, ◌++◌, length, take, filter, Contains, Bool, true, false, ◌&&◌}
+-- An old password: which key a change makes of it, how long new passwords are compared with that key, or with one that was
+-- adopted from the KDC, and what is refused meanwhile.
+use Rattle.std.specs.Prelude.{◌≡◌, ◌≢◌, ℕ, ◌<◌, ◌≤◌, List, [], ◌∷◌, ◌++◌, length, take, map, filter, Contains, Bool, true, false, ◌&&◌}
 use Rattle.krb_keys.specs.declared.etype.Etype.TheVariants as etype
 use Rattle.krb_keys.specs.Keys.{s2k, bytes_of}
 use Rattle.chpw_rules.specs.declared.name.Name.{Name}
@@ -11,7 +11,10 @@ use Rattle.chpw_table.specs.declared.request.Target.{Target}
 use Rattle.chpw_table.specs.declared.request.Opened.{Opened}
 use Rattle.chpw_table.specs.declared.verdict.Verdict.TheVariants.{Reused, Done}
 use Rattle.chpw_table.specs.declared.history.Event.{Event}
-use Rattle.chpw_table.specs.declared.history.Event.TheVariants.{Ask, Raise}
+use Rattle.chpw_table.specs.declared.history.Event.TheVariants.{Ask, Raise, Update}
+use Rattle.chpw_table.specs.declared.updating.KdcUpdate.{KdcUpdate}
+use Rattle.chpw_table.specs.declared.updating.KdcUpdate.TheVariants.{Adopt, Lift}
+use Rattle.chpw_table.specs.declared.updating.UpdateVerdict.TheVariants.{Taken}
 use Rattle.chpw_table.specs.declared.history.Entry.{Entry}
 use Rattle.chpw_table.specs.Derivations.{digest_from}
 use Rattle.chpw_table.specs.Completing.{salt_of}
@@ -22,8 +25,9 @@ use Rattle.chpw_table.specs.Wanted.{compared_keys}
 use Rattle.chpw_table.specs.Decision.{verdict}
 use Rattle.chpw_table.specs.Step.{new_key}
 use Rattle.chpw_table.specs.Raising.{step_raise}
+use Rattle.chpw_table.specs.Updates.{name_in, is_taken, step_update}
 use Rattle.chpw_table.specs.History.{missing, IsLegal, outcome}
-use Rattle.chpw_table.specs.Laws.{keys_made}
+use Rattle.chpw_table.specs.Laws.{keys_made, unversioned, NeverRemoved}
 
 -- the request is for this password of the principal of this name: its digest has the password's keys under some counts
 abbrev pub IsFor : Name → List ℕ → Opened → Type 0
@@ -50,31 +54,47 @@ IsKeyOf s name password key = key.aes256 ≡ bytes_of (s2k etype.Aes256 password
 abbrev pub IsOtherKeyOf : State → Name → List ℕ → KeyRow → Type 0
 IsOtherKeyOf s name password key = key.aes128 ≡ bytes_of (s2k etype.Aes128 password (salt_of (principal s name)) key.count)
 
+-- the key is one of those that a new password is compared with, under this version or another
+abbrev pub ComparesWith : State → Name → KeyRow → Type 0
+ComparesWith s name key = (kvno : ℕ) × Contains (compared_keys s name) (record key { kvno = kvno })
+
 -- an accepted change makes the password's keys
 abbrev pub MakesItsKeys : Type 0
 MakesItsKeys = (s : State) (now : Moment) (o : Opened) (io : Bool) (name : Name) (password : List ℕ) →
     IsFor name password o → missing s now o ≡ [] → verdict s now o io ≡ Done →
     IsKeyOf s name password (new_key s o) × IsOtherKeyOf s name password (new_key s o)
 
--- a password is refused while a key of it is among those that a new password is compared with
+-- a password is refused while a key of it is among those that a new password is compared with, under whichever version
 abbrev pub RefusedWhileCompared : Type 0
 RefusedWhileCompared = (s : State) (name : Name) (password : List ℕ) (key : KeyRow) →
-    Contains (compared_keys s name) key → IsKeyOf s name password key → Refuses s name password
+    ComparesWith s name key → IsKeyOf s name password key → Refuses s name password
 
 -- a raise of the iteration count leaves the keys that a new password is compared with
 abbrev pub RaiseComparesTheSame : Type 0
 RaiseComparesTheSame = (s : State) (now : Moment) (count : ℕ) (io : Bool) (name : Name) →
     compared_keys (step_raise s now count io) name ≡ compared_keys s name
 
+-- so does a lift, except for the version of the newest
+abbrev pub LiftComparesTheSame : Type 0
+LiftComparesTheSame = (s : State) (now : Moment) (lifted : Name) (kvno : ℕ) (io : Bool) (name : Name) →
+    map unversioned (compared_keys (step_update s now (Lift lifted kvno) io) name) ≡ map unversioned (compared_keys s name)
+
+-- and any update those of another name
+abbrev pub UpdateLeavesOthers : Type 0
+UpdateLeavesOthers = (s : State) (now : Moment) (u : KdcUpdate) (io : Bool) (name : Name) →
+    is_same_name (name_in u) name ≡ false → compared_keys (step_update s now u io) name ≡ compared_keys s name
+
 -- ---- a history
 
--- how many changes of this name these entries accepted
-abbrev pub is_change_of : Name → Event → Bool
-is_change_of name (Ask o v) = is_done v && is_same_name (target_of o).name name
-is_change_of name (Raise count v) = false
+-- whether an event put a key of this name in front: by a change that was accepted, or by one that was adopted from the KDC
+abbrev pub brings_key : Name → Event → Bool
+brings_key name (Ask o v) = is_done v && is_same_name (target_of o).name name
+brings_key name (Update (Adopt adopted key) v) = is_taken v && is_same_name adopted name
+brings_key name _ = false
 
-abbrev pub changes_of : Name → List Entry → ℕ
-changes_of name entries = length (filter (λ (e : Entry). is_change_of name e.event) entries)
+-- how many keys of this name came in front by these entries
+abbrev pub new_keys_of : Name → List Entry → ℕ
+new_keys_of name entries = length (filter (λ (e : Entry). brings_key name e.event) entries)
 
 -- a legal history with an accepted change of a name to a password in it, some entries before that and some later
 pub record Changed : Type 0 where
@@ -106,36 +126,33 @@ end_of h = outcome h.opening (h.before ++ h.change ∷ h.later)
 
 -- at the end the password is refused if the key that the change made is among those that a new password is compared with
 abbrev pub RefusedWhileItsKeyIsCompared : Type 0
-RefusedWhileItsKeyIsCompared = (h : Changed) → Contains (compared_keys (end_of h) h.name) (key_of h) → Refuses (end_of h) h.name h.password
+RefusedWhileItsKeyIsCompared = (h : Changed) → ComparesWith (end_of h) h.name (key_of h) → Refuses (end_of h) h.name h.password
 
 -- and so it is in each state of a later history of the same realm, after a restart or a reload, that compares with that key
 abbrev pub RefusedInLaterHistories : Type 0
 RefusedInLaterHistories = (h : Changed) (later : State) → later.fixed.realm ≡ h.opening.fixed.realm →
-    Contains (compared_keys later h.name) (key_of h) → Refuses later h.name h.password
+    ComparesWith later h.name (key_of h) → Refuses later h.name h.password
 
--- until `depth` further changes of the name were accepted, that key is among them
+-- until `depth` further keys of the name came in front, that key is among them, unless the name was removed
 abbrev pub ComparedUntilDepth : Type 0
-ComparedUntilDepth = (h : Changed) → changes_of h.name h.later < depth_of h → Contains (compared_keys (end_of h) h.name) (key_of h)
+ComparedUntilDepth = (h : Changed) → NeverRemoved h.name h.later → new_keys_of h.name h.later < depth_of h →
+    ComparesWith (end_of h) h.name (key_of h)
 
--- so until `depth` further changes of the name were accepted, the password is refused
+-- so until then the password is refused
 abbrev pub RefusedUntilDepth : Type 0
-RefusedUntilDepth = (h : Changed) → changes_of h.name h.later < depth_of h → Refuses (end_of h) h.name h.password
+RefusedUntilDepth = (h : Changed) → NeverRemoved h.name h.later → new_keys_of h.name h.later < depth_of h →
+    Refuses (end_of h) h.name h.password
 
--- but no longer for that change: from then on a new password is compared with the keys of further changes alone
+-- but no longer for that change: from then on a new password is compared with the keys that came later alone
 abbrev pub ComparedNoLonger : Type 0
-ComparedNoLonger = (h : Changed) → depth_of h ≤ changes_of h.name h.later →
-    compared_keys (end_of h) h.name ≡ take (depth_of h) (keys_made (after_change h) h.later h.name)
+ComparedNoLonger = (h : Changed) → NeverRemoved h.name h.later → depth_of h ≤ new_keys_of h.name h.later →
+    map unversioned (compared_keys (end_of h) h.name)
+    ≡ map unversioned (take (depth_of h) (keys_made (after_change h) h.later h.name))
 
--- between two accepted changes of a name to one password, at least `depth` other changes of it were accepted
+-- between two accepted changes of a name to one password at least `depth` other keys of it came in front, unless it was
+-- removed
 abbrev pub DepthOthersBetween : Type 0
-DepthOthersBetween = (h : Changed) (again : Entry) (o : Opened) →
+DepthOthersBetween = (h : Changed) (again : Entry) (o : Opened) → NeverRemoved h.name h.later →
     IsLegal h.opening ((h.before ++ h.change ∷ h.later) ++ again ∷ []) →
     again.event ≡ Ask o Done → IsFor h.name h.password o →
-    depth_of h ≤ changes_of h.name h.later
-
--- and no more need be: in some legal history with a `depth` of 1, one other change stands between two such changes
-abbrev pub OneIsEnough : Type 0
-OneIsEnough = (h : Changed) × (again : Entry) × (o : Opened)
-    × IsLegal h.opening ((h.before ++ h.change ∷ h.later) ++ again ∷ [])
-    × (again.event ≡ Ask o Done) × IsFor h.name h.password o
-    × (depth_of h ≡ 1) × (changes_of h.name h.later ≡ 1)
+    depth_of h ≤ new_keys_of h.name h.later

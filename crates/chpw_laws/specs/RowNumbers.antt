@@ -2,9 +2,11 @@
 -- (RFC 4120 section 7.5.9) where it is answered by one.
 use Rattle.std.specs.Prelude.{◌≡◌, ℕ, pos, Some, None}
 use Rattle.chpw_table.specs.declared.raising.RaiseVerdict.TheVariants as raise
+use Rattle.chpw_table.specs.declared.updating.KdcUpdate.{KdcUpdate}
+use Rattle.chpw_table.specs.declared.updating.UpdateVerdict.TheVariants as taking
 use Rattle.chpw_table.specs.declared.verdict.Verdict.{Verdict}
 use Rattle.chpw_table.specs.declared.verdict.Verdict.TheVariants as row
-use Rattle.chpw_table.specs.Replies.{answer_of, told_of}
+use Rattle.chpw_table.specs.Replies.{answer_of, told_of, told_of_update}
 
 -- the result code and the error code of a KRB-ERROR
 abbrev pub ByError : Verdict → ℕ → ℕ → Type 0
@@ -40,3 +42,10 @@ pub record RaiseRows : Type 0 where
   pub not_higher : (told_of raise.NotHigher).code ≡ 4
   pub broken : (told_of raise.Broken).code ≡ 2
   pub raised : (told_of raise.Raised).code ≡ 0
+
+-- and of an update from the KDC: HARDERROR, SUCCESS
+pub record UpdateRows (u : KdcUpdate) : Type 0 where
+  pub no_such_principal : (told_of_update u taking.NoSuchPrincipal).code ≡ 2
+  pub not_newer : (told_of_update u taking.NotNewer).code ≡ 2
+  pub broken : (told_of_update u taking.Broken).code ≡ 2
+  pub taken : (told_of_update u taking.Taken).code ≡ 0

@@ -1,31 +1,40 @@
 //! The laws, each a function that does nothing.
 ghost use Rattle.chpw_laws.specs.OldPasswords.{MakesItsKeys, RefusedWhileCompared, RaiseComparesTheSame};
+ghost use Rattle.chpw_laws.specs.OldPasswords.{LiftComparesTheSame, UpdateLeavesOthers};
 ghost use Rattle.chpw_laws.specs.OldPasswords.{RefusedWhileItsKeyIsCompared, RefusedInLaterHistories, ComparedUntilDepth, RefusedUntilDepth};
-ghost use Rattle.chpw_laws.specs.OldPasswords.{ComparedNoLonger, DepthOthersBetween, OneIsEnough};
+ghost use Rattle.chpw_laws.specs.OldPasswords.{ComparedNoLonger, DepthOthersBetween};
+ghost use Rattle.chpw_laws.specs.Adoptions.{AdoptedIsCompared, AdoptedIsRefused};
+ghost use Rattle.chpw_laws.specs.WithoutUpdates.{OnlyChangesBringKeys, ComparedUntilDepthOfChanges, RefusedUntilDepthOfChanges};
+ghost use Rattle.chpw_laws.specs.WithoutUpdates.{ComparedNoLongerThanChanges, DepthChangesBetween, OneIsEnough, OnlyChangesBringKeysInRuns};
 ghost use Rattle.chpw_laws.specs.Messages.{OpensForIt, RefusedAsJudged};
-ghost use Rattle.chpw_laws.specs.Restarts.{RefusedOverRestarts};
+ghost use Rattle.chpw_laws.specs.Restarts.{RefusedOverRestarts, AdoptedIsRefusedOverRestarts};
 ghost use Rattle.chpw_laws.specs.Seconds.{PassesIfNear, Apart300IsIn, Apart301IsOut, MicrosAreNotRead, LaterIsBy300};
 ghost use Rattle.chpw_laws.specs.Seconds.{QuietIs300, QuietNever, LastSecondIsOf9999};
-ghost use Rattle.chpw_laws.specs.RowNumbers.{ErrorRows, PrivateRows, RaiseRows};
+ghost use Rattle.chpw_laws.specs.RowNumbers.{ErrorRows, PrivateRows, RaiseRows, UpdateRows};
 ghost use Rattle.chpw_laws.specs.RefusalNumbers.{FrameNumbers, ApNumbers, RoomNumbers};
 ghost use Rattle.std.specs.Prelude.{◌≡◌, pos};
 ghost use Rattle.chpw_table.specs.declared.times.TheConstants.{CLOCK_SKEW, LAST_SECOND};
+ghost use Rattle.chpw_table.specs.declared.updating.KdcUpdate.{KdcUpdate};
 
 use krb_keys::laws::published_values;
 
 /// No old password comes back too soon. An accepted change makes the keys of its password (RFC 3962 section 4). A
 /// password is refused, whoever asks for it and whenever, while one of its keys is among the `depth` newest of its
-/// principal; so, once it was accepted, until `depth` further changes of that principal were accepted, also over
-/// restarts. Between two accepted changes to one password there are at least `depth` others.
+/// principal, under whichever version; so, once it was accepted, until `depth` further keys of that principal came in
+/// front, by accepted changes or adopted from the KDC, also over restarts, unless the principal was removed meanwhile.
+/// Between two accepted changes to one password at least `depth` others came in front, unless it was removed.
 ///
 /// A new password is compared with each key under that key's own iteration count. A request that lacks a key under one
 /// of these counts isn't decided (`missing`), and so isn't accepted. So a raise of the count, wherever it stands in the
-/// history, changes nothing of this. The salt is the principal's realm and name (RFC 4120 section 4); a request for
-/// another realm is denied. With a `depth` of 0 nothing is compared.
+/// history, changes nothing of this; nor does a lift of a version, or an update of another principal. The salt is the
+/// principal's realm and name (RFC 4120 section 4); a request for another realm is denied. With a `depth` of 0 nothing is
+/// compared.
 pub fn old_passwords()
     ensures makes { MakesItsKeys }
     ensures compared { RefusedWhileCompared }
     ensures raise { RaiseComparesTheSame }
+    ensures lift { LiftComparesTheSame }
+    ensures others { UpdateLeavesOthers }
     ensures held { RefusedWhileItsKeyIsCompared }
     ensures later { RefusedInLaterHistories }
     ensures until { ComparedUntilDepth }
@@ -35,6 +44,26 @@ pub fn old_passwords()
     ensures opens { OpensForIt }
     ensures judged { RefusedAsJudged }
     ensures between { DepthOthersBetween }
+{}
+
+/// A password that was set at the KDC is refused as long as one that was changed to here: a key that was adopted is among
+/// those that a new password is compared with until `depth` further keys came in front, also over restarts, unless the
+/// principal was removed meanwhile; and until then a password is refused whose key it is.
+pub fn adopted_passwords()
+    ensures until { AdoptedIsCompared }
+    ensures refused { AdoptedIsRefused }
+    ensures restarts { AdoptedIsRefusedOverRestarts }
+{}
+
+/// Where the KDC says nothing, the keys that come in front are those of accepted changes alone, no principal is removed,
+/// and each key is compared with as it was made. So the laws hold with accepted changes counted, and without a premise.
+pub fn without_updates()
+    ensures only { OnlyChangesBringKeys }
+    ensures until { ComparedUntilDepthOfChanges }
+    ensures refused { RefusedUntilDepthOfChanges }
+    ensures no_longer { ComparedNoLongerThanChanges }
+    ensures between { DepthChangesBetween }
+    ensures restarts { OnlyChangesBringKeysInRuns }
 {}
 
 /// Of `depth` other changes no more need stand between two accepted changes to one password: with a depth of 1 one is
@@ -65,11 +94,12 @@ pub fn times()
 
 /// The numbers that replies carry, those of each row of the decision and of each fault of a frame and of an AP-REQ: the
 /// result codes 0 to 7 of RFC 3244 section 2, and error codes of RFC 4120 section 7.5.9. An administrator is told of a
-/// raise by result codes, too.
+/// raise by result codes, too, and so is whoever reads of an update from the KDC.
 pub fn replies()
     ensures errors { ErrorRows }
     ensures privates { PrivateRows }
     ensures raises { RaiseRows }
+    ensures updates { (u : KdcUpdate) → UpdateRows u }
     ensures frames { FrameNumbers }
     ensures requests { ApNumbers }
     ensures room { RoomNumbers }

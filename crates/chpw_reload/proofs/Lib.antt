@@ -1,7 +1,6 @@
 pub mod WorkedReload
 pub mod KeyLemmas
 pub mod ReloadLemmas
-pub mod GoingLemmas
 pub mod CompactingLemmas
 pub mod PartsLemmas
 pub mod NewestLemmas

@@ -13,8 +13,11 @@ use Rattle.chpw_table.specs.declared.request.RequestId.{RequestId}
 use Rattle.chpw_table.specs.declared.verdict.Verdict.{Verdict}
 use Rattle.chpw_table.specs.declared.verdict.Verdict.TheVariants.{Skew, Replay}
 use Rattle.chpw_table.specs.declared.history.Event.{Event}
-use Rattle.chpw_table.specs.declared.history.Event.TheVariants.{Ask, Raise}
+use Rattle.chpw_table.specs.declared.history.Event.TheVariants.{Ask, Raise, Update}
 use Rattle.chpw_table.specs.declared.history.Entry.{Entry}
+use Rattle.chpw_table.specs.declared.updating.KdcUpdate.{KdcUpdate}
+use Rattle.chpw_table.specs.declared.updating.KdcUpdate.TheVariants as update
+use Rattle.chpw_table.specs.declared.updating.UpdateVerdict.{UpdateVerdict}
 use Rattle.chpw_record.specs.declared.key.KeyRow.{KeyRow}
 use Rattle.chpw_table.specs.Requests.{id_of, is_same_id, target_of}
 use Rattle.chpw_table.specs.State.{Fixed, State, keys_held, is_used, kept_count, new_count}
@@ -23,10 +26,13 @@ use Rattle.chpw_table.specs.Agreement.{Agrees}
 use Rattle.chpw_table.specs.Verdicts.{adds_id, is_done}
 use Rattle.chpw_table.specs.Decision.{verdict, message_row}
 use Rattle.chpw_table.specs.Step.{after, new_key}
-use Rattle.chpw_table.specs.History.{step_event, step_entry, outcome, IsLegal}
+use Rattle.chpw_table.specs.Laws.{NeverRemoved, removes}
+use Rattle.chpw_table.specs.Updates.{after_update, is_taken, key_in, kind_of, name_in, keys_after as made_of}
+use Rattle.chpw_table.specs.History.{step_event, step_entry, outcome, IsJudged, IsLegal}
 use Rattle.chpw_table.proofs.AgreementLemmas.{agrees_itself, agrees_onward}
 use Rattle.chpw_table.proofs.StepLemmas.{used_more, raise_keeps_keys}
 use Rattle.chpw_table.proofs.KeyLemmas.{keys_after, put, same_fixed}
+use Rattle.chpw_table.proofs.UpdateLemmas.{keys_updated}
 use Rattle.chpw_journal.specs.Runs.{IsSound, AreWhole, Run, last_state}
 use Rattle.chpw_journal.proofs.JoinedLemmas.{tables_may_open, histories_stay_sound, runs_are_last}
 use Rattle.chpw_reload.specs.ReloadRuns.{GoesOn, AreHistories}
@@ -77,6 +83,7 @@ used_event s now io (Ask o v) id = record {
   used = λ y u. used_after s (verdict s now o io) now o io id u;
 }
 used_event s now io (Raise count v) id = record { young = λ y. still_young s.clock now.seconds id.ctime y; used = λ y u. u }
+used_event s now io (Update u v) id = record { young = λ y. still_young s.clock now.seconds id.ctime y; used = λ y k. k }
 
 used_history : (s : State) (es : List Entry) (id : RequestId) → StaysUsed s (outcome s es) id
 used_history s [] id = used_itself s id
@@ -136,16 +143,41 @@ put_some true kept key None h = h
 put_some true kept key (Some keys) h = h
 put_some false kept key x h = h
 
-name_event : (s : State) (now : Moment) (io : Bool) (event : Event) (name : Name)
+-- what an update makes of a name's keys, unless it removes the name
+abbrev removed_in : KdcUpdate → Bool → Bool
+removed_in (update.Adopt n key) b = false
+removed_in (update.Lift n kvno) b = false
+removed_in (update.Remove n) b = b
+
+taken_some : (u : KdcUpdate) (b : Bool) (kept : ℕ) (x : Option (List KeyRow)) → removed_in u b ≡ false → IsSome x
+    → IsSome (if b then made_of (kind_of u) kept (key_in x u) x else x)
+taken_some u false kept x stays h = h
+taken_some (update.Adopt n key) true kept x stays h = search rules
+taken_some (update.Lift n kvno) true kept None stays h = h
+taken_some (update.Lift n kvno) true kept (Some keys) stays h = search rules
+taken_some (update.Remove n) true kept x stays h = absurd (cc)
+
+removes_so : (u : KdcUpdate) (v : UpdateVerdict) (name : Name) → removes name (Update u v) ≡ removed_in u (is_taken v && is_same_name (name_in u) name)
+removes_so (update.Adopt n key) v name = refl
+removes_so (update.Lift n kvno) v name = refl
+removes_so (update.Remove n) v name = refl
+
+name_event : (s : State) (now : Moment) (io : Bool) (event : Event) (name : Name) → IsJudged s now io event → removes name event ≡ false
     → IsSome (keys_held s name) → IsSome (keys_held (step_event s now io event) name)
-name_event s now io (Ask o v) name h =
+name_event s now io (Ask o v) name d stays h =
     subst IsSome (sym (keys_after s (verdict s now o io) now o io name))
     (put_some (is_done (verdict s now o io) && is_same_name (target_of o).name name) (kept_count s) (new_key s o) (keys_held s name) h)
-name_event s now io (Raise count v) name h = h
+name_event s now io (Raise count v) name d stays h = h
+name_event s now io (Update u v) name d stays h =
+    subst (λ (w : UpdateVerdict). IsSome (keys_held (after_update w s now u io) name)) d.verdict_is
+    (subst IsSome (sym (keys_updated v s now u io name))
+    (taken_some u (is_taken v && is_same_name (name_in u) name) (kept_count s) (keys_held s name) (sym (removes_so u v name) ∙ stays) h))
 
-name_history : (s : State) (es : List Entry) (name : Name) → IsSome (keys_held s name) → IsSome (keys_held (outcome s es) name)
-name_history s [] name h = h
-name_history s (e ∷ es) name h = name_history (step_entry s e) es name (name_event s e.now e.io_failed e.event name h)
+name_history : (s : State) (es : List Entry) (name : Name) → IsLegal s es → NeverRemoved name es
+    → IsSome (keys_held s name) → IsSome (keys_held (outcome s es) name)
+name_history s [] name legal stays h = h
+name_history s (e ∷ es) name legal stays h =
+    name_history (step_entry s e) es name legal.1 stays.1 (name_event s e.now e.io_failed e.event name legal.0 stays.0 h)
 
 some_is : (x : Option (List KeyRow)) → IsSome x → (keys : List KeyRow) × (x ≡ Some keys)
 some_is None h = absurd (cc)
@@ -159,15 +191,17 @@ name_next s t name (inr g) h =
     subst IsSome (sym now.1) (search rules)
 
 pub names_over_reloads : NamesOverReloads
-names_over_reloads s [] name h some = some
-names_over_reloads s (r ∷ rs) name h some =
-    names_over_reloads (outcome r.opening r.history) rs name h.3 (name_history r.opening r.history name (name_next s r.opening name h.0 some))
+names_over_reloads s [] name h stays some = some
+names_over_reloads s (r ∷ rs) name h stays some =
+    names_over_reloads (outcome r.opening r.history) rs name h.3 stays.1
+    (name_history r.opening r.history name h.1 stays.0 (name_next s r.opening name h.0 some))
 
 -- ---- the count of new keys
 
 count_event : (s : State) (now : Moment) (io : Bool) (event : Event) → new_count s ≤ new_count (step_event s now io event)
 count_event s now io (Ask o v) = omega arith
 count_event s now io (Raise count v) = (raise_keeps_keys s now count io).2
+count_event s now io (Update u v) = omega arith
 
 count_history : (s : State) (es : List Entry) → new_count s ≤ new_count (outcome s es)
 count_history s [] = omega arith

@@ -44,6 +44,7 @@ pub refused_rest : (r : PreparedReload) (rest : Option (List ℕ)) (closed : Hel
 refused_rest r rest closed (journal.BadRecord n) realm h = (realm, journal.BadRecord n, h, refl)
 refused_rest r rest closed (journal.WrongVersion n) realm h = (realm, journal.WrongVersion n, h, refl)
 refused_rest r rest closed (journal.UnknownPrincipal n) realm h = (realm, journal.UnknownPrincipal n, h, refl)
+refused_rest r rest closed (journal.TooMany n) realm h = (realm, journal.TooMany n, h, refl)
 refused_rest r rest closed journal.CannotRead realm h = (realm, journal.CannotRead, h, refl)
 refused_rest r rest closed journal.Memory realm h = tt
 

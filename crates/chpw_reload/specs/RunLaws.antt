@@ -1,5 +1,5 @@
 -- Laws of a run of a service that reloads.
-use Rattle.std.specs.Prelude.{◌≡◌, ℕ, ◌≤◌, List, Bool, Option, true, false, IsSome}
+use Rattle.std.specs.Prelude.{◌≡◌, ℕ, ◌≤◌, List, [], ◌∷◌, Bool, Option, true, false, IsSome}
 use Rattle.chpw_rules.specs.declared.name.Name.{Name}
 use Rattle.chpw_rules.specs.declared.config.Config.{Config}
 use Rattle.chpw_table.specs.declared.times.Moment.{Moment}
@@ -9,6 +9,7 @@ use Rattle.chpw_table.specs.State.{State, keys_held, is_used, new_count}
 use Rattle.chpw_table.specs.Agreement.{Held}
 use Rattle.chpw_table.specs.Verdicts.{adds_id}
 use Rattle.chpw_table.specs.Decision.{verdict}
+use Rattle.chpw_table.specs.Laws.{NeverRemoved}
 use Rattle.chpw_journal.specs.Runs.{IsSound, Run, last_state}
 use Rattle.chpw_journal.specs.Joined.{FollowOn}
 use Rattle.chpw_reload.specs.declared.prepared_reload.PreparedReload.{PreparedReload}
@@ -25,9 +26,14 @@ abbrev pub UsedOverReloads : Type 0
 UsedOverReloads = (s : State) (runs : List Run) (now : Moment) (o : Opened) (io : Bool) → AreHistories s runs →
     is_used s (id_of o) ≡ true → adds_id (verdict (last_state s runs) now o io) ≡ false
 
--- no name is lost
+-- no event of these histories removed the name
+abbrev pub NeverRemovedIn : Name → List Run → Type 0
+NeverRemovedIn name [] = Unit {0}
+NeverRemovedIn name (r ∷ rs) = NeverRemoved name r.history × NeverRemovedIn name rs
+
+-- no name is lost that the KDC didn't remove
 abbrev pub NamesOverReloads : Type 0
-NamesOverReloads = (s : State) (runs : List Run) (name : Name) → AreHistories s runs →
+NamesOverReloads = (s : State) (runs : List Run) (name : Name) → AreHistories s runs → NeverRemovedIn name runs →
     IsSome (keys_held s name) → IsSome (keys_held (last_state s runs) name)
 
 -- the count of new keys never falls

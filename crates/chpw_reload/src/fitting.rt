@@ -75,7 +75,7 @@ fn descend_from(mut newer: u32, keys: &[KeyBytes]) -> bool
     ensures value { result ≡ descend_from newer keys.now }
 {
     for key in keys {
-        if key.kvno as u64 + 1 != newer as u64 {
+        if key.kvno >= newer {
             return false;
         }
         newer = key.kvno;

@@ -20,7 +20,7 @@ use chpw_table::{MOST_CARRIED, Table};
 use std::alloc::Global;
 use std::io::Read;
 
-/// The table that the next desk opens with, and the principals in it that the new configuration lacks.
+/// The table that the next desk opens with, and the principals in it that neither the new configuration nor the journal has.
 #[derive(Drop)]
 pub struct Reloaded {
     pub table: Table,
@@ -37,9 +37,9 @@ pub struct Refused {
 /// The table that the next desk opens with, once a history is closed. The rest of the journal is read from after the
 /// bytes that the renewal has read, to its end.
 ///
-/// It has the new settings; the principals of the new configuration with the journal's changes, and those of the closed
-/// table that the new configuration lacks; the greater of the counts of new keys. Used ids, clock and quiet time are
-/// the closed table's. Of several faults the first in `ReloadFault`'s order is returned.
+/// It has the new settings; the principals that the new configuration and the journal give, so those that joined and none
+/// that was removed, and those of the closed table that they lack; the greater of the counts of new keys. Used ids, clock and
+/// quiet time are the closed table's. Of several faults the first in `ReloadFault`'s order is returned.
 pub fn finish<F: Read + Drop>(
     alloc: Global,
     renewal: PreparedReload,
@@ -95,6 +95,7 @@ fn fault_behind(records: u64, fault: RestoreFault) -> RestoreFault
         RestoreFault::UnknownPrincipal(n) => {
             RestoreFault::UnknownPrincipal(number_behind(records, n))
         }
+        RestoreFault::TooMany(n) => RestoreFault::TooMany(number_behind(records, n)),
         RestoreFault::CannotRead => RestoreFault::CannotRead,
         RestoreFault::Memory => RestoreFault::Memory,
     }

@@ -3,7 +3,7 @@ use Rattle.std.proofs.Common.{ℕ, List, Option}
 use Rattle.chpw_rules.specs.declared.config.Config.{Config}
 use Rattle.chpw_table.specs.Agreement.{Agrees, Held}
 use Rattle.chpw_journal.specs.declared.fault.RestoreFault.{RestoreFault}
-use Rattle.chpw_journal.specs.declared.fault.RestoreFault.TheVariants.{BadRecord, WrongVersion, UnknownPrincipal, CannotRead, Memory}
+use Rattle.chpw_journal.specs.declared.fault.RestoreFault.TheVariants.{BadRecord, WrongVersion, UnknownPrincipal, TooMany, CannotRead, Memory}
 use Rattle.chpw_journal.specs.JournalFile.{IsRefusedFrom}
 use Rattle.chpw_report.specs.Held.{opening, IsHeldFault}
 
@@ -12,5 +12,6 @@ pub held_fault : (config : Config) (journal : Option (List ℕ)) (fault : Restor
 held_fault config journal (BadRecord n) before opens refused = (before, opens, refused)
 held_fault config journal (WrongVersion n) before opens refused = (before, opens, refused)
 held_fault config journal (UnknownPrincipal n) before opens refused = (before, opens, refused)
+held_fault config journal (TooMany n) before opens refused = (before, opens, refused)
 held_fault config journal CannotRead before opens refused = (before, opens, refused)
 held_fault config journal Memory before opens refused = tt

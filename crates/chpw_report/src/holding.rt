@@ -14,14 +14,14 @@ use std::io::{BufReader, Read};
 #[derive(Drop)]
 pub struct HeldTable {
     pub table: Table,
-    /// How many changes the journal has: accepted requests, and raises of the count.
+    /// How many records the journal has: accepted requests, raises of the count, and what the KDC said of a principal.
     pub changes: u64,
     /// After how many bytes an incomplete record begins; none if all are complete.
     pub torn_behind: Option<u64>,
 }
 
-/// The configuration's table with a journal's changes replayed. The journal is read to its end; what follows its last
-/// complete record is reported.
+/// The configuration's table with a journal's records replayed, so with the principals that joined, and without those that
+/// were removed. The journal is read to its end; what follows its last complete record is reported.
 pub fn held_from<F: Read + Drop>(
     alloc: Global,
     config: Config,

@@ -3,7 +3,7 @@ use Rattle.std.specs.Prelude.{◌≡◌, ℕ, ◌-◌, List, length, slice_get, 
 use Rattle.chpw_table.specs.declared.times.Moment.{Moment}
 use Rattle.chpw_table.specs.declared.request.Opened.{Opened}
 use Rattle.chpw_table.specs.declared.history.Event.{Event}
-use Rattle.chpw_table.specs.declared.history.Event.TheVariants.{Ask, Raise}
+use Rattle.chpw_table.specs.declared.history.Event.TheVariants.{Ask, Raise, Update}
 use Rattle.chpw_table.specs.declared.history.Receipt.{Receipt}
 use Rattle.chpw_table.specs.declared.verdict.Verdict.{Verdict}
 use Rattle.chpw_decider.specs.Deciding.{AddsReceipt, AddsCompleted, IsCompletedFrom}
@@ -32,6 +32,7 @@ IsTry full (try.Again o) password before now old new = (new ≡ old) × IsComple
 abbrev pub IsKvnoOf : (Option ℕ → Type 0) → Event → Option ℕ → Type 0
 IsKvnoOf made (Ask o v) kvno = IsKvnoUnder made v kvno
 IsKvnoOf made (Raise count v) kvno = kvno ≡ None
+IsKvnoOf made (Update u v) kvno = kvno ≡ None
 
 -- what the observer hears of a verdict: the last receipt; if the history is full, the request
 abbrev pub HearsLast : {G : Type 0} → (G → Heard → G → Type 0) → List ℕ → Moment → (Option ℕ → Type 0) → List Receipt → G → G → Type 0

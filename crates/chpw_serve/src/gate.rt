@@ -1,8 +1,8 @@
 //! A gate that workers pass.
 ghost use Rattle.chpw_serve.specs.declared.gate.Spot.{Spot};
 
-use crate::observer::Observer;
-use chpw_table::{Moment, Opened, Receipt};
+use crate::observer::{Observer, UpdateObserver};
+use chpw_table::{KdcUpdate, Moment, Opened, Receipt, UpdateVerdict};
 use krb_protocol::Refusal;
 
 /// A place on a message's way.
@@ -50,4 +50,12 @@ impl Observer for NoGate {
         _opened: Option<&Opened>,
         _refusal: &Refusal,
     ) {}
+}
+
+impl UpdateObserver for NoGate {
+    ghost use Rattle.std.specs.Prelude.{◌≡◌};
+
+    ghost hears_update = { λ a now update verdict b. b ≡ a };
+
+    fn updated(&mut self, _now: Moment, _update: &KdcUpdate, _verdict: UpdateVerdict) {}
 }

@@ -18,6 +18,6 @@ pub use answering::{Answered, answer, answer_message};
 pub use draws::{Clock, Drawing, Words};
 pub use gate::{Gate, NoGate, Spot};
 pub use messages::{Incoming, Messages, OpenResult, Seal};
-pub use observer::Observer;
+pub use observer::{Observer, UpdateObserver};
 pub use serving::{Ended, MAX_MESSAGES, serve_alone, serve_stream};
 pub use worker_words::WorkerWords;

@@ -3,8 +3,11 @@ ghost use Rattle.std.specs.Prelude.{◌<◌, option_map};
 ghost use Rattle.chpw_table.specs.Times.{IsMoment};
 ghost use Rattle.chpw_serve.specs.Holding.{answer_in};
 ghost use Rattle.chpw_serve.specs.Hearing.{Heard, decision, refusal as refusal_of};
+ghost use Rattle.chpw_table.specs.declared.times.Moment.{Moment as moment_spec};
+ghost use Rattle.chpw_table.specs.declared.updating.KdcUpdate.{KdcUpdate as update_spec};
+ghost use Rattle.chpw_table.specs.declared.updating.UpdateVerdict.{UpdateVerdict as verdict_spec};
 
-use chpw_table::{Moment, Opened, Receipt};
+use chpw_table::{KdcUpdate, Moment, Opened, Receipt, UpdateVerdict};
 use krb_protocol::Refusal;
 
 /// What hears what was decided or refused, as a log. `peer` is an IPv4 address, high byte first.
@@ -26,4 +29,16 @@ pub trait Observer {
         requires micros { now.micros < 1000000 }
         ensures heard { hears self.old
             (refusal_of peer now (option_map (λ o. o.now) opened.entry) (answer_in refusal.now)) self.new };
+}
+
+/// What hears what came of updates from the KDC, as a log.
+pub trait UpdateObserver {
+    /// Hearing this leads from the first state to the second.
+    ghost hears_update: { Self → moment_spec → update_spec → verdict_spec → Self → Type 0 };
+
+    /// An update was decided at this moment.
+    fn updated(&mut self, now: Moment, update: &KdcUpdate, verdict: UpdateVerdict)
+        requires moment { IsMoment now }
+        requires micros { now.micros < 1000000 }
+        ensures heard { hears_update self.old now update.now verdict self.new };
 }

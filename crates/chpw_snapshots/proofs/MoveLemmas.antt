@@ -1,6 +1,6 @@
 -- What each step on the versions keeps.
 use Rattle.std.proofs.Common.{◌≡◌, ◌≢◌, ℕ, ◌+◌, ◌<◌, ◌≤◌, ◌%◌, List, [], ◌∷◌, ◌++◌, length, true}
-use Rattle.std.proofs.Common.{refl, sym, ◌∙◌, ap, subst, ⊎_elim, arith, length-append, set, Option}
+use Rattle.std.proofs.Common.{refl, sym, ◌∙◌, ap, subst, ⊎_elim, arith, length-append, append-nil, set, Option}
 use Rattle.std.proofs.Common.{Some, IsSomeAnd, Result, Ok, Err, IsOk, MatchResult, if◌then◌else◌}
 use Rattle.std.specs.Prelude.{option_map}
 use mathlib.Core.Option.{some}
@@ -17,20 +17,20 @@ use Rattle.chpw_table.specs.declared.change.Accepted.{Accepted}
 use Rattle.chpw_table.specs.Versions.{Shown, shown, shown_count, with_change}
 use Rattle.chpw_changelog.specs.declared.entry.LogEntry.{LogEntry}
 use Rattle.chpw_changelog.specs.declared.change.NumberedChange.{NumberedChange}
-use Rattle.chpw_changelog.specs.declared.change.NumberedChange.TheVariants.{Key, Count}
-use Rattle.chpw_changelog.specs.Changes.{named, named_key}
+use Rattle.chpw_changelog.specs.Changes.{named}
 use Rattle.chpw_changelog.specs.Pens.{changes_in, opening_state, opening_table}
 use Rattle.chpw_changelog.proofs.ListLemmas.{prefix_self, prefix_trans, prefix_same}
+use Rattle.chpw_snapshots.specs.declared.row.Row.{Row}
 use Rattle.chpw_snapshots.specs.declared.snapshot.Snapshot.{Snapshot}
 use Rattle.chpw_snapshots.specs.declared.snapshot.Operation.{Operation}
 use Rattle.chpw_snapshots.specs.declared.view.View.{View}
-use Rattle.chpw_snapshots.specs.Rows.{Rowed, names_of_rows, names_of, rows_after, shown_in, IsPositive, ShowsOpening, lookup_with, lookup_after}
+use Rattle.chpw_snapshots.specs.Rows.{Rowed, names_of_rows, all_rows, shown_in, ShowsOpening, lookup_with, lookup_after}
 use Rattle.chpw_snapshots.specs.Rising.{IsNextVersion}
 use Rattle.chpw_snapshots.specs.Histories.{AreAccepted}
-use Rattle.chpw_snapshots.specs.Following.{applied, IsNumberOf, HasNumber, CanBeShown, list_by, list_shown, ShowsList}
+use Rattle.chpw_snapshots.specs.Following.{applied, CanBeShown, list_by, list_shown, ShowsList}
 use Rattle.chpw_snapshots.specs.Following.{IsRuled, Publishes, IsTied, Looked, Published, Settled, unknown, log_of}
 use Rattle.chpw_snapshots.proofs.RiseLemmas.{next_on}
-use Rattle.chpw_snapshots.proofs.RowLemmas.{names_changed, changed_shows, changed_positive, shown_more, count_more}
+use Rattle.chpw_snapshots.proofs.AfterLemmas.{names_after, added_names_after, kept_after, seen_after, policy_after, shows_after, positive_after}
 
 abbrev AllTied : Snapshot → List Accepted → List View → Type 0
 AllTied x list views = (seat : ℕ) (v : View) → get_elem? views seat ≡ some v → IsTied x list v
@@ -70,48 +70,6 @@ looks seat v x views (list, is, each) at =
       λ k. let t = mine k in ((k, refl, refl), t.2, renamed x.root.book (log_of v) x.root.log v.root list x (sym t.0) (sym t.1) is),
     )
 
--- ---- the rows after one change more
-
-names_after : (c : NumberedChange) (r : Rowed) → names_of_rows (rows_after c r).rows ≡ names_of_rows r.rows
-names_after (Key c) r = names_changed r.kept c c.number r.rows
-names_after (Count n) r = refl
-
-kept_after : (c : NumberedChange) (r : Rowed) → (rows_after c r).kept ≡ r.kept
-kept_after (Key c) r = refl
-kept_after (Count n) r = refl
-
-seen_after : (c : NumberedChange) (r : Rowed) → (rows_after c r).seen ≡ (r.seen + 1) % 4294967296
-seen_after (Key c) r = refl
-seen_after (Count n) r = refl
-
-policy_after : (opening : State) (list : List Accepted) (c : NumberedChange) (r : Rowed)
-    → r.policy ≡ shown_count opening list → (rows_after c r).policy ≡ shown_count opening (list ++ named opening c ∷ [])
-policy_after opening list (Key c) r e = e ∙ sym (count_more opening list (named opening (Key c)))
-policy_after opening list (Count n) r e = sym (count_more opening list (named opening (Count n)))
-
-shows_after : (opening : State) (list : List Accepted) (c : NumberedChange) (r : Rowed)
-    → names_of_rows r.rows ≡ names_of opening → r.kept ≡ kept_count opening → HasNumber opening c
-    → (name : Name) → shown_in r.rows name ≡ shown opening list name → shown_in (rows_after c r).rows name ≡ shown opening (list ++ named opening c ∷ []) name
-shows_after opening list (Key c) r names kept num name is =
-    let k : KeyChange = named_key opening c in
-    let here : IsNumberOf (names_of_rows r.rows) k.name c.number = subst (λ ns. IsNumberOf ns k.name c.number) (sym names) num in
-    changed_shows r.kept c k.name r.rows c.number name here
-    ∙ (ap (λ n. if is_same_name k.name name then option_map (with_change n k) (shown_in r.rows name) else shown_in r.rows name) kept
-    ∙ (ap (λ s. if is_same_name k.name name then option_map (with_change (kept_count opening) k) s else s) is
-    ∙ sym (shown_more opening list (named opening (Key c)) name)))
-shows_after opening list (Count n) r names kept num name is = is ∙ sym (shown_more opening list (named opening (Count n)) name)
-
-positive_after : (opening : State) (list : List Accepted) (c : NumberedChange) (r : Rowed)
-    → r.policy ≡ shown_count opening list
-    → IsNextVersion opening list (named opening c) → IsPositive r → IsPositive (rows_after c r)
-positive_after opening list (Key c) r policy next is =
-    let count : 1 ≤ c.count = subst (λ m. 1 ≤ m) (policy ∙ sym next.3) is.0 in
-    (is.0, changed_positive r.kept c c.number r.rows count is.1)
-positive_after opening list (Count n) r policy next is =
-    let old : 1 ≤ r.policy = is.0 in
-    let count : 1 ≤ n = omega (arith, policy, next, old) in
-    (count, is.1)
-
 -- the version with one operation more shows the list with one change more
 pub goes_on : (b : LogbookName) (r : List LogEntry) (list : List Accepted) (x : Snapshot) (o : Operation)
     → ShowsList b r list x
@@ -133,9 +91,10 @@ goes_on b r list x o is ob ol can done room =
       few = few;
       seen_is = seen_after o.change x.rows ∙ counted;
       names = names_after o.change x.rows ∙ is.names;
+      added = added_names_after (opening_state r) list o.change x.rows is.added can.0;
       kept = kept_after o.change x.rows ∙ is.kept;
       policy = policy_after (opening_state r) list o.change x.rows is.policy;
-      shows = λ name. shows_after (opening_state r) list o.change x.rows is.names is.kept can.0 name (is.shows name);
+      shows = λ name. shows_after (opening_state r) list o.change x.rows is.names is.added is.kept can.0 name (is.shows name);
       rise = next_on (opening_state r) [] list c is.rise can.1;
       accepted = done;
       positive = positive_after (opening_state r) list o.change x.rows is.policy can.1 is.positive;
@@ -218,9 +177,11 @@ opening_version r rows x n same log seen shows =
       few = all.few;
       seen_is = (let e = all.seen in omega (arith, e));
       names = all.names;
+      added = ap names_of_rows all.added;
       kept = all.kept;
       policy = all.policy;
-      shows = all.shows;
+      shows = λ name. ap (λ (added : List Row). shown_in (x.rows.rows ++ added) name) all.added
+          ∙ (ap (λ (rows : List Row). shown_in rows name) (append-nil x.rows.rows) ∙ all.shows name);
       rise = tt;
       accepted = record { history = []; legal = tt; list_is = refl };
       positive = all.positive;
@@ -264,11 +225,11 @@ shown_list b r (c ∷ cs) x is = is.last (omega arith) ∙ sym (ap (λ n. list_b
 
 -- what its rows show is what that list shows
 pub shown_by : (b : LogbookName) (r : List LogEntry) (list : List Accepted) (x : Snapshot) (name : Name) → ShowsList b r list x
-    → option_map (lookup_with x.rows.policy x.rows.seen) (shown_in x.rows.rows name) ≡ lookup_after (opening_table r) (list_shown r x) name
+    → option_map (lookup_with x.rows.policy x.rows.seen) (shown_in (all_rows x.rows) name) ≡ lookup_after (opening_table r) (list_shown r x) name
 shown_by b r list x name is =
     let e = shown_list b r list x is in
-    ap (λ p. option_map (lookup_with p x.rows.seen) (shown_in x.rows.rows name)) is.policy
-    ∙ (ap (λ n. option_map (lookup_with (shown_count (opening_state r) list) n) (shown_in x.rows.rows name)) is.seen_is
+    ap (λ p. option_map (lookup_with p x.rows.seen) (shown_in (all_rows x.rows) name)) is.policy
+    ∙ (ap (λ n. option_map (lookup_with (shown_count (opening_state r) list) n) (shown_in (all_rows x.rows) name)) is.seen_is
     ∙ (ap (λ (s : Option Shown). option_map (lookup_with (shown_count (opening_state r) list) ((opening_table r).seen + length list)) s) (is.shows name)
     ∙ ap (λ l. lookup_after (opening_table r) l name) e))
 

@@ -11,16 +11,20 @@ use Rattle.chpw_table.specs.State.{State, kept_count}
 use Rattle.chpw_table.specs.declared.change.Accepted.{Accepted}
 use Rattle.chpw_table.specs.Versions.{shown, shown_count}
 use Rattle.chpw_changelog.specs.declared.change.NumberedChange.{NumberedChange}
-use Rattle.chpw_changelog.specs.declared.change.NumberedChange.TheVariants.{Key, Count}
+use Rattle.chpw_changelog.specs.declared.change.NumberedChange.TheVariants.{Keys, Count}
+use Rattle.chpw_changelog.specs.declared.change.KeysChange.{KeysChange}
+use Rattle.chpw_changelog.specs.declared.change.Whose.{Whose}
+use Rattle.chpw_changelog.specs.declared.change.Whose.TheVariants.{Number, Short}
 use Rattle.chpw_changelog.specs.declared.entry.LogEntry.{LogEntry}
-use Rattle.chpw_changelog.specs.Changes.{named, named_key}
+use Rattle.chpw_changelog.specs.Changes.{named, name_at, name_whose, short_name}
 use Rattle.chpw_changelog.specs.Pens.{changes_in, opening_state, opening_table}
 use Rattle.chpw_snapshots.specs.declared.snapshot.Snapshot.{Snapshot}
 use Rattle.chpw_snapshots.specs.declared.snapshot.ShownPrefix.{ShownPrefix}
 use Rattle.chpw_snapshots.specs.declared.snapshot.Operation.{Operation}
 use Rattle.chpw_snapshots.specs.declared.view.View.{View}
-use Rattle.chpw_snapshots.specs.Rows.{rows_after, names_of_rows, names_of, shown_in, IsPositive}
+use Rattle.chpw_snapshots.specs.Rows.{Rowed, rows_after, names_of_rows, names_of, all_rows, place_in, shown_in, adopts, added_limit, IsPositive}
 use Rattle.chpw_snapshots.specs.Rising.{IsNextVersion, AreNextVersions}
+use Rattle.chpw_snapshots.specs.Preparing.{has_name, added_names}
 use Rattle.chpw_snapshots.specs.Histories.{AreAccepted}
 
 -- one more operation
@@ -38,14 +42,30 @@ IsNumberOf [] name n = ⊥
 IsNumberOf (m ∷ ms) name zero = is_same_name m name ≡ true
 IsNumberOf (m ∷ ms) name (suc n) = (is_same_name m name ≡ false) × IsNumberOf ms name n
 
--- a change of a key is one of a name that the opening has
-abbrev pub HasNumber : State → NumberedChange → Type 0
-HasNumber opening (Key c) = IsNumberOf (names_of opening) (named_key opening c).name c.number
-HasNumber opening (Count n) = Unit {0}
+-- whose row the rows have of a name: that of a principal of the opening, an added one, or none
+abbrev pub IsWhose : Rowed → Name → Option Whose → Type 0
+IsWhose r name None = (place_in r.rows name ≡ None) × (has_name (names_of_rows r.added) name ≡ false)
+IsWhose r name (Some (Number n)) = place_in r.rows name ≡ Some n
+IsWhose r name (Some (Short s)) =
+    (place_in r.rows name ≡ None) × (short_name s ≡ name) × (has_name (names_of_rows r.added) name ≡ true)
 
--- it can be shown after this list: it has its number, and may come next
+-- A change of keys is one of a principal of the opening, by its number, or of another name, which has an added row, or room
+-- for one if it is adopted.
+abbrev pub HasPlace : State → List Accepted → NumberedChange → Type 0
+HasPlace opening list (Keys (Number n) c) = IsNumberOf (names_of opening) (name_at opening.principals n) n
+HasPlace opening list (Keys (Short s) c) =
+    (has_name (names_of opening) (short_name s) ≡ false)
+    × (adopts c ≡ true → has_name (added_names opening list) (short_name s) ≡ false → length (added_names opening list) < added_limit)
+HasPlace opening list (Count n) = Unit {0}
+
+-- changes of this one's keys have their place, and are of this name
+pub record IsPlaceOf (opening : State) (list : List Accepted) (name : Name) (whose : Whose) : Type 0 where
+  pub named : name_whose opening whose ≡ name
+  pub has : (c : KeysChange) → HasPlace opening list (Keys whose c)
+
+-- it can be shown after this list: it has its place, and may come next
 abbrev pub CanBeShown : State → List Accepted → NumberedChange → Type 0
-CanBeShown opening list c = HasNumber opening c × IsNextVersion opening list (named opening c)
+CanBeShown opening list c = HasPlace opening list c × IsNextVersion opening list (named opening c)
 
 abbrev pub list_by : List Accepted → Accepted → ℕ → List Accepted
 list_by before last zero = []
@@ -73,9 +93,10 @@ pub record ShowsList (log : LogbookName) (root : List LogEntry) (list : List Acc
   pub few : (opening_table root).seen < 2147483648
   pub seen_is : x.rows.seen ≡ (opening_table root).seen + length list
   pub names : names_of_rows x.rows.rows ≡ names_of (opening_state root)
+  pub added : names_of_rows x.rows.added ≡ added_names (opening_state root) list
   pub kept : x.rows.kept ≡ kept_count (opening_state root)
   pub policy : x.rows.policy ≡ shown_count (opening_state root) list
-  pub shows : (name : Name) → shown_in x.rows.rows name ≡ shown (opening_state root) list name
+  pub shows : (name : Name) → shown_in (all_rows x.rows) name ≡ shown (opening_state root) list name
   pub rise : AreNextVersions (opening_state root) [] list
   pub accepted : AreAccepted (opening_state root) list
   pub positive : IsPositive x.rows

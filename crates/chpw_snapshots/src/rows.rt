@@ -1,97 +1,112 @@
 //! The published rows.
-ghost use Rattle.std.specs.Prelude.{◌≡◌, ◌≤◌, ◌∷◌, All, IfSome, take, find, position, option_map, option_copied, slice_get};
+ghost use Rattle.std.specs.Prelude.{◌≡◌, ◌≤◌, ◌<◌, All, IfOk, IfSome, nat_lt, length, find, option_map, option_copied, slice_get, []};
 ghost use Rattle.std.specs.List.Sorted.{IsStrictlySortedBy};
 ghost use Rattle.chpw_rules.specs.Names.{is_same_name, name_cmp};
-ghost use Rattle.chpw_changelog.specs.declared.change.NumberedChange.TheVariants.{Key, Count};
-ghost use Rattle.chpw_snapshots.specs.Rows.{changed_at, changed_row, rows_after, row_shown, shown_in, lookup_with, names_of_rows, IsPositive};
+ghost use Rattle.chpw_changelog.specs.declared.change.NumberedChange.TheVariants.{Keys, Count};
+ghost use Rattle.chpw_changelog.specs.declared.change.Whose.TheVariants.{Number, Short};
+ghost use Rattle.chpw_snapshots.specs.Rows.{added_limit, all_rows, keys_as_shown, keys_in, lookup_with};
+ghost use Rattle.chpw_snapshots.specs.Rows.{names_of_rows, place_in, rows_after, shown_in, IsPositive};
+ghost use Rattle.chpw_snapshots.specs.Following.{IsWhose};
 
-use chpw_changelog::{NumberedChange, NumberedKey};
-use chpw_ordered_keys::{Keyed, place_of};
+use crate::added::{ADDED_LIMIT, AddedRow, change_added, no_rows, place_of_name};
+use crate::keys_shown::KeysShown;
+use crate::row::{Row, change_at};
+use chpw_changelog::{KeysChange, NumberedChange, ShortName, Whose};
+use chpw_ordered_keys::place_of;
 use chpw_rules::Name;
-use chpw_table::{Counts, Lookup, newest};
+use chpw_table::Lookup;
+use std::alloc::{AllocError, Global};
 use std::marker::Model;
 
-/// What is published of a principal. Its size is fixed, so that a change takes no memory.
-#[derive(Drop)]
-pub struct Row {
-    pub name: Name,
-    /// The kvno of its newest keys.
-    pub kvno: u32,
-    /// The iteration counts of its keys, newest first.
-    pub counts: Counts,
-}
-
-// Rows are ordered by their names.
-impl Keyed<Name> for Row {
-    ghost key_of = { λ r. r.name };
-
-    fn key(&self) -> &Name {
-        &self.name
-    }
-}
-
-/// A row for each principal, in the order of their names. Contracts see the rows, how many counts of a
-/// principal are kept, the count of new keys, and how many changes were accepted so far.
+/// A row for each principal of the opening, in the order of their names, and one for each name that was adopted since and
+/// that the opening lacks. Contracts see the rows, how many counts of a principal are kept, the count of new keys, and how
+/// many changes were accepted so far.
 #[derive(Drop)]
 pub struct Rows {
     rows: Vec<Row>,
+    added: Vec<AddedRow>,
     kept: u8,
     policy: u32,
     seen: u32,
 }
 
 impl Model for Rows {
-    ghost use Rattle.std.specs.Prelude.{◌≤◌};
+    ghost use Rattle.std.specs.Prelude.{◌≤◌, vec_capacity};
     ghost use Rattle.std.specs.List.Sorted.{IsStrictlySortedBy};
     ghost use Rattle.chpw_rules.specs.Names.{name_cmp};
-    ghost use Rattle.chpw_snapshots.specs.Rows.{Rowed, names_of_rows};
+    ghost use Rattle.chpw_snapshots.specs.Rows.{Rowed, names_of_rows, added_limit};
 
     ghost Value = { Rowed };
 
     ghost view = { λ r. record {
       rows = r.rows.items;
+      added = r.added.items;
       kept = r.kept;
       policy = r.policy;
       seen = r.seen;
     } };
 
     ghost invariant = { λ r. (1 ≤ r.kept) × (r.kept ≤ 16)
-        × IsStrictlySortedBy name_cmp (names_of_rows r.rows.items) };
+        × IsStrictlySortedBy name_cmp (names_of_rows r.rows.items)
+        × (added_limit ≤ vec_capacity r.added) };
 }
 
 impl Rows {
-    /// These rows, which are in the order of their names. Of each principal the newest counts are kept, 1 to 16 of
-    /// them; `policy` is the count of new keys, and `seen` how many changes were accepted so far.
-    pub fn of(rows: Vec<Row>, kept: u8, policy: u32, seen: u32) -> Rows
+    /// These rows, which are in the order of their names, with memory for those that will be added. Of each principal
+    /// the newest counts are kept, 1 to 16 of them; `policy` is the count of new keys, and `seen` how many changes were
+    /// accepted so far.
+    pub fn of(
+        alloc: Global,
+        rows: Vec<Row>,
+        kept: u8,
+        policy: u32,
+        seen: u32,
+    ) -> Result<Rows, AllocError>
         requires order { IsStrictlySortedBy name_cmp (names_of_rows rows.items) }
         requires kept { (1 ≤ kept) × (kept ≤ 16) }
-        ensures value { result
-            ≡ record { rows = rows.items; kept = kept; policy = policy; seen = seen } }
+        ensures value { IfOk result (λ all. all ≡ record {
+          rows = rows.items;
+          added = [];
+          kept = kept;
+          policy = policy;
+          seen = seen;
+        }) }
     {
-        Rows {
+        let added = no_rows(alloc)?;
+        Ok(Rows {
             rows,
+            added,
             kept,
             policy,
             seen,
-        }
+        })
     }
 
-    /// Makes a change: of a key in the row with its number, and in none if no row has it; or of the count of new keys.
-    /// It takes no memory and doesn't fail.
+    /// Makes a change: of a principal's keys in its row, and in none if it has none; or of the count of new keys. An
+    /// adopted name gets a row, if there is room. It takes no memory and doesn't fail.
     pub(crate) fn change(&mut self, change: NumberedChange)
         ensures value { self.new ≡ rows_after change self.old }
     {
         match change {
-            NumberedChange::Key(key) => self.change_key(key),
+            NumberedChange::Keys(Whose::Number(number), change) => self.change_row(number, change),
+            NumberedChange::Keys(Whose::Short(name), change) => self.change_added(name, change),
             NumberedChange::Count(count) => self.change_count(count),
         }
     }
 
-    fn change_key(&mut self, change: NumberedKey)
-        ensures value { self.new ≡ rows_after (Key change) self.old }
+    fn change_row(&mut self, number: usize, change: KeysChange)
+        ensures value { self.new ≡ rows_after (Keys (Number number) change) self.old }
     {
         let kept = self.kept;
-        put(self.rows.as_mut_slice(), change, kept);
+        change_at(self.rows.as_mut_slice(), number, kept, change);
+        self.seen = self.seen.wrapping_add(1);
+    }
+
+    fn change_added(&mut self, name: ShortName, change: KeysChange)
+        ensures value { self.new ≡ rows_after (Keys (Short name) change) self.old }
+    {
+        let kept = self.kept;
+        change_added(&mut self.added, &name, kept, change);
         self.seen = self.seen.wrapping_add(1);
     }
 
@@ -102,29 +117,60 @@ impl Rows {
         self.seen = self.seen.wrapping_add(1);
     }
 
-    /// The number of a name: its position, from 0.
-    pub(crate) fn number_of(&self, name: &Name) -> Option<usize>
-        ensures value { result ≡ position (λ r. is_same_name r.name name.now) self.now.rows }
+    /// Whose row a name has; none if it has none.
+    pub(crate) fn whose(&self, name: &Name) -> Option<Whose>
+        ensures value { IsWhose self.now name.now result }
+    {
+        match self.number_of(name) {
+            Some(number) => Some(Whose::Number(number)),
+            None => match self.added_row(name) {
+                Some(row) => Some(Whose::Short(row.name())),
+                None => None,
+            },
+        }
+    }
+
+    /// Whether another row can be added.
+    pub(crate) fn has_room(&self) -> bool
+        ensures value { result ≡ nat_lt (length self.now.added) added_limit }
+    {
+        self.added.len() < ADDED_LIMIT
+    }
+
+    // The number of a name of the opening: its position, from 0.
+    fn number_of(&self, name: &Name) -> Option<usize>
+        ensures value { result ≡ place_in self.now.rows name.now }
     {
         // A field is read, so that the type's invariant is known.
         let _ = &self.rows;
         place_of(self.rows.as_slice(), name)
     }
 
-    /// What the rows show of a name; none for an unknown one.
-    pub(crate) fn lookup(&self, name: &Name) -> Option<Lookup>
-        ensures value { result
-            ≡ option_map (lookup_with self.now.policy self.now.seen) (shown_in self.now.rows name.now) }
-        ensures positive { IsPositive self.now
-            → IfSome result (λ l. (1 ≤ l.policy) × All (λ n. 1 ≤ n) l.held) }
+    // The row of a name among those that were added.
+    fn added_row(&self, name: &Name) -> Option<&AddedRow>
+        ensures value { option_copied result
+            ≡ find (λ r. is_same_name r.name name.now) self.now.added }
     {
-        match self.find(name) {
+        match self.added_place(name) {
             None => None,
-            Some(row) => Some(lookup_of(row, self.policy, self.seen)),
+            Some(place) => self.added_at(place),
         }
     }
 
-    fn find(&self, name: &Name) -> Option<&Row>
+    fn added_place(&self, name: &Name) -> Option<usize>
+        ensures value { result ≡ place_in self.now.added name.now }
+    {
+        place_of_name(self.added.as_slice(), name)
+    }
+
+    fn added_at(&self, place: usize) -> Option<&AddedRow>
+        ensures value { option_copied result ≡ slice_get self.now.added place }
+    {
+        self.added.get(place)
+    }
+
+    // The row of a name of the opening.
+    fn opening_row(&self, name: &Name) -> Option<&Row>
         ensures value { option_copied result
             ≡ find (λ r. is_same_name r.name name.now) self.now.rows }
     {
@@ -139,36 +185,41 @@ impl Rows {
     {
         self.rows.get(place)
     }
+
+    // The keys in the row of a name.
+    fn keys_of(&self, name: &Name) -> Option<&KeysShown>
+        ensures value { option_copied result ≡ keys_in (all_rows self.now) name.now }
+    {
+        match self.opening_row(name) {
+            Some(row) => row.shown.as_ref(),
+            None => match self.added_row(name) {
+                Some(row) => row.shown(),
+                None => None,
+            },
+        }
+    }
+
+    /// What the rows show of a name; none for an unknown one.
+    pub(crate) fn lookup(&self, name: &Name) -> Option<Lookup>
+        ensures value { result
+            ≡ option_map (lookup_with self.now.policy self.now.seen) (shown_in (all_rows self.now) name.now) }
+        ensures positive { IsPositive self.now
+            → IfSome result (λ l. (1 ≤ l.policy) × All (λ n. 1 ≤ n) l.held) }
+    {
+        match self.keys_of(name) {
+            None => None,
+            Some(keys) => Some(lookup_of(keys, self.policy, self.seen)),
+        }
+    }
 }
 
-fn lookup_of(row: &Row, policy: u32, seen: u32) -> Lookup
-    ensures value { result ≡ lookup_with policy seen (row_shown row.now) }
+fn lookup_of(keys: &KeysShown, policy: u32, seen: u32) -> Lookup
+    ensures value { result ≡ lookup_with policy seen (keys_as_shown keys.now) }
 {
     Lookup {
-        kvno: row.kvno,
-        held: row.counts.clone(),
+        kvno: keys.kvno,
+        held: keys.counts.clone(),
         policy,
         seen,
     }
-}
-
-// The change in the row with its number.
-fn put(rows: &mut [Row], change: NumberedKey, kept: u8)
-    requires kept { (1 ≤ kept) × (kept ≤ 16) }
-    ensures value { rows.new ≡ changed_at kept change change.number rows.old }
-{
-    if change.number < rows.len() {
-        put_row(&mut rows[change.number], change, kept);
-    }
-}
-
-fn put_row(row: &mut Row, change: NumberedKey, kept: u8)
-    requires kept { (1 ≤ kept) × (kept ≤ 16) }
-    ensures value { row.new ≡ changed_row kept change row.old }
-{
-    let mut counts = Counts::new();
-    let _ = counts.push(change.count);
-    counts.extend(newest(row.counts.as_slice(), usize::from(kept) - 1));
-    row.counts = counts;
-    row.kvno = change.kvno;
 }

@@ -1,21 +1,28 @@
 //! The writer of the versions, under the lock, with the keeper of the list.
-ghost use Rattle.std.specs.Prelude.{◌≡◌, ◌+◌, ◌<◌, ◌^◌, ◌++◌, ◌∷◌, [], length, None, Some, IfOk, IfSome, IfNone, IsTrue, OnOk, OnErr};
+ghost use Rattle.std.specs.Prelude.{◌≡◌, ◌+◌, ◌<◌, ◌^◌, ◌++◌, ◌∷◌, [], length, nat_lt, true, false, None, Some};
+ghost use Rattle.std.specs.Prelude.{IsSome, IfOk, IfErr, IfSome, IfNone, IsTrue, OnOk, OnErr};
 ghost use mathlib.Core.List.{IsPrefix};
 ghost use Rattle.chpw_table.specs.declared.change.Accepted.TheVariants.{Key, Count};
-ghost use Rattle.chpw_table.specs.Versions.{Shown, shown};
-ghost use Rattle.chpw_changelog.specs.Changes.{named};
+ghost use Rattle.chpw_table.specs.Updates.{name_in};
+ghost use Rattle.chpw_table.specs.Versions.{Shown, shown, change_in};
+ghost use Rattle.chpw_changelog.specs.Changes.{change_of_name, named};
 ghost use Rattle.chpw_changelog.specs.Pens.{opening_state, opening_table};
-ghost use Rattle.chpw_snapshots.specs.Rows.{ShowsOpening, names_of};
+ghost use Rattle.chpw_snapshots.specs.Rows.{ShowsOpening, added_limit};
 ghost use Rattle.chpw_snapshots.specs.Rising.{IsNextVersion};
+ghost use Rattle.chpw_snapshots.specs.Preparing.{IsNotPrepared, MayHaveRow, added_names, has_row};
 ghost use Rattle.chpw_snapshots.specs.Histories.{AreAccepted};
-ghost use Rattle.chpw_snapshots.specs.Following.{CanBeShown, IsNumberOf};
+ghost use Rattle.chpw_snapshots.specs.Following.{CanBeShown, IsPlaceOf};
 
+use crate::not_prepared::NotPrepared;
 use crate::reader::SnapshotReader;
 use crate::rows::Rows;
 use crate::snapshot::{Operation, Snapshot};
 use crate::view::{HandsOn, Learns, LeftRightWriter, Publishes, Settles};
-use chpw_changelog::{ChangeLog, Front, LogName, LogPrefix, NumberedChange, NumberedKey};
+use chpw_changelog::{
+    ChangeLog, Front, KeysChange, LogName, LogPrefix, NumberedChange, ShortName, Whose,
+};
 use chpw_rules::Name;
+use chpw_table::KdcUpdate;
 use left_right::writer::Writer;
 use std::alloc::{AllocError, Global};
 use std::marker::Model;
@@ -115,12 +122,10 @@ impl<D: LogName> SnapshotWriter<D> {
         }) }
         ensures err { OnErr result (self.new ≡ self.old) }
     {
-        let number = self.number_of(name);
-        self.wait(NumberedChange::Key(NumberedKey {
-            number,
-            kvno,
-            count,
-        }))
+        let Some(whose) = self.whose(name) else {
+            unreachable!()
+        };
+        self.wait(NumberedChange::Keys(whose, KeysChange::Key { kvno, count }))
     }
 
     /// Prepares a raise of the iteration count of new keys, to a count above the one that the list shows.
@@ -134,19 +139,70 @@ impl<D: LogName> SnapshotWriter<D> {
         self.wait(NumberedChange::Count(count))
     }
 
-    // The number of a name that the list shows.
-    fn number_of(&self, name: &Name) -> usize
-        requires known { (row : Shown)
-            × (shown (opening_state D.root) self.now.list name.now ≡ Some row) }
-        ensures number { IsNumberOf (names_of (opening_state D.root)) name.now result }
+    /// Prepares what an update from the KDC changes, with the last memory that it takes; it then waits to be published.
+    /// It may come next: a key that is adopted has a version above the one that the list shows of its name, if it shows
+    /// one; another update's name is shown. Refused, with nothing changed: a name that the opening lacks and that wasn't
+    /// adopted since, with other than one component of at most 128 bytes (`Composite`), or once 10,000 such names were
+    /// adopted (`NoRoom`); or for want of memory.
+    pub fn prepare_update(&mut self, update: &KdcUpdate) -> Result<(), NotPrepared>
+        requires free { self.old.waiting ≡ None }
+        requires next { IsNextVersion (opening_state D.root) self.old.list (change_in update.now) }
+        ensures ok { OnOk result (self.new ≡ record {
+          list = self.old.list;
+          waiting = Some (change_in update.now);
+        }) }
+        ensures err { OnErr result (self.new ≡ self.old) }
+        ensures refused { IfErr result (λ fault.
+            IsNotPrepared (opening_state D.root) self.old.list (name_in update.now) fault) }
+        ensures room { OnOk result (has_row (opening_state D.root) self.old.list (name_in update.now) ≡ false
+            → MayHaveRow (opening_state D.root) self.old.list (name_in update.now)) }
+    {
+        let whose = self.place_for(update.name())?;
+        match self.wait(NumberedChange::Keys(whose, keys_change(update))) {
+            Ok(()) => Ok(()),
+            Err(_) => Err(NotPrepared::Memory),
+        }
+    }
+
+    // Whose row a name has; none if it has none.
+    fn whose(&self, name: &Name) -> Option<Whose>
+        ensures some { IfSome result (λ whose. IsPlaceOf (opening_state D.root) self.now.list name.now whose
+            × (has_row (opening_state D.root) self.now.list name.now ≡ true)) }
+        ensures none { IfNone result (has_row (opening_state D.root) self.now.list name.now ≡ false) }
+        ensures shown { (row : Shown) → shown (opening_state D.root) self.now.list name.now ≡ Some row → IsSome result }
     {
         let Some(writer) = &self.writer else {
             unreachable!()
         };
-        let Some(number) = writer.published().rows.number_of(name) else {
+        writer.published().rows.whose(name)
+    }
+
+    // Whether another row can be added.
+    fn has_room(&self) -> bool
+        ensures value { result ≡ nat_lt (length (added_names (opening_state D.root) self.now.list)) added_limit }
+    {
+        let Some(writer) = &self.writer else {
             unreachable!()
         };
-        number
+        writer.published().rows.has_room()
+    }
+
+    // Whose row a name has, or will have once it is adopted.
+    fn place_for(&self, name: &Name) -> Result<Whose, NotPrepared>
+        ensures ok { IfOk result (λ whose. IsPlaceOf (opening_state D.root) self.now.list name.now whose
+            × (has_row (opening_state D.root) self.now.list name.now ≡ false → MayHaveRow (opening_state D.root) self.now.list name.now)) }
+        ensures err { IfErr result (λ fault. IsNotPrepared (opening_state D.root) self.now.list name.now fault) }
+    {
+        if let Some(whose) = self.whose(name) {
+            return Ok(whose);
+        }
+        let Some(short) = ShortName::of(name) else {
+            return Err(NotPrepared::Composite);
+        };
+        if !self.has_room() {
+            return Err(NotPrepared::NoRoom);
+        }
+        Ok(Whose::Short(short))
     }
 
     // Prepares the change.
@@ -238,6 +294,20 @@ impl<D: LogName> SnapshotWriter<D> {
         if let Some(writer) = writer {
             writer.take(rt);
         }
+    }
+}
+
+// What the update does to the keys of its name.
+fn keys_change(update: &KdcUpdate) -> KeysChange
+    ensures value { change_of_name (name_in update.now) result ≡ change_in update.now }
+{
+    match update {
+        KdcUpdate::Adopt { key, .. } => KeysChange::Adopted {
+            kvno: key.kvno,
+            count: key.count,
+        },
+        KdcUpdate::Lift { kvno, .. } => KeysChange::Lifted(*kvno),
+        KdcUpdate::Remove { .. } => KeysChange::Removed,
     }
 }
 

@@ -1,4 +1,4 @@
-use Rattle.std.proofs.Common.{rules}
+use Rattle.std.proofs.Common.{rules, sym, ◌∙◌}
 use mathlib.Core.List.{IsPrefix}
 use Rattle.chpw_changelog.specs.Pens.{opening_state}
 use Rattle.chpw_book.specs.Recorded.{RecordedView}
@@ -15,11 +15,11 @@ tell-requires-clause-room g c =
 pub tell-requires-clause-accepted : goal.tell-requires-clause-accepted
 tell-requires-clause-accepted g c done =
     accepted_next (opening_state g.D.LogName.root) g.D.DeskName.workers g.D.DeskName.prior c.self.inside.recorded c.decide.new.self _
-    _ c.has.new.self _ _ _ (rw c.has.ensures.same c.self.invariant) c.in_ok-verdict.ensures.recorded done
+    _ c.has.new.self _ _ _ (rw c.has.ensures.same c.self.invariant) c.in_ok-verdict.ensures.recorded (sym c.is_accepted.ensures.value ∙ done)
 
 pub invariant_of-self-2 : goal.invariant_of-self-2
 invariant_of-self-2 g c =
-    rw c.tell.ensures.snapshots (published_next (opening_state g.D.LogName.root)
+    rw (c.tell.ensures.snapshots, c.is_accepted.ensures.value) (published_next (opening_state g.D.LogName.root)
     g.D.DeskName.workers g.D.DeskName.prior c.self.inside.recorded c.decide.new.self _ _ c.has.new.self _ _ _
     (rw c.has.ensures.same c.self.invariant) c.in_ok-verdict.ensures.recorded)
 
@@ -29,7 +29,7 @@ returns-clause-adds g c =
     let begins : IsPrefix c.args.pass.now.place.told c.has.new.self.list = search rules in
     rw (← c.self.view_is) (adds_next (opening_state g.D.LogName.root) g.D.DeskName.workers g.D.DeskName.prior c.self.inside.recorded
     c.decide.new.self _ _ c.tell.new.pass c.has.new.self _ c.tell.new.snapshots _ _ (rw c.has.ensures.same c.self.invariant)
-    c.in_ok-verdict.ensures.recorded (invariant_of-self-2 g c) begins c.tell.ensures.pass)
+    c.in_ok-verdict.ensures.recorded (invariant_of-self-2 g c) begins (rw c.is_accepted.ensures.value at c.tell.ensures.pass))
 
 pub returns-in_err-verdict-clause-asks : goal.returns-in_err-verdict-clause-asks
 returns-in_err-verdict-clause-asks g c =

@@ -19,7 +19,7 @@ use Rattle.chpw_book.specs.Publishing.{IsPublished, with_waiting}
 use Rattle.chpw_book.specs.Wholeness.{NewestIsWhole}
 use Rattle.chpw_decider.proofs.KeepingLemmas.{still_room}
 use Rattle.chpw_book.proofs.GrowsLemmas.{kept_step}
-use Rattle.chpw_book.proofs.PublishLemmas.{pending_next}
+use Rattle.chpw_book.proofs.PublishLemmas.{pending_next, written_done}
 use Rattle.chpw_book.proofs.recorded.RecordedTable.decide.Goals as goal
 
 pub make_room-requires-clause-kept : goal.make_room-requires-clause-kept
@@ -155,9 +155,9 @@ returns-clause-recorded g c =
       };
       place = refl;
       saw = saw;
-      pending = pending_next b.table.state
-          b.table.state.broken t.state.broken made.io_failed c.args.opened prepared.row made.verdict
-          c.args.snapshots.now c.make_room.new.snapshots published.free c.finish-verdict.ensures.row steps.broken waits;
+      pending = pending_next b.table.state b.table.state.broken t.state.broken made.io_failed (is_done prepared.row) (Ask c.args.opened made.verdict)
+          (change_by b.table.state (Ask c.args.opened Done)) c.args.snapshots.now c.make_room.new.snapshots published.free
+          (written_done prepared.row made.verdict made.io_failed c.finish-verdict.ensures.row) steps.broken refl waits;
       linearized = (kept, later);
       few = few;
     })

@@ -1,12 +1,13 @@
-use Rattle.std.proofs.Common.{◌≡◌, ◌∙◌, [], append-nil, List, length, sym, ap, subst, rules}
+use Rattle.std.proofs.Common.{◌≡◌, ◌∙◌, refl, [], ◌∷◌, ◌++◌, append-nil, List, length, sym, ap, subst, rules}
 use Rattle.std.specs.Prelude.{option_map}
 use mathlib.Core.List.{IsPrefix}
 use Rattle.left_right.specs.Sides.{view}
 use Rattle.chpw_table.specs.declared.change.Accepted.{Accepted}
 use Rattle.chpw_snapshots.specs.Known.{Known}
 use Rattle.chpw_snapshots.specs.declared.snapshot.Snapshot.{Snapshot}
-use Rattle.chpw_changelog.specs.Pens.{opening_state, opening_table}
-use Rattle.chpw_snapshots.specs.Rows.{IsPositive, lookup_with, shown_in, lookup_after}
+use Rattle.chpw_changelog.specs.Changes.{named}
+use Rattle.chpw_changelog.specs.Pens.{changes_in, opening_state, opening_table}
+use Rattle.chpw_snapshots.specs.Rows.{IsPositive, lookup_with, shown_in, all_rows, lookup_after}
 use Rattle.chpw_snapshots.specs.Rising.{AreNextVersions}
 use Rattle.chpw_snapshots.specs.Histories.{AreAccepted}
 use Rattle.chpw_snapshots.specs.Following.{IsOf, ShowsList, log_of, list_of, list_shown, front_by}
@@ -67,9 +68,18 @@ returns-else-not-begins-clause-found g c =
     let later : IsPrefix (list_of r c.self.inside.shown) (list_of r c.shown_prefix-shown.result) =
     subst (λ (l : List Accepted). IsPrefix (list_of r c.self.inside.shown) l) list
     (prefix_trans (list_of r c.self.inside.shown) v.front w.front before looked.1) in
-    let begins : IsPrefix c.args.self.now.told (list_shown r x) = begins_shown b r w.front c.args.self.now.told x shows (search rules) (search rules) in
+    let told = ap (λ (k : Known). k.told) c.self.view_is in
+    let some : x.len ≡ length (changes_in r x.seen.log ++ named (opening_state r) x.last ∷ [])
+    → IsPrefix c.self.inside.told (changes_in r x.seen.log ++ named (opening_state r) x.last ∷ []) =
+    subst (λ (z : Snapshot). z.len ≡ length (changes_in r z.seen.log ++ named (opening_state r) z.last ∷ [])
+    → IsPrefix c.self.inside.told (changes_in r z.seen.log ++ named (opening_state r) z.last ∷ []))
+    c.get-version.ensures (c.if-not-begins.ensures.some refl) in
+    let none : x.len ≡ 0 → c.self.inside.told ≡ [] =
+    subst (λ (z : Snapshot). z.len ≡ 0 → c.self.inside.told ≡ []) c.get-version.ensures (c.if-not-begins.ensures.none refl) in
+    let begins : IsPrefix c.args.self.now.told (list_shown r x) =
+    subst (λ (l : List Accepted). IsPrefix l (list_shown r x)) told (begins_shown b r w.front c.self.inside.told x shows some none) in
     let read = c.lookup-found.ensures.value ∙ ap (λ (z : Snapshot). option_map (lookup_with z.rows.policy z.rows.seen)
-    (shown_in z.rows.rows name)) c.get-version.ensures in
+    (shown_in (all_rows z.rows) name)) c.get-version.ensures in
     let found : c.lookup-found.result ≡ lookup_after (opening_table r) (list_of r c.shown_prefix-shown.result) name =
     read ∙ shown_by b r w.front x name shows ∙ ap (λ (l : List Accepted). lookup_after (opening_table r) l name) (sym shown_is) in
     let rise : AreNextVersions (opening_state r) [] (list_of r c.shown_prefix-shown.result) =

@@ -4,7 +4,7 @@ use Rattle.std.specs.List.Sorted.{IsStrictlySortedBy}
 use Rattle.std.specs.Ordering.{eq_by_cmp}
 use Rattle.chpw_rules.specs.Names.{is_same_name, name_cmp}
 use Rattle.chpw_table.proofs.OrderLemmas.{same_name_ties, position_alike}
-use Rattle.chpw_snapshots.specs.declared.rows.Row.{Row}
+use Rattle.chpw_snapshots.specs.declared.row.Row.{Row}
 use Rattle.chpw_snapshots.specs.Rows.{names_of_rows}
 use Rattle.chpw_snapshots.proofs.rows.Rows.number_of.Goals as goal
 

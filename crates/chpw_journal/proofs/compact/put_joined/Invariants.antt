@@ -1,0 +1,16 @@
+use Rattle.std.proofs.Common.{◌≡◌, ◌≤◌, ◌-◌, ◌++◌, filter, take, length}
+use Rattle.std.specs.List.{flat_map}
+use Rattle.chpw_record.specs.Records.{records_text}
+use Rattle.chpw_journal.specs.Compact.{lacks_name, name_records, names_of, AreWholeRecords}
+use Rattle.chpw_journal.proofs.compact.put_joined.Given as goal
+
+abbrev pub invariant-loop-name : goal.invariant-loop-name
+invariant-loop-name l = record {
+  text_is : l.text.items ≡ l.initial.text.items ++ records_text (flat_map (name_records l.opening.state l.held.state) (filter (lacks_name
+      l.opening.state) (take l.place (names_of l.held.state))));
+  within : l.place ≤ length (names_of l.held.state);
+  whole : AreWholeRecords (flat_map (name_records l.opening.state l.held.state) (filter (lacks_name l.opening.state) (take l.place (names_of l.held.state))));
+}
+
+abbrev pub decreases-loop-name : goal.decreases-loop-name
+decreases-loop-name l = length (names_of l.held.state) - l.place
