@@ -1,0 +1,14 @@
+pub mod NumberLemmas
+pub mod NameLemmas
+pub mod TextLemmas
+pub mod HearingLemmas
+pub mod FaultLemmas
+pub mod MirrorLemmas
+pub mod EffectLemmas
+pub mod RunLemmas
+pub mod ToldLemmas
+pub mod TruthLemmas
+pub mod GroundLemmas
+pub mod WordLemmas
+pub mod SpellingLemmas
+pub mod ShortLemmas

@@ -1,0 +1,11 @@
+-- The pieces are what `split` yields at the character `/`.
+use Rattle.std.proofs.Common.{lit<}
+use Rattle.std.proofs.lemmas.Iterator.Consumers.{map_from_collect}
+use Rattle.std.proofs.lemmas.Iterator.Splits.{YieldsList-from_str_split}
+use Rattle.chpw_kdc.proofs.fields.pieces.Goals as goal
+
+pub returns : goal.returns
+returns c = record {
+  value = map_from_collect _ c.collect.ensures.ran
+      (YieldsList-from_str_split 47 c.args.word.now (lit< tt) c.split.ensures.text c.split.ensures.has_more c.split.ensures.pattern);
+}

@@ -1,0 +1,12 @@
+pub mod Faults
+pub mod Lines
+pub mod Requests
+pub mod Paces
+pub mod Mirrors
+pub mod Tellings
+pub mod Dialogs
+pub mod Times
+pub mod Answering
+pub mod Answers
+pub mod Runs
+pub mod Spelling

@@ -1,0 +1,38 @@
+//! Whether there is something for the desk, another comparison, and the word of a reason.
+ghost use Rattle.std.specs.Prelude.{◌≡◌, not, ◌==◌, length, Ok};
+ghost use Rattle.chpw_kdc.specs.Lines.{reason_in};
+ghost use Rattle.chpw_kdc.specs.Paces.{pace_due};
+
+use crate::answer::Reason;
+use crate::dialog::KdcDialog;
+
+impl Reason {
+    /// Its word in a line of the agent's.
+    pub fn word(self) -> &'static str
+        ensures word { reason_in result.now ≡ Ok self }
+    {
+        match self {
+            Reason::Reserved => "reserved",
+            Reason::Components => "components",
+            Reason::Lockdown => "lockdown",
+            Reason::Keys => "keys",
+            Reason::Version => "version",
+        }
+    }
+}
+
+impl KdcDialog {
+    /// Whether there is something that the desk is to be asked (`take_update`).
+    pub fn has_update(&self) -> bool
+        ensures value { result ≡ not (length self.now.updates == 0) }
+    {
+        !self.updates.is_empty()
+    }
+
+    /// Table and KDC are to be compared again, since the desk has refused what the KDC said.
+    pub fn compare_again(&mut self)
+        ensures step { self.new ≡ record self.old { pace = pace_due self.old.pace } }
+    {
+        self.pace.is_due = true;
+    }
+}

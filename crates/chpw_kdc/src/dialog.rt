@@ -1,0 +1,307 @@
+//! What the service says to the agent at the KDC's database, and what it makes of the answers.
+ghost use Rattle.std.specs.Prelude.{◌≡◌, ◌+◌, ◌==◌, ◌&&◌, not, nat_le, length, true, false, None, IfOk, OnOk, OnErr};
+ghost use Rattle.std.specs.Option.{option_copied};
+ghost use Rattle.chpw_kdc.specs.Lines.{is_sayable};
+ghost use Rattle.chpw_kdc.specs.Mirrors.{key_of, newest};
+ghost use Rattle.chpw_kdc.specs.Dialogs.{at_start, after_hold, after_none, after_want, after_want_comparison, after_lost_want};
+ghost use Rattle.chpw_kdc.specs.Dialogs.{forgotten, after_connect, after_loss, first_update, after_take, after_decision};
+ghost use Rattle.chpw_kdc.specs.Dialogs.{after_telling};
+ghost use Rattle.chpw_kdc.specs.Tellings.{next_notice};
+ghost use Rattle.chpw_kdc.specs.declared.fault.HoldFault.TheVariants.{LongName, Memory};
+
+use crate::fault::HoldFault;
+use crate::fields::is_sayable;
+use crate::judging::newer;
+use crate::pace::Pace;
+use crate::put::{Asked, Put};
+use crate::tellings::Tellings;
+use crate::update::{KdcUpdate, Notice, Refusal};
+use chpw_record::KeyRow;
+use chpw_rules::Name;
+use std::alloc::{AllocError, Global};
+use std::collections::{BTreeMap, BTreeSet, VecDeque};
+use std::marker::Model;
+
+/// What the service says to the agent at the KDC's database, and what it makes of the answers.
+///
+/// It keeps a mirror of the table: the newest key that was told for each name. One request is under way at a time. All
+/// times are milliseconds of a clock that doesn't go back.
+#[derive(Drop)]
+pub struct KdcDialog {
+    pub(crate) alloc: Global,
+    // The newest key that the table had for each name, as it was told.
+    pub(crate) mirror: BTreeMap<Name, KeyRow>,
+    // The keys that the KDC is to get, in the order in which they are put. The first may be under way.
+    pub(crate) puts: VecDeque<Put>,
+    // The last ticket that was given.
+    pub(crate) issued: u64,
+    // The last ticket that is confirmed, with all before it.
+    pub(crate) confirmed: u64,
+    pub(crate) asked: Option<Asked>,
+    // The beginning of a line.
+    pub(crate) heard: Vec<u8>,
+    // The names that the list under way has named.
+    pub(crate) listed: BTreeSet<Name>,
+    // The names that the last list lacked, to be asked for alone. The first may be under way.
+    pub(crate) gets: VecDeque<Name>,
+    // What the desk is to be asked.
+    pub(crate) updates: VecDeque<KdcUpdate>,
+    // How many updates the desk was asked and hasn't decided.
+    pub(crate) deciding: usize,
+    pub(crate) tellings: Tellings,
+    pub(crate) pace: Pace,
+}
+
+impl Model for KdcDialog {
+    ghost use Rattle.chpw_kdc.specs.Dialogs.{State};
+
+    ghost Value = { State };
+
+    ghost view = { λ d. record {
+      mirror = d.mirror.entries;
+      puts = d.puts.items;
+      issued = d.issued;
+      confirmed = d.confirmed;
+      asked = d.asked;
+      heard = d.heard.items;
+      listed = d.listed.keys;
+      gets = d.gets.items;
+      updates = d.updates.items;
+      deciding = d.deciding;
+      tellings = d.tellings;
+      pace = d.pace;
+    } };
+}
+
+/// The state, to be shown.
+#[derive(Drop)]
+pub struct KdcStatus<'a> {
+    /// Whether there is a connection to the agent.
+    pub connected: bool,
+    /// Since when there is one, or none.
+    pub since: u64,
+    /// How many keys are on their way to the KDC.
+    pub behind: usize,
+    /// The last refusal.
+    pub refusal: Option<&'a Refusal>,
+}
+
+impl KdcDialog {
+    /// Nothing is held, and the agent is to be called.
+    pub fn new(alloc: Global, now: u64) -> KdcDialog
+        ensures value { result ≡ at_start now }
+    {
+        KdcDialog {
+            alloc,
+            mirror: BTreeMap::new(alloc),
+            puts: VecDeque::new(alloc),
+            issued: 0,
+            confirmed: 0,
+            asked: None,
+            heard: Vec::new(alloc),
+            listed: BTreeSet::new(alloc),
+            gets: VecDeque::new(alloc),
+            updates: VecDeque::new(alloc),
+            deciding: 0,
+            tellings: Tellings::new(alloc),
+            pace: Pace::at_start(now),
+        }
+    }
+
+    /// The table has this key as the newest of the name: at the opening of a desk, or after an update that was decided.
+    /// A key whose version is older than that of the mirror's changes nothing. Refused with nothing changed as
+    /// `LongName` or `Memory`; never as `Memory` if the mirror has the name.
+    pub fn hold(&mut self, name: Name, key: KeyRow) -> Result<(), HoldFault>
+        ensures step { OnOk result (self.new ≡ after_hold name key self.old) }
+        ensures unchanged { OnErr result (self.new ≡ self.old) }
+        ensures sayable { OnOk result (is_sayable name ≡ true) }
+        ensures long { result ≡ Err LongName → is_sayable name ≡ false }
+        ensures memory { result ≡ Err Memory → key_of self.old.mirror name ≡ None }
+    {
+        if !is_sayable(&name) {
+            return Err(HoldFault::LongName);
+        }
+        self.mirror_key(name, key)?;
+        Ok(())
+    }
+
+    // The mirror has the key, unless it has a newer one.
+    fn mirror_key(&mut self, name: Name, key: KeyRow) -> Result<(), AllocError>
+        ensures step { OnOk result (self.new ≡ after_hold name key self.old) }
+        ensures unchanged { OnErr result (self.new ≡ self.old) }
+        ensures absent { OnErr result (key_of self.old.mirror name ≡ None) }
+    {
+        let key = self.newest(&name, key);
+        self.mirror.insert(name, key)?;
+        Ok(())
+    }
+
+    // The mirror's key of the name if it is newer than this one, or this one.
+    pub(crate) fn newest(&self, name: &Name, key: KeyRow) -> KeyRow
+        ensures value { result ≡ newest self.now.mirror name.now key }
+    {
+        match self.mirror.get(name) {
+            Some(held) => newer(*held, key),
+            None => key,
+        }
+    }
+
+    /// The table has no such name, or has it no more.
+    pub fn hold_none(&mut self, name: &Name)
+        ensures step { self.new ≡ after_none name.now self.old }
+    {
+        self.mirror.remove(name);
+    }
+
+    /// A change was accepted: the KDC is to get this key of the name. The change's ticket, one more than the last one;
+    /// `confirmed` says when it has arrived. If the mirror has a newer version, that one is put in its place.
+    ///
+    /// Refused with nothing changed as `LongName`, `NoTicket` or `Memory`. After `Memory` the caller hands the key to
+    /// `hold`, which takes no memory for a name that the mirror has, and calls `want_lost`; there is no ticket then.
+    pub fn want(&mut self, name: Name, key: KeyRow) -> Result<u64, HoldFault>
+        ensures step { OnOk result (self.new ≡ after_want name key self.old) }
+        ensures ticket { IfOk result (λ ticket. ticket ≡ self.old.issued + 1) }
+        ensures unchanged { OnErr result (self.new ≡ self.old) }
+        ensures sayable { OnOk result (is_sayable name ≡ true) }
+        ensures long { result ≡ Err LongName → is_sayable name ≡ false }
+    {
+        if !is_sayable(&name) {
+            return Err(HoldFault::LongName);
+        }
+        let Some(ticket) = self.issued.checked_add(1) else {
+            return Err(HoldFault::NoTicket);
+        };
+        let copy = name.clone()?;
+        let newest = self.newest(&name, key);
+        self.puts.reserve(1)?;
+        self.mirror.insert(copy, newest)?;
+        self.puts.push_back_reserved(Put {
+            name,
+            key,
+            ticket: Some(ticket),
+        });
+        self.issued = ticket;
+        Ok(ticket)
+    }
+
+    /// Table and KDC are to be compared: the table has changed otherwise than by what `want` told.
+    pub fn want_comparison(&mut self)
+        ensures step { self.new ≡ after_want_comparison self.old }
+    {
+        self.pace.is_due = true;
+    }
+
+    /// A change was lost for want of memory: table and KDC are compared anew, which is told. The comparison puts right
+    /// what the mirror knows of.
+    pub fn want_lost(&mut self)
+        ensures step { self.new ≡ after_lost_want self.old }
+    {
+        self.pace.is_due = true;
+        self.tellings.lose();
+    }
+
+    /// The last ticket that is confirmed; all before it are confirmed too. 0 if none is.
+    pub fn confirmed(&self) -> u64
+        ensures value { result ≡ self.now.confirmed }
+    {
+        self.confirmed
+    }
+
+    /// How many keys are on their way to the KDC.
+    pub fn behind(&self) -> usize
+        ensures value { result ≡ length self.now.puts }
+    {
+        self.puts.len()
+    }
+
+    /// Whether keys are on their way to the KDC.
+    pub fn is_behind(&self) -> bool
+        ensures value { result ≡ not (length self.now.puts == 0) }
+    {
+        !self.puts.is_empty()
+    }
+
+    /// Whether there is a connection.
+    pub fn is_connected(&self) -> bool
+        ensures value { result ≡ self.now.pace.connected }
+    {
+        self.pace.connected
+    }
+
+    /// Whether the agent is to be called now: there is no connection, and the pause since the last one is over.
+    pub fn is_to_call(&self, now: u64) -> bool
+        ensures value { result ≡ (not self.now.pace.connected && nat_le self.now.pace.call_at now) }
+    {
+        !self.pace.connected && self.pace.call_at <= now
+    }
+
+    /// A connection was made. Table and KDC are compared. One that there was is lost.
+    pub fn connect(&mut self, now: u64)
+        ensures step { self.new ≡ after_connect now self.old }
+    {
+        self.forget();
+        self.pace.connect(now);
+    }
+
+    /// The connection has ended, or couldn't be made. What was asked is asked again over the next one, puts before the
+    /// next comparison; what the agent said that the desk wasn't asked yet is forgotten. No key of the mirror and no
+    /// ticket changes.
+    pub fn lose(&mut self, now: u64)
+        ensures step { self.new ≡ after_loss now self.old }
+    {
+        self.forget();
+        self.pace.lose(now);
+    }
+
+    // Forgets all that belongs to one connection.
+    fn forget(&mut self)
+        ensures step { self.new ≡ forgotten self.old }
+    {
+        self.asked = None;
+        self.heard.clear();
+        self.listed.clear();
+        self.gets.clear();
+        self.updates.clear();
+    }
+
+    /// What the desk is to be asked next. The caller says when it is decided.
+    pub fn take_update(&mut self) -> Option<KdcUpdate>
+        ensures value { result ≡ first_update self.old.updates }
+        ensures step { self.new ≡ after_take self.old }
+    {
+        let update = self.updates.pop_front()?;
+        self.deciding = self.deciding.saturating_add(1);
+        Some(update)
+    }
+
+    /// The desk has decided an update, whatever its verdict. The caller then tells what the table has of that name, by
+    /// `hold` or `hold_none`.
+    pub fn decided(&mut self)
+        ensures step { self.new ≡ after_decision self.old }
+    {
+        self.deciding = self.deciding.saturating_sub(1);
+    }
+
+    /// What is to be told next.
+    pub fn take_notice(&mut self) -> Option<Notice>
+        ensures value { result ≡ next_notice self.old.tellings }
+        ensures step { self.new ≡ after_telling self.old }
+    {
+        self.tellings.take()
+    }
+
+    /// The state, to be shown.
+    pub fn status(&self) -> KdcStatus<'_>
+        ensures connected { result.connected ≡ self.now.pace.connected }
+        ensures since { result.since ≡ self.now.pace.since }
+        ensures behind { result.behind ≡ length self.now.puts }
+        ensures refusal { option_copied result.refusal ≡ self.now.tellings.refusal }
+    {
+        KdcStatus {
+            connected: self.pace.connected,
+            since: self.pace.since,
+            behind: self.puts.len(),
+            refusal: self.tellings.refusal(),
+        }
+    }
+}

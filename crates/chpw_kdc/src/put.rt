@@ -1,0 +1,24 @@
+//! A key on its way to the KDC, and the request under way.
+
+use chpw_record::KeyRow;
+use chpw_rules::Name;
+
+/// A key on its way to the KDC.
+#[derive(Drop)]
+pub(crate) struct Put {
+    pub name: Name,
+    pub key: KeyRow,
+    // That of the change which it comes from; none if it comes from a comparison.
+    pub ticket: Option<u64>,
+}
+
+/// The request under way.
+#[derive(Clone, Copy, Drop)]
+pub(crate) enum Asked {
+    /// Every name with its keys.
+    List,
+    /// The first of the names that are asked for alone.
+    Get,
+    /// That the first of the puts' names gets this key.
+    Put(KeyRow),
+}

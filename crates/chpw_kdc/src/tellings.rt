@@ -1,0 +1,150 @@
+//! What is to be told, and what was told already.
+ghost use Rattle.std.specs.Prelude.{◌≡◌, OnOk, OnErr};
+ghost use Rattle.std.specs.Option.{option_copied};
+ghost use Rattle.chpw_kdc.specs.Tellings.{nothing_told, after_refusal, after_told, is_told, after_accepted, after_missing};
+ghost use Rattle.chpw_kdc.specs.Tellings.{after_failure, after_success, after_lost_change, next_notice, after_notice};
+
+use crate::answer::Reason;
+use crate::update::{Notice, Refusal};
+use chpw_rules::{Items, Name};
+use std::alloc::{AllocError, Global};
+use std::collections::{BTreeMap, VecDeque};
+use std::marker::Model;
+
+/// What is to be told, and what was told already.
+#[derive(Drop)]
+pub(crate) struct Tellings {
+    // What is to be told, the oldest first.
+    notices: VecDeque<Notice>,
+    // The reason that was told last for each name that the agent refuses.
+    told: BTreeMap<Name, Reason>,
+    // The last refusal.
+    refusal: Option<Refusal>,
+    // A change was lost, which isn't told yet.
+    is_lost: bool,
+    // A failure was told, and nothing has succeeded since.
+    is_failing: bool,
+}
+
+impl Model for Tellings {
+    ghost use Rattle.chpw_kdc.specs.Tellings.{Tellings as State};
+
+    ghost Value = { State };
+
+    ghost view = { λ t. record { notices = t.notices.items; told = t.told.entries; refusal = t.refusal; is_lost = t.is_lost; is_failing = t.is_failing } };
+}
+
+impl Tellings {
+    pub fn new(alloc: Global) -> Tellings
+        ensures value { result ≡ nothing_told }
+    {
+        Tellings {
+            notices: VecDeque::new(alloc),
+            told: BTreeMap::new(alloc),
+            refusal: None,
+            is_lost: false,
+            is_failing: false,
+        }
+    }
+
+    /// The next notice.
+    pub fn take(&mut self) -> Option<Notice>
+        ensures value { result ≡ next_notice self.old }
+        ensures step { self.new ≡ after_notice self.old }
+    {
+        if self.is_lost {
+            self.is_lost = false;
+            return Some(Notice::Lost);
+        }
+        self.notices.pop_front()
+    }
+
+    /// The last refusal.
+    pub fn refusal(&self) -> Option<&Refusal>
+        ensures value { option_copied result ≡ self.now.refusal }
+    {
+        self.refusal.as_ref()
+    }
+
+    /// A change was lost for want of memory.
+    pub fn lose(&mut self)
+        ensures step { self.new ≡ after_lost_change self.old }
+    {
+        self.is_lost = true;
+    }
+
+    /// The agent refuses a name. It is told unless this reason was the last one told for it.
+    pub fn refuse(&mut self, name: Name, reason: Reason) -> Result<(), AllocError>
+        ensures step { OnOk result (self.new ≡ after_refusal name reason self.old) }
+        ensures unchanged { OnErr result (self.new ≡ self.old) }
+    {
+        let refusal = Refusal {
+            name: name.clone()?,
+            reason,
+        };
+        if !self.is_told(&name, reason) {
+            self.tell_refusal(name, reason)?;
+        }
+        self.refusal = Some(refusal);
+        Ok(())
+    }
+
+    // Whether this reason was the last one told for the name.
+    fn is_told(&self, name: &Name, reason: Reason) -> bool
+        ensures value { result ≡ is_told self.now name.now reason }
+    {
+        match self.told.get(name) {
+            Some(told) => *told == reason,
+            None => false,
+        }
+    }
+
+    fn tell_refusal(&mut self, name: Name, reason: Reason) -> Result<(), AllocError>
+        ensures step { OnOk result (self.new ≡ after_told name reason self.old) }
+        ensures unchanged { OnErr result (self.new ≡ self.old) }
+    {
+        let copy = name.clone()?;
+        self.notices.reserve(1)?;
+        self.told.insert(copy, reason)?;
+        self.notices
+            .push_back_reserved(Notice::Refused { name, reason });
+        Ok(())
+    }
+
+    /// The agent wrote a name's key: its next refusal is told again.
+    pub fn accept(&mut self, name: &Name)
+        ensures step { self.new ≡ after_accepted name.now self.old }
+    {
+        self.told.remove(name);
+    }
+
+    /// Many names are gone from the KDC.
+    pub fn miss(&mut self, gone: usize, of: usize) -> Result<(), AllocError>
+        ensures step { OnOk result (self.new ≡ after_missing gone of self.old) }
+        ensures unchanged { OnErr result (self.new ≡ self.old) }
+    {
+        self.notices.push_back(Notice::TooManyGone { gone, of })?;
+        Ok(())
+    }
+
+    /// A request failed. It is told unless nothing has succeeded since a failure was told, or another program has the
+    /// database locked.
+    pub fn fail(&mut self, text: Items<u8>) -> Result<(), AllocError>
+        ensures step { OnOk result (self.new ≡ after_failure text self.old) }
+        ensures unchanged { OnErr result (self.new ≡ self.old) }
+    {
+        if self.is_failing || text.as_slice() == b"locked".as_slice() {
+            return Ok(());
+        }
+        self.notices.push_back(Notice::Failed { text })?;
+        self.is_failing = true;
+        Ok(())
+    }
+
+    /// A request was answered.
+    pub fn succeed(&mut self)
+        ensures step { self.new ≡ after_success self.old }
+    {
+        self.is_failing = false;
+    }
+}

@@ -1,0 +1,36 @@
+//! What the table is to learn from the KDC, and what is to be told.
+
+use crate::answer::Reason;
+use chpw_record::KeyRow;
+use chpw_rules::{Items, Name};
+
+/// What the desk is to be asked.
+#[derive(Drop)]
+pub enum KdcUpdate {
+    /// The KDC has this key of a name that the table lacks, or of a newer version than the table's.
+    Adopt { name: Name, key: KeyRow },
+    /// The newest key of the name has this version at the KDC, a higher one.
+    Lift { name: Name, kvno: u32 },
+    /// The KDC has the name no more.
+    Remove { name: Name },
+}
+
+/// What is to be told, once.
+#[derive(Drop)]
+pub enum Notice {
+    /// A change was lost for want of memory: table and KDC are compared anew.
+    Lost,
+    /// The agent doesn't write this name, or doesn't tell its keys.
+    Refused { name: Name, reason: Reason },
+    /// The KDC lacks `gone` of the `of` names that are held: more than ten, and more than a tenth. None is removed.
+    TooManyGone { gone: usize, of: usize },
+    /// The database, or memory, can't be had: what the agent says of it.
+    Failed { text: Items<u8> },
+}
+
+/// A name that the agent refused, and why.
+#[derive(Drop)]
+pub struct Refusal {
+    pub name: Name,
+    pub reason: Reason,
+}
