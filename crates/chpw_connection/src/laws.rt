@@ -42,11 +42,11 @@ pub fn in_each_stage()
     ensures { NoneStays }
 {}
 
-/// A follower changes no answer: whatever happens to a connection whose replies wait until a follower has confirmed
+/// Waiting for the KDC changes no answer: whatever happens to a connection whose replies wait until it has confirmed
 /// their changes, what comes, is handed to workers, replied and written, and its stage, is as it would be if each
 /// deferred reply were an ordinary one.
 #[tactic(auto, using(crate::proofs::UnchangedLemmas::changes_no_answer, crate::proofs::UnchangedLemmas::sees_ordinary))]
-pub fn unchanged_by_a_follower()
+pub fn unchanged_by_waiting()
     ensures unchanged { ChangesNoAnswer }
     ensures ordinary { SeesOrdinary }
 {}

@@ -2,6 +2,6 @@
 
 pub use chpw_connection::laws::{
     at_its_end, by_its_release, by_its_worker, in_each_stage, in_order, in_time,
-    unchanged_by_a_follower,
+    unchanged_by_waiting,
 };
 pub use chpw_slots::laws::{counted_once, first_in_first_out};

@@ -5,6 +5,7 @@
 
 mod confirming;
 mod connections;
+mod kdc_change;
 pub mod laws;
 mod noted;
 mod phases;
@@ -16,5 +17,6 @@ mod taking;
 
 pub use chpw_connection::{ConnectionLimits, Counted, MAX_MESSAGES, Todo};
 pub use confirming::Unconfirmed;
+pub use kdc_change::KdcChange;
 pub use set::Connections;
 pub use taking::{Reply, TakenMessage, Turn};

@@ -16,6 +16,7 @@ ghost use Rattle.chpw_connections.specs.Rest.{Rest};
 ghost use Rattle.chpw_connections.specs.Noting.{noted_by, NotesEach, NotesEnds, slot_if};
 ghost use Rattle.chpw_connections.specs.Turns.{slot_of, peer_of, message_of};
 
+use crate::kdc_change::KdcChange;
 use crate::set::Connections;
 use chpw_connection::{Change, WholeMessage};
 
@@ -66,8 +67,8 @@ pub struct Turn {
     pub taken: TakenMessage,
     /// Its reply, if there is one.
     pub reply: Option<Reply>,
-    /// After a change, the bytes of the journal that the reply may wait for.
-    pub change: Option<u64>,
+    /// What it leaves to be put into the KDC's database.
+    pub change: KdcChange,
 }
 
 impl Connections {

@@ -12,10 +12,8 @@ use Rattle.chpw_serve.specs.contracts.worker_words.WorkerWords as WorkerWords
 use Rattle.chpw_serve.proofs.worker_words.WorkerWords.TheSendSync as words
 use Rattle.chpw_workers.specs.contracts.clock.MachineClock as MachineClock
 use Rattle.chpw_workers.specs.contracts.context.Context as Context
-use Rattle.chpw_workers.specs.contracts.journal_end.NoJournal as NoJournal
 use Rattle.chpw_workers.specs.contracts.worker.Worker as Worker
 use Rattle.chpw_workers.proofs.clock.MachineClock.TheSendSync as clock
-use Rattle.chpw_workers.proofs.journal_end.NoJournal.TheSendSync as no_journal
 use Rattle.chpw_workers.proofs.worker.Worker.TheSendSync as worker
 use Rattle.chpw_reactor.specs.contracts.seat.Seat as Seat
 use Rattle.chpw_reactor.specs.contracts.seat.EngineCrew as EngineCrew
@@ -27,8 +25,8 @@ crew_sync a R r = search (crew.the_sync, sendable) depth 20
 
 -- all threads may look at what the workers of a pool answer with
 pub context_sync : (a b : NamedLft) (R M : RattleType) → IsSync R → IsSync M
-    → IsSync (Context.the_row a M NoJournal.the_row (EngineCrew.the_row b R))
-context_sync a b R M r m = search (crew_sync, no_journal.the_sync, global.the_field_sync, sendable) depth 20
+    → IsSync (Context.the_row a M (EngineCrew.the_row b R))
+context_sync a b R M r m = search (crew_sync, global.the_field_sync, sendable) depth 20
 
 pub seat_send : (a : NamedLft) (R : RattleType) → IsSync R → IsSend (Seat.the_row a R)
 seat_send a R r = search (seat.the_send, sendable) depth 20

@@ -8,14 +8,12 @@ ghost use Rattle.chpw_pool.specs.PoolWorkers.{AreWorkersOf};
 ghost use Rattle.chpw_transfers.specs.declared.accept_limit.AcceptLimit.TheVariants as limit;
 
 use chpw_book::{Desk, DeskName, Pass};
-use chpw_reactor::{Engine, EngineCrew, NoFollower, Pool, PoolOptions, Seat, outcome_of};
-use chpw_serve::{Gate, Messages, NoGate, Observer, WorkerWords};
+use chpw_reactor::{Engine, EngineCrew, NoKdc, Pool, PoolOptions, Seat, outcome_of};
+use chpw_serve::{Gate, Messages, NoGate, Observer, UpdateObserver, WorkerWords};
 use chpw_sockets::PoolFault;
 use chpw_table::JournalSink;
 use chpw_transfers::AcceptLimit;
-use chpw_workers::{
-    BackgroundTask, Context, Crew, MachineClock, NoJournal, NotStarted, Worker, serve_at,
-};
+use chpw_workers::{BackgroundTask, Context, Crew, MachineClock, NotStarted, Worker, serve_at};
 use std::alloc::{AllocError, Global};
 use std::net::{Net, OpenListener, TcpListener, TcpStream};
 use std::os::fd::AsRawFd;
@@ -27,7 +25,7 @@ use std::{thread, time};
 type PoolWorker<'a, R, T, G> = Worker<Seat<'a, R>, G, MachineClock<'a, T>, WorkerWords>;
 
 /// What all workers of a pool answer with.
-type PoolContext<'a, R, M> = Context<'a, M, NoJournal, EngineCrew<'a, R>>;
+type PoolContext<'a, R, M> = Context<'a, M, EngineCrew<'a, R>>;
 
 /// What all workers share: the clock, the service and the desk.
 #[derive(Drop)]
@@ -71,7 +69,7 @@ pub fn run_pool_with<
     M: Messages + Sync,
     D: DeskName + Send + Sync,
     S: JournalSink + Send,
-    G: Gate + Observer + Send + Drop,
+    G: Gate + Observer + UpdateObserver + Send + Drop,
 >(
     rt: &R,
     alloc: Global,
@@ -160,7 +158,7 @@ fn run_gated<
     M: Messages + Sync,
     D: DeskName + Send + Sync,
     S: JournalSink + Send,
-    G: Gate + Observer + Send + Drop,
+    G: Gate + Observer + UpdateObserver + Send + Drop,
 >(
     rt: &'a R,
     shared: &'a Shared<'a, T, M, D, S>,
@@ -174,7 +172,7 @@ fn run_gated<
     ensures ends { Ends terms.connections result }
 {
     let connections = terms.connections;
-    let engine = match Engine::of(rt, shared.alloc, terms.bounds(), passes.len(), None) {
+    let engine = match Engine::of(rt, shared.alloc, terms.bounds(), passes.len(), None, None) {
         Err(fault) => return failed_pool(fault, connections),
         Ok(engine) => engine,
     };
@@ -190,7 +188,7 @@ fn run_gated<
     let context = Context {
         alloc: shared.alloc,
         service: &*shared.service,
-        journal: &NoJournal,
+        has_kdc: false,
         crew: &EngineCrew {
             rt: &*rt,
             engine: &engine,
@@ -203,7 +201,7 @@ fn run_gated<
     }
 }
 
-// The reactor, for this many connections of a listener, without a follower.
+// The reactor, for this many connections of a listener, without a KDC.
 #[derive(Drop)]
 struct Reacting<'a, R, L> {
     rt: &'a R,
@@ -218,7 +216,7 @@ impl<R: Wait + Net + time::Clock, L: OpenListener<Stream = TcpStream> + AsRawFd>
 
     fn run(self) {
         self.engine
-            .react(self.rt, self.listener, self.connections, NoFollower);
+            .react(self.rt, self.listener, self.connections, NoKdc);
     }
 }
 
@@ -264,7 +262,7 @@ fn run_workers<
     M: Messages + Sync,
     D: DeskName + Send + Sync,
     S: JournalSink + Send,
-    G: Gate + Observer + Send + Drop,
+    G: Gate + Observer + UpdateObserver + Send + Drop,
     W: BackgroundTask + Drop,
 >(
     rt: &'a R,
@@ -295,7 +293,7 @@ fn start_all<
     M: Messages + Sync + 's,
     D: DeskName + Send + Sync + 's,
     S: JournalSink + Send + 's,
-    G: Gate + Observer + Send + Drop + 's,
+    G: Gate + Observer + UpdateObserver + Send + Drop + 's,
 >(
     scope: &Scope<'s, &'e ()>,
     rt: &'s R,
@@ -319,7 +317,7 @@ fn start<
     M: Messages + Sync + 's,
     D: DeskName + Send + Sync + 's,
     S: JournalSink + Send + 's,
-    G: Gate + Observer + Send + Drop + 's,
+    G: Gate + Observer + UpdateObserver + Send + Drop + 's,
 >(
     scope: &Scope<'s, &'e ()>,
     rt: &'s R,
@@ -345,7 +343,7 @@ fn serve<
     M: Messages,
     D: DeskName,
     S: JournalSink,
-    G: Gate + Observer + Drop,
+    G: Gate + Observer + UpdateObserver + Drop,
 >(
     rt: &'a R,
     context: &'a PoolContext<'a, R, M>,

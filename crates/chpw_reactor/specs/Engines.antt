@@ -1,6 +1,6 @@
 -- What reactor and workers share, and a worker's place there.
 use Rattle.std.specs.Prelude.{ℕ, List, vec_len}
-use Rattle.chpw_connections.specs.declared.taking.Turn.{Turn}
+use Rattle.chpw_workers.specs.declared.inbox.WorkerTurn.{WorkerTurn}
 use Rattle.chpw_reactor.specs.declared.engine.Engine.{Engine}
 use Rattle.chpw_reactor.specs.declared.seat.Seat.{Seat}
 
@@ -12,5 +12,5 @@ workers_at engine = vec_len engine.came
 abbrev pub seat_number : {R : Type 0} → Seat R → ℕ
 seat_number seat = seat.number
 
-abbrev pub seat_turns : {R : Type 0} → Seat R → List Turn
+abbrev pub seat_turns : {R : Type 0} → Seat R → List WorkerTurn
 seat_turns seat = seat.turns

@@ -3,3 +3,4 @@ pub mod Bounds
 pub mod Engines
 pub mod Pools
 pub mod Reports
+pub mod Tasks

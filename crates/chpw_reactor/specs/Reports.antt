@@ -15,15 +15,15 @@ source_of event connections = reported_by (event_token event).0 connections
 -- the entrance after a report
 abbrev pub reported_at : EventSource → Entrance → Entrance
 reported_at source.Listener e = record e { accepting = reported e.accepting }
-reported_at source.Follower e = e
+reported_at source.Kdc e = e
 reported_at source.Datagrams e = e
 reported_at (source.Connection slot) e = e
 reported_at source.Control e = e
 
 -- what else was reported
-abbrev pub is_follower : EventSource → Bool
-is_follower source.Follower = true
-is_follower s = false
+abbrev pub is_kdc : EventSource → Bool
+is_kdc source.Kdc = true
+is_kdc s = false
 
 abbrev pub is_datagrams : EventSource → Bool
 is_datagrams source.Datagrams = true

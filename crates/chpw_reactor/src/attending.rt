@@ -3,7 +3,7 @@ ghost use Rattle.std.specs.Prelude.{◌≡◌, ◌≢◌, ◌&&◌, is_some, fal
 ghost use Rattle.chpw_reactor.specs.Attending.{patience_with};
 
 use crate::engine::milliseconds;
-use crate::follower::Follower;
+use crate::kdc::KdcTerms;
 use crate::reactor::Reactor;
 use crate::status_reporter::StatusReporter;
 use chpw_control::Command;
@@ -13,7 +13,7 @@ use mio::{Interest, Registry};
 use std::mem;
 use std::net::{OpenListener, TcpStream};
 use std::os::fd::AsRawFd;
-use std::sync::Wait;
+use std::sync::{MutexGuard, Wait};
 use std::time::Clock;
 
 /// How many bytes of a line are read at once.
@@ -72,7 +72,7 @@ impl<
     'a,
     R: Wait + Clock,
     L: OpenListener<Stream = TcpStream> + AsRawFd,
-    F: Follower + StatusReporter + Drop,
+    F: KdcTerms + StatusReporter + Drop,
 > Reactor<'a, R, L, F> {
     /// Callers at the control socket are accepted, read and answered, as far as their sockets allow without blocking;
     /// the thread for orders is woken. New ones are asked for only if the socket was reported, once a tick, and behind
@@ -161,9 +161,13 @@ impl<
         ensures stopping { self.new.is_stopping ≡ self.old.is_stopping }
         ensures entrance { self.new.entrance ≡ self.old.entrance }
     {
-        let counts = self.engine.hub.lock(self.rt).state.standing();
-        let standing = counts.with_follower(self.link.follower.is_behind());
-        let text = self.link.follower.status(self.engine.alloc, &standing);
+        let hub = self.engine.hub.lock(self.rt);
+        let standing = hub.state.standing();
+        let text = self
+            .link
+            .terms
+            .status(self.engine.alloc, &standing, hub.state.kdc.as_ref());
+        MutexGuard::unlock(hub);
         self.engine.control.lock(self.rt).callers.answer(slot, text);
     }
 

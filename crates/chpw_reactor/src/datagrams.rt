@@ -3,7 +3,7 @@ ghost use Rattle.std.specs.Prelude.{◌≡◌, ◌&&◌};
 ghost use Rattle.chpw_transfers.specs.Datagrams.{may_have_more as may_follow};
 
 use crate::engine::milliseconds;
-use crate::follower::Follower;
+use crate::kdc::KdcTerms;
 use crate::reactor::Reactor;
 use crate::status_reporter::StatusReporter;
 use chpw_transfers::Progress;
@@ -19,7 +19,7 @@ impl<
     'a,
     R: Wait + Clock,
     L: OpenListener<Stream = TcpStream> + AsRawFd,
-    F: Follower + StatusReporter + Drop,
+    F: KdcTerms + StatusReporter + Drop,
 > Reactor<'a, R, L, F> {
     /// Reads the datagrams that have come. Each that waits for a worker is a connection, and no more are read than
     /// connections are to be accepted.

@@ -8,19 +8,18 @@ ghost use Rattle.chpw_reactor.specs.Pools.{Ends};
 ghost use Rattle.chpw_sockets.specs.Faults.{IsUnmade};
 
 use crate::outcome::{Pool, outcome_of};
-use chpw_connections::{ConnectionLimits, TakenMessage, Turn};
+use crate::tasks::{next_task, note_update};
+use chpw_connections::ConnectionLimits;
 use chpw_control::TakenOrder;
+use chpw_kdc::KdcDialog;
 use chpw_sockets::{DatagramSocket, Hub, PoolFault, Selector};
 use chpw_transfers::{AcceptLimit, Control};
+use chpw_workers::{Task, WorkerTurn};
 use mio::Waker;
 use std::alloc::{AllocError, Global};
 use std::net::Net;
 use std::sync::{Condvar, Mutex, MutexGuard, Wait};
-use std::thread;
 use std::time::{Clock, Duration};
-
-/// Milliseconds between two checks of what waits for the follower.
-const PAUSE: u64 = 5;
 
 /// The connections of a service, the queues of its workers, and the sockets. It outlives a desk: messages that wait
 /// when a desk is closed are answered at the next one.
@@ -39,7 +38,8 @@ pub struct Engine {
 
 impl Engine {
     /// An engine with a queue for each of this many workers, of which there is at least one. With a socket for them,
-    /// messages come over UDP too. `Accept` if the system has no file for it, or can't watch that socket, `Memory` if a
+    /// messages come over UDP too; with what is said to the agent at the KDC's database,
+    /// keys are put there. `Accept` if the system has no file for it, or can't watch that socket, `Memory` if a
     /// growth is refused.
     pub fn of<R: Net>(
         rt: &R,
@@ -47,6 +47,7 @@ impl Engine {
         bounds: ConnectionLimits,
         workers: usize,
         datagrams: Option<DatagramSocket>,
+        kdc: Option<KdcDialog>,
     ) -> Result<Engine, PoolFault>
         requires workers { 0 < workers }
         ensures workers { IfOk result (λ engine. workers_at engine ≡ workers) }
@@ -59,7 +60,7 @@ impl Engine {
             return Err(PoolFault::Memory);
         };
         let (selector, waker) = Selector::new(rt, alloc)?;
-        let hub = Hub::new(alloc, &selector, bounds, workers, datagrams)?;
+        let hub = Hub::new(alloc, &selector, bounds, workers, datagrams, kdc)?;
         Ok(Engine {
             alloc,
             came,
@@ -99,14 +100,14 @@ fn whole_milliseconds(since: Duration) -> u64
 }
 
 impl Engine {
-    /// The next message of a worker, as soon as there is one; none if none will come any more, or the worker is to take
-    /// none for now.
-    pub(crate) fn next<R: Wait + Clock>(&self, rt: &R, worker: usize) -> Option<TakenMessage> {
+    /// The next task of a worker, as soon as there is one; none if none will come any more, or the worker is to take none for
+    /// now.
+    pub(crate) fn next<R: Wait + Clock>(&self, rt: &R, worker: usize) -> Option<Task> {
         let came = self.came.get(worker)?;
         for _ in rt.forever() {
             let mut hub = came.wait_while(rt, self.hub.lock(rt), |hub| hub.state.is_idle(worker));
-            if let Some(taken) = hub.state.take(worker, milliseconds(rt)) {
-                return Some(taken);
+            if let Some(task) = next_task(&mut hub.state, worker, milliseconds(rt)) {
+                return Some(task);
             }
             if hub.state.is_stopped || hub.state.is_over {
                 return None;
@@ -116,13 +117,15 @@ impl Engine {
         None
     }
 
-    /// The reply to a worker's message is to be written, or there is none and the connection ends. If it is the reply
-    /// to a change, after which the journal has `change` bytes, it may wait for the follower. The reactor is woken only
-    /// if something is left for it.
-    pub(crate) fn answer<R: Wait + Clock>(&self, rt: &R, turn: Turn) {
+    /// A worker has done a task. The reply to its message is to be written, or there is none and the connection ends; if a
+    /// change came of it, it may wait for the KDC. The reactor is woken only if something is left for it.
+    pub(crate) fn answer<R: Wait + Clock>(&self, rt: &R, turn: WorkerTurn) {
         let now = milliseconds(rt);
         let mut hub = self.hub.lock(rt);
-        hub.answer(turn, now);
+        match turn {
+            WorkerTurn::Message(turn) => hub.answer(turn, now),
+            WorkerTurn::Update(turn) => note_update(&mut hub.state, turn),
+        }
         let is_left = hub.state.wants_reactor();
         MutexGuard::unlock(hub);
         if is_left {
@@ -208,28 +211,6 @@ impl Engine {
     /// An order is carried out no further. Its caller gets an empty answer, which means failure.
     pub fn give_up_order<R: Wait>(&self, rt: &R, order: TakenOrder) {
         self.answer_order(rt, order, Vec::new(self.alloc));
-    }
-
-    /// Whether no reply waits for the follower, now or within this many milliseconds. No worker may answer meanwhile.
-    pub fn waits_for_none<R: Wait + Clock>(&self, rt: &R, most: u64) -> bool {
-        let begun = milliseconds(rt);
-        for _ in rt.forever() {
-            if !self.hub.lock(rt).state.has_waiting() {
-                return true;
-            }
-            if milliseconds(rt).saturating_sub(begun) >= most {
-                return false;
-            }
-            thread::sleep(rt, Duration::from_millis(PAUSE));
-        }
-        false
-    }
-
-    /// Another journal has replaced the one that the follower was asked about: its marks count from its beginning. No
-    /// reply may wait for the former one.
-    pub fn begin_marks_anew<R: Wait>(&self, rt: &R) {
-        self.hub.lock(rt).state.begin_marks_anew();
-        self.wake();
     }
 
     /// Whether it ended because a caller at the control socket asked for that.

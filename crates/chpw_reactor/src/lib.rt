@@ -5,16 +5,19 @@
 mod attending;
 mod datagrams;
 mod engine;
-mod follower;
-mod following;
+mod kdc;
+mod mirror;
 mod options;
 mod outcome;
 mod reactor;
 mod seat;
 mod status_reporter;
+mod talking;
+mod tasks;
 
 pub use engine::Engine;
-pub use follower::{Follower, NoFollower};
+pub use kdc::{KdcTerms, NoKdc};
+pub use mirror::dialog_with;
 pub use options::PoolOptions;
 pub use outcome::{Pool, outcome_of};
 pub use seat::{EngineCrew, Seat};

@@ -4,13 +4,13 @@
 ghost use Rattle.std.specs.Prelude.{◌≡◌, ◌&&◌, ◌||◌, [], is_some, true, false, Some, None};
 ghost use Rattle.chpw_transfers.specs.Accepting.{is_ready};
 ghost use Rattle.chpw_transfers.specs.Bounded.{allows_more};
-ghost use Rattle.chpw_reactor.specs.Reports.{is_control, is_datagrams, is_follower, reported_at, source_of};
+ghost use Rattle.chpw_reactor.specs.Reports.{is_control, is_datagrams, is_kdc, reported_at, source_of};
 
 use crate::attending::ControlPort;
 use crate::engine::{Engine, milliseconds};
-use crate::follower::Follower;
-use crate::following::FollowerLink;
+use crate::kdc::KdcTerms;
 use crate::status_reporter::StatusReporter;
+use crate::talking::KdcLink;
 use chpw_sockets::{STEPS, Selector};
 use chpw_transfers::{
     AcceptLimit, Entrance, EventSource, LISTENER, Newcomer, Noting, Progress, Shortage,
@@ -36,7 +36,7 @@ pub(crate) struct Reactor<'a, R, L, F> {
     pub rt: &'a R,
     pub engine: &'a Engine,
     listener: &'a L,
-    pub link: FollowerLink<F>,
+    pub link: KdcLink<F>,
     /// How many there may be at a time: the slots are the numbers below.
     pub clients: usize,
     pub entrance: Entrance,
@@ -54,23 +54,23 @@ pub(crate) struct Reactor<'a, R, L, F> {
 impl Engine {
     /// Accepts so many connections, or as many as the listener can; reads their messages and passes them to the
     /// workers, connection i (from 0) to worker i modulo their number; and writes the replies. It returns once each
-    /// connection has ended, or the engine is deserted. Then no message will come any more. Replies to changes wait for
-    /// the follower, as the workers ask for it. It answers questions at the control socket itself; orders are for the
+    /// connection has ended, or the engine is deserted. Then no message will come any more. Replies to changes wait until
+    /// the agent at the KDC's database has confirmed them. It answers questions at the control socket itself; orders are for the
     /// thread that takes them (`next_order`). When it is to stop, it accepts no more, ends the connections that wait
     /// for their clients' messages, and goes on until each reply is written and each order answered.
     pub fn react<
         R: Wait + Clock,
         L: OpenListener<Stream = TcpStream> + AsRawFd,
-        F: Follower + StatusReporter + Drop,
-    >(&self, rt: &R, listener: &L, connections: AcceptLimit, mut follower: F) {
+        F: KdcTerms + StatusReporter + Drop,
+    >(&self, rt: &R, listener: &L, connections: AcceptLimit, mut terms: F) {
         let clients = self.hub.lock(rt).sockets.by_slot.len();
         let mut selector = self.selector.lock(rt);
-        let port = ControlPort::open(follower.listener(), selector.poll.registry());
+        let port = ControlPort::open(terms.listener(), selector.poll.registry());
         let mut reactor = Reactor {
             rt,
             engine: self,
             listener,
-            link: FollowerLink::new(follower),
+            link: KdcLink::new(terms),
             clients,
             entrance: Entrance::new(connections),
             looked: milliseconds(rt),
@@ -90,7 +90,7 @@ impl<
     'a,
     R: Wait + Clock,
     L: OpenListener<Stream = TcpStream> + AsRawFd,
-    F: Follower + StatusReporter + Drop,
+    F: KdcTerms + StatusReporter + Drop,
 > Reactor<'a, R, L, F> {
     // Registers the listener.
     fn listen(&mut self, registry: &Registry) {
@@ -117,7 +117,7 @@ impl<
                 return;
             }
             self.look_at_events(events);
-            self.follow(poll.registry());
+            self.talk(poll.registry());
             self.attend(poll.registry());
             self.end_idle_where_stopping();
             look_at_noted(self);
@@ -142,6 +142,9 @@ impl<
         let may_come = self.entrance.can_accept(accepted) || self.can_take_datagram(accepted);
         let patience = hub.state.patience(may_come, self.entrance.accepting);
         MutexGuard::unlock(hub);
+        if self.link.is_reported {
+            return 0;
+        }
         self.port_patience(patience)
     }
 
@@ -162,7 +165,7 @@ impl<
     // Handles a connection's socket that was reported, and notes what else was.
     fn look_at(&mut self, event: &Event)
         ensures entrance { self.new.entrance ≡ reported_at (source_of event.now self.old.clients) self.old.entrance }
-        ensures follower { self.new.link.is_reported ≡ (is_follower (source_of event.now self.old.clients) || self.old.link.is_reported) }
+        ensures kdc { self.new.link.is_reported ≡ (is_kdc (source_of event.now self.old.clients) || self.old.link.is_reported) }
         ensures datagrams { self.new.has_datagrams ≡ (is_datagrams (source_of event.now self.old.clients) || self.old.has_datagrams) }
         ensures control { self.new.port.is_due ≡ (is_control (source_of event.now self.old.clients) || self.old.port.is_due) }
     {
@@ -179,13 +182,13 @@ impl<
     // Notes what was reported, unless it is a connection's socket: it is handled after all that were reported.
     fn note(&mut self, source: EventSource)
         ensures entrance { self.new.entrance ≡ reported_at source self.old.entrance }
-        ensures follower { self.new.link.is_reported ≡ (is_follower source || self.old.link.is_reported) }
+        ensures kdc { self.new.link.is_reported ≡ (is_kdc source || self.old.link.is_reported) }
         ensures datagrams { self.new.has_datagrams ≡ (is_datagrams source || self.old.has_datagrams) }
         ensures control { self.new.port.is_due ≡ (is_control source || self.old.port.is_due) }
     {
         match source {
             EventSource::Listener => self.entrance.report(),
-            EventSource::Follower => self.link.is_reported = true,
+            EventSource::Kdc => self.link.is_reported = true,
             EventSource::Datagrams => self.has_datagrams = true,
             EventSource::Control => self.port.is_due = true,
             EventSource::Connection(_) => {}
@@ -326,7 +329,7 @@ impl<
     'a,
     R: Wait + Clock,
     L: OpenListener<Stream = TcpStream> + AsRawFd,
-    F: Follower + StatusReporter + Drop,
+    F: KdcTerms + StatusReporter + Drop,
 > Noting for Reactor<'a, R, L, F> {
     // They are under the lock, where others note slots too.
     ghost noted = { λ reactor. None };

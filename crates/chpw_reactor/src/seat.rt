@@ -3,8 +3,7 @@ ghost use Rattle.std.specs.Prelude.{◌≡◌, []};
 ghost use Rattle.chpw_reactor.specs.Engines.{seat_number, seat_turns};
 
 use crate::engine::Engine;
-use chpw_connections::{TakenMessage, Turn};
-use chpw_workers::{Crew, Inbox};
+use chpw_workers::{Crew, Inbox, Task, WorkerTurn};
 use ghost_list::GhostList;
 use std::sync::Wait;
 use std::time::Clock;
@@ -18,7 +17,7 @@ pub struct Seat<'a, R> {
     rt: &'a R,
     engine: &'a Engine,
     number: usize,
-    turns: GhostList<Turn>,
+    turns: GhostList<WorkerTurn>,
 }
 
 impl<'a, R> Seat<'a, R> {
@@ -42,11 +41,11 @@ impl<'a, R: Wait + Clock> Inbox for Seat<'a, R> {
 
     ghost turns = { seat_turns };
 
-    fn next(&mut self) -> Option<TakenMessage> {
+    fn next(&mut self) -> Option<Task> {
         self.engine.next(self.rt, self.number)
     }
 
-    fn answer(&mut self, turn: Turn) {
+    fn answer(&mut self, turn: WorkerTurn) {
         self.turns.append(&turn);
         self.engine.answer(self.rt, turn);
     }

@@ -1,7 +1,8 @@
 //! The service's side of its control socket.
 
-use crate::follower::NoFollower;
+use crate::kdc::NoKdc;
 use chpw_control::put_error;
+use chpw_kdc::KdcDialog;
 use chpw_transfers::ConnectionCounts;
 use mio::net::UnixListener;
 use std::alloc::Global;
@@ -11,17 +12,27 @@ pub trait StatusReporter {
     /// The socket's listener, which doesn't block; it is asked for once. None without a control socket.
     fn listener(&mut self) -> Option<UnixListener>;
 
-    /// The answer to `status` for this standing of the connections. Empty if memory is refused.
-    fn status(&mut self, alloc: Global, standing: &ConnectionCounts) -> Vec<u8>;
+    /// The answer to `status` for this standing of the connections, and of the KDC, if there is one. Empty if memory is refused.
+    fn status(
+        &mut self,
+        alloc: Global,
+        standing: &ConnectionCounts,
+        kdc: Option<&KdcDialog>,
+    ) -> Vec<u8>;
 }
 
 /// No control socket.
-impl StatusReporter for NoFollower {
+impl StatusReporter for NoKdc {
     fn listener(&mut self) -> Option<UnixListener> {
         None
     }
 
-    fn status(&mut self, alloc: Global, _standing: &ConnectionCounts) -> Vec<u8> {
+    fn status(
+        &mut self,
+        alloc: Global,
+        _standing: &ConnectionCounts,
+        _kdc: Option<&KdcDialog>,
+    ) -> Vec<u8> {
         let mut text = Vec::new(alloc);
         let _ = put_error(&mut text, "no service");
         text

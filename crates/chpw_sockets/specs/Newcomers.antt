@@ -1,15 +1,15 @@
 -- The connections of a pool at its start, and how one more comes.
-use Rattle.std.specs.Prelude.{◌≡◌, ◌⊎◌, ℕ, List, false}
+use Rattle.std.specs.Prelude.{◌≡◌, ◌⊎◌, ℕ, List, Option, false}
 use Rattle.slab.specs.Slab.{Slab, slab_len}
 use Rattle.chpw_connections.specs.Held.{slots_of}
 use Rattle.chpw_slots.specs.Slots.{Happens, IsNew}
 use Rattle.chpw_connection.specs.Stages.{failed}
 use Rattle.chpw_connection.specs.declared.connection.Connection.{Connection}
-use Rattle.chpw_follower.specs.Asks.{at_start}
+use Rattle.chpw_kdc.specs.Dialogs.{State as Dialog}
 use Rattle.chpw_transfers.specs.declared.state.State.{State}
 
--- no connections, nothing to ask the follower, and workers take messages
-pub record IsBegun (s : State) : Type 0 where
+-- no connections, this to say to the agent at the KDC's database, and workers take messages
+pub record IsBegun (kdc : Option Dialog) (s : State) : Type 0 where
   pub none : slab_len (slots_of s.connections) ≡ 0
   pub is : s ≡ record {
     connections = s.connections;
@@ -18,8 +18,8 @@ pub record IsBegun (s : State) : Type 0 where
     is_deserted = false;
     has_newcomer = false;
     shortage = record { of_large = false; of_small = false };
-    asking = at_start;
-    is_of_former = false;
+    kdc = kdc;
+    is_message_next = false;
   }
 
 -- a new connection, which has ended if its socket can't be watched

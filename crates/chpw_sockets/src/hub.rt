@@ -1,6 +1,6 @@
 //! The connections with their sockets, which reactor and workers share under one lock.
 ghost use Rattle.slab.specs.Slab.{get, slab_len};
-ghost use Rattle.std.specs.Prelude.{◌≡◌, ◌≢◌, ◌<◌, ◌==◌, ◌⊎◌, ℕ, nat_lt, length, slice_get, if◌then◌else◌};
+ghost use Rattle.std.specs.Prelude.{◌≡◌, ◌≢◌, ◌<◌, ◌==◌, ◌⊎◌, ℕ, Option, nat_lt, length, slice_get, if◌then◌else◌};
 ghost use Rattle.std.specs.Prelude.{IfSome, IfOk, IfErr, Err, None, is_err, is_some, false, true};
 ghost use Rattle.chpw_connections.specs.Held.{slots_of, bounds_of, accepted_by};
 ghost use Rattle.chpw_connections.specs.Queues.{workers_of};
@@ -13,7 +13,7 @@ ghost use Rattle.chpw_connections.specs.Turns.{slot_of};
 ghost use Rattle.chpw_transfers.specs.Steps.{IsCalled, StepsUntold, RunsTo, Answers};
 ghost use Rattle.chpw_transfers.specs.Datagrams.{DropsDatagram};
 ghost use Rattle.chpw_sockets.specs.Deciding.{AreElsewhere, IsFree, IsFresh, Queues};
-ghost use Rattle.chpw_transfers.specs.Following.{awaited};
+ghost use Rattle.chpw_transfers.specs.Kdc.{LeavesChange};
 ghost use Rattle.chpw_sockets.specs.Newcomers.{IsAdmitted, IsBegun};
 ghost use Rattle.chpw_sockets.specs.Places.{RemainsAt, StaysAt};
 ghost use Rattle.chpw_sockets.specs.Faults.{IsUnmade};
@@ -27,6 +27,7 @@ use crate::pool_fault::PoolFault;
 use crate::sockets::Selector;
 use crate::udp::DatagramSocket;
 use chpw_connections::{ConnectionLimits, Connections, Todo, Turn};
+use chpw_kdc::KdcDialog;
 use chpw_transfers::{Newcomer, Progress, State};
 use std::alloc::Global;
 use std::net::TcpStream;
@@ -43,7 +44,8 @@ pub struct Hub {
 
 impl Hub {
     /// No connections yet, for this many workers, but at least one; within these bounds, and with a place for the socket
-    /// of each connection. With a socket for them, messages come as datagrams too. `Accept` if the system can't watch
+    /// of each connection. With a socket for them, messages come as datagrams too; with what is
+    /// said to the agent at the KDC's database, keys are put there. `Accept` if the system can't watch
     /// that socket, `Memory` if a growth is refused.
     pub fn new(
         alloc: Global,
@@ -51,8 +53,9 @@ impl Hub {
         bounds: ConnectionLimits,
         workers: usize,
         datagrams: Option<DatagramSocket>,
+        kdc: Option<KdcDialog>,
     ) -> Result<Hub, PoolFault>
-        ensures begun { IfOk result (λ hub. IsBegun hub.state) }
+        ensures begun { IfOk result (λ hub. IsBegun kdc hub.state) }
         ensures bounds { IfOk result (λ hub. bounds_of hub.state.connections ≡ bounds) }
         ensures workers { IfOk result (λ hub. workers_of hub.state.connections ≡ (if workers == 0 then 1 else workers)) }
         ensures fault { IfErr result IsUnmade }
@@ -62,7 +65,7 @@ impl Hub {
         };
         let sockets = Sockets::new(alloc, selector, bounds.connections, datagrams)?;
         Ok(Hub {
-            state: State::new(connections),
+            state: State::new(connections, kdc),
             sockets,
         })
     }
@@ -110,6 +113,7 @@ impl Hub {
             → slots_of self.new.state.connections ≡ slots_of self.old.state.connections }
         ensures queued { IsCalled (workers_of self.old.state.connections) (get (slots_of self.new.state.connections) slot) result }
         ensures bounds { bounds_of self.new.state.connections ≡ bounds_of self.old.state.connections }
+        ensures kdc { self.new.state.kdc ≡ self.old.state.kdc }
     {
         self.sockets.step(&mut self.state, slot, now)
     }
@@ -171,11 +175,12 @@ impl Hub {
     }
 
     /// A worker's reply to the message that it took, or the word that there is none, for the connection that the message
-    /// came from. Unless it waits for the follower, as much of the reply is written as the socket takes, and after it as
+    /// came from. Unless it waits for the KDC, as much of the reply is written as the socket takes, and after it as
     /// much of the next message is read as has come: it waits for the same worker, which checks its queue next.
     pub fn answer(&mut self, turn: Turn, now: u64)
-        ensures answers { Answers (bounds_of self.old.state.connections) now (awaited self.old.state.asking turn.change)
-            turn.reply (slots_of self.old.state.connections) (slots_of self.new.state.connections) (slot_of turn.taken) }
+        ensures answers { (ticket : Option ℕ) × LeavesChange self.old.state.kdc turn.change self.new.state.kdc ticket
+            × Answers (bounds_of self.old.state.connections) now ticket turn.reply
+            (slots_of self.old.state.connections) (slots_of self.new.state.connections) (slot_of turn.taken) }
         ensures others { AreElsewhere self.old.sockets.by_slot.items self.new.sockets.by_slot.items (slot_of turn.taken) }
         ensures kept { RemainsAt (slice_get self.old.sockets.by_slot.items (slot_of turn.taken))
             (slice_get self.new.sockets.by_slot.items (slot_of turn.taken)) }
@@ -189,6 +194,7 @@ impl Hub {
     // waits for its worker. A connection that has ended is left to the reactor, which counts them.
     fn run(&mut self, slot: usize, now: u64)
         ensures runs { RunsTo (bounds_of self.old.state.connections) now slot (slots_of self.old.state.connections) (slots_of self.new.state.connections) }
+        ensures kdc { self.new.state.kdc ≡ self.old.state.kdc }
         ensures others { AreElsewhere self.old.sockets.by_slot.items self.new.sockets.by_slot.items slot }
         ensures kept { RemainsAt (slice_get self.old.sockets.by_slot.items slot) (slice_get self.new.sockets.by_slot.items slot) }
     {

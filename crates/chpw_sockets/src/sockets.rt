@@ -72,6 +72,7 @@ impl<S: Channel> Transport<S> {
         ensures socket { is_some datagrams.new ≡ is_some datagrams.old }
         ensures queued { IsCalled (workers_of state.old.connections) (get (slots_of state.new.connections) slot) result }
         ensures bounds { bounds_of state.new.connections ≡ bounds_of state.old.connections }
+        ensures kdc { state.new.kdc ≡ state.old.kdc }
     {
         match self {
             Transport::Stream(socket) => socket.step(state, slot, due, buffer, now),
@@ -117,6 +118,7 @@ impl<S: Channel> Socket<S> {
         ensures waits { due ≡ todo.Wait → result ≡ progress.None }
         ensures queued { IsCalled (workers_of state.old.connections) (get (slots_of state.new.connections) slot) result }
         ensures bounds { bounds_of state.new.connections ≡ bounds_of state.old.connections }
+        ensures kdc { state.new.kdc ≡ state.old.kdc }
     {
         match due {
             Todo::Read(_) => state.read(slot, &mut self.stream, buffer, now),
@@ -134,6 +136,7 @@ impl<S: Channel> Socket<S> {
         ensures idle { result ≡ progress.None → state.new ≡ state.old }
         ensures queued { IsCalled (workers_of state.old.connections) (get (slots_of state.new.connections) slot) result }
         ensures bounds { bounds_of state.new.connections ≡ bounds_of state.old.connections }
+        ensures kdc { state.new.kdc ≡ state.old.kdc }
         ensures shut { self.new.is_shut ≡ true }
     {
         self.shut();
@@ -247,6 +250,7 @@ impl<S: Channel + Drop, D: DatagramChannel + Drop> Sockets<S, D> {
         ensures sizes { KeepsSizes self.old self.new }
         ensures queued { IsCalled (workers_of state.old.connections) (get (slots_of state.new.connections) slot) result }
         ensures bounds { bounds_of state.new.connections ≡ bounds_of state.old.connections }
+        ensures kdc { state.new.kdc ≡ state.old.kdc }
     {
         let todo = state.connections.todo(slot);
         if todo == Todo::Close {

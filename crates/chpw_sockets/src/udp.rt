@@ -71,6 +71,7 @@ impl Datagram {
         ensures socket { is_some datagrams.new ≡ is_some datagrams.old }
         ensures queued { IsCalled (workers_of state.old.connections) (get (slots_of state.new.connections) slot) result }
         ensures bounds { bounds_of state.new.connections ≡ bounds_of state.old.connections }
+        ensures kdc { state.new.kdc ≡ state.old.kdc }
     {
         match (due, datagrams) {
             (Todo::Write, Some(datagrams)) => datagrams.reply(state, slot, self, now),
@@ -190,6 +191,7 @@ impl<D: DatagramChannel> Datagrams<D> {
         ensures sender { datagram.new.sender ≡ datagram.old.sender }
         ensures queued { IsCalled (workers_of state.old.connections) (get (slots_of state.new.connections) slot) result }
         ensures bounds { bounds_of state.new.connections ≡ bounds_of state.old.connections }
+        ensures kdc { state.new.kdc ≡ state.old.kdc }
     {
         let reply = state.connections.pending_output(slot);
         let request = datagram.message.as_slice();
@@ -213,6 +215,7 @@ impl<D: DatagramChannel> Datagrams<D> {
         ensures rest { self.new ≡ record self.old { answered = self.new.answered } }
         ensures sender { datagram.new.sender ≡ datagram.old.sender }
         ensures bounds { bounds_of state.new.connections ≡ bounds_of state.old.connections }
+        ensures kdc { state.new.kdc ≡ state.old.kdc }
     {
         match sent {
             Transfer::Bytes(_) | Transfer::End => {

@@ -2,7 +2,7 @@ pub mod Accepting
 pub mod Bounded
 pub mod Controlling
 pub mod Datagrams
-pub mod Following
+pub mod Kdc
 pub mod Rounds
 pub mod Steps
 pub mod Tokens

@@ -9,8 +9,8 @@ use Rattle.chpw_transfers.specs.Accepting.{is_waiting, has_failed}
 use Rattle.chpw_transfers.specs.Bounded.{allows_more}
 use Rattle.chpw_transfers.specs.declared.accepting.Accepting.{Accepting}
 use Rattle.chpw_transfers.specs.declared.accept_limit.AcceptLimit.{AcceptLimit}
-use Rattle.chpw_follower.specs.Asks.{asks_now}
-use Rattle.chpw_transfers.specs.Following.{is_waited_for}
+use Rattle.chpw_connections.specs.Queues.{queue_of}
+use Rattle.chpw_transfers.specs.Kdc.{is_behind, is_clerk}
 use Rattle.chpw_transfers.specs.declared.state.State.{State}
 
 -- something is to be done for a connection although nothing was reported: to read, if there was no room
@@ -45,18 +45,18 @@ abbrev pub is_reading : Todo → Bool
 is_reading (todo.Read n) = true
 is_reading other = false
 
--- connections have ended, or are noted; a client waits for room; or the follower is to be asked
+-- connections have ended, or are noted; a client waits for room; or keys are on their way to the KDC
 abbrev pub wants_reactor : State → Bool
-wants_reactor s = s.has_newcomer || (nat_lt 0 (length (changed_of s.connections)) || asks_now s.asking)
+wants_reactor s = s.has_newcomer || (nat_lt 0 (length (changed_of s.connections)) || is_behind s.kdc)
 
 -- No time if there is something to do at once, and a second if there is no connection and none can be accepted before
 -- the listener is reported. Otherwise a tenth of a second, after which the time of some may be up, and less while
--- replies wait for the follower.
+-- keys are on their way to the KDC.
 abbrev pub milliseconds_to_wait : Bool → Accepting → State → ℕ
 milliseconds_to_wait can_accept accepting s =
     if can_accept || nat_lt 0 (length (changed_of s.connections)) then 0
     else if has_none s && is_waiting accepting then 1000
-    else if is_waited_for s.asking then 20
+    else if is_behind s.kdc then 20
     else 100
 
 -- The first slot that is noted is looked at, and noted no longer; what is noted meanwhile comes behind the others. Nothing
@@ -65,3 +65,8 @@ abbrev pub LooksAtFirst : Option (List ℕ) → Option (List ℕ) → List ℕ �
 LooksAtFirst (Some (slot ∷ slots)) after seen then_seen = ((more : List ℕ) × (after ≡ Some (slots ++ more))) × (then_seen ≡ seen ++ slot ∷ [])
 LooksAtFirst (Some []) after seen then_seen = Unit {0}
 LooksAtFirst None after seen then_seen = Unit {0}
+
+-- this worker is the clerk, and takes what the KDC says before messages: it did not do that last, or no message waits
+abbrev pub is_update_next : ℕ → State → Bool
+is_update_next worker s =
+    is_clerk worker && (not s.is_stopped && not (s.is_message_next && nat_lt 0 (length (queue_of s.connections worker))))

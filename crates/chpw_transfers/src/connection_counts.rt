@@ -1,8 +1,8 @@
 //! How many connections are in each stage.
-ghost use Rattle.std.specs.Prelude.{◌≡◌, ◌-◌, ◌^◌, ◌||◌, min};
+ghost use Rattle.std.specs.Prelude.{◌≡◌, ◌-◌, ◌^◌, min};
 ghost use Rattle.chpw_transfers.specs.Controlling.{sum_of};
 
-/// How many connections there are, by their stages, and whether the follower is behind.
+/// How many connections there are, by their stages, and whether the KDC is behind.
 #[derive(Clone, Copy, PartialEq, Eq, Debug, Drop)]
 pub struct ConnectionCounts {
     /// Those whose message is being read.
@@ -11,13 +11,13 @@ pub struct ConnectionCounts {
     pub waiting: usize,
     /// Those whose message a worker answers.
     pub answering: usize,
-    /// Those whose reply waits for the follower.
+    /// Those whose reply waits for the KDC.
     pub confirming: usize,
     /// Those whose reply is being written.
     pub writing: usize,
     /// Those that are ending.
     pub ending: usize,
-    /// Whether the follower is asked about a change, or the last reply to a change was sent unconfirmed.
+    /// Whether keys are on their way to the KDC.
     pub is_behind: bool,
 }
 
@@ -35,15 +35,5 @@ impl ConnectionCounts {
             .saturating_add(self.writing)
             .saturating_add(self.ending);
         coming.saturating_add(going)
-    }
-
-    /// These, with the follower behind if it says so, or was already.
-    pub fn with_follower(self, is_behind: bool) -> ConnectionCounts
-        ensures value { result ≡ record self { is_behind = self.is_behind || is_behind } }
-    {
-        ConnectionCounts {
-            is_behind: self.is_behind || is_behind,
-            ..self
-        }
     }
 }

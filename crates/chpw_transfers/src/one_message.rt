@@ -109,6 +109,7 @@ impl State {
         ensures value { result ≡ progress.Some }
         ensures happens { Happens 0 (slots_of self.old.connections) (slots_of self.new.connections) slot closed }
         ensures bounds { bounds_of self.new.connections ≡ bounds_of self.old.connections }
+        ensures rest { self.new ≡ record self.old { connections = self.new.connections } }
     {
         self.connections.input_ended(slot);
         Progress::Some
@@ -120,6 +121,7 @@ impl State {
         ensures happens { Happens now (slots_of self.old.connections) (slots_of self.new.connections) slot
             (wrote (length (left_at (get (slots_of self.old.connections) slot)))) }
         ensures bounds { bounds_of self.new.connections ≡ bounds_of self.old.connections }
+        ensures rest { self.new ≡ record self.old { connections = self.new.connections } }
     {
         let count = self.connections.pending_output(slot).len();
         self.connections.wrote(slot, count, now);

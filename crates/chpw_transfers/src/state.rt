@@ -12,8 +12,7 @@ ghost use Rattle.chpw_connection.specs.Late.{Passes, is_late_in};
 ghost use Rattle.chpw_connection.specs.Slot.{queued_at};
 ghost use Rattle.chpw_connection.specs.Stages.{taken, failed};
 ghost use Rattle.chpw_connections.specs.Turns.{slot_of, message_of, peer_of};
-ghost use Rattle.chpw_follower.specs.Asks.{at_start};
-ghost use Rattle.chpw_transfers.specs.Following.{is_waited_for as is_waited};
+ghost use Rattle.chpw_transfers.specs.Kdc.{has_update, is_behind, is_clerk};
 ghost use Rattle.chpw_transfers.specs.Steps.{is_short_for, short_of};
 ghost use Rattle.chpw_transfers.specs.Controlling.{IsCounted, sum_of};
 ghost use Rattle.chpw_transfers.specs.Rounds.{is_done, is_finished, is_looked_at, is_reading, milliseconds_to_wait, wants_reactor};
@@ -21,13 +20,14 @@ ghost use Rattle.chpw_transfers.specs.Rounds.{is_done, is_finished, is_looked_at
 use crate::accept_limit::AcceptLimit;
 use crate::accepting::Accepting;
 use crate::connection_counts::ConnectionCounts;
+use crate::kdc::is_clerk;
 use chpw_connections::{Connections, Counted, TakenMessage, Todo};
-use chpw_follower::FollowerDialog;
+use chpw_kdc::KdcDialog;
 
 /// The milliseconds between two searches for connections whose time is up.
 pub const TICK: u64 = 100;
 
-/// The milliseconds between two searches for replies that wait for the follower.
+/// The milliseconds between two searches for replies that wait for the KDC.
 const SOON: u64 = 20;
 
 /// The milliseconds between two rounds of a reactor without connections.
@@ -47,10 +47,10 @@ pub struct State {
     pub has_newcomer: bool,
     /// What there was no room for in this round.
     pub shortage: Shortage,
-    /// What the follower is asked.
-    pub asking: FollowerDialog,
-    /// The connection to the follower concerns a journal that another one has replaced: what comes there is ignored.
-    pub is_of_former: bool,
+    /// What is said to the agent at the KDC's database, if there is one.
+    pub kdc: Option<KdcDialog>,
+    /// The worker that takes what the KDC says into the table did that last: messages come first then.
+    pub is_message_next: bool,
 }
 
 /// Whether a message wasn't read for want of room. Others of its kind wait with it for the next round, so that all get
@@ -104,8 +104,8 @@ pub enum Progress {
 }
 
 impl State {
-    /// These connections, which workers may serve.
-    pub fn new(connections: Connections) -> State
+    /// These connections, which workers may serve, and what is said to the agent at the KDC's database, if there is one.
+    pub fn new(connections: Connections, kdc: Option<KdcDialog>) -> State
         ensures value { result ≡ record {
           connections = connections;
           is_stopped = false;
@@ -113,8 +113,8 @@ impl State {
           is_deserted = false;
           has_newcomer = false;
           shortage = record { of_large = false; of_small = false };
-          asking = at_start;
-          is_of_former = false;
+          kdc = kdc;
+          is_message_next = false;
         } }
     {
         State {
@@ -124,17 +124,21 @@ impl State {
             is_deserted: false,
             has_newcomer: false,
             shortage: Shortage::default(),
-            asking: FollowerDialog::new(),
-            is_of_former: false,
+            kdc,
+            is_message_next: false,
         }
     }
 
     /// Whether a worker has nothing to do yet.
     pub fn is_idle(&self, worker: usize) -> bool
         ensures value { result ≡ (not self.now.is_stopped && (not self.now.is_over
-            && not (nat_lt 0 (length (queue_of self.now.connections worker))))) }
+            && (not (nat_lt 0 (length (queue_of self.now.connections worker)))
+            && not (is_clerk worker && has_update self.now.kdc)))) }
     {
-        !self.is_stopped && !self.is_over && !self.connections.has_message(worker)
+        !self.is_stopped
+            && !self.is_over
+            && !self.connections.has_message(worker)
+            && !(is_clerk(worker) && self.has_update())
     }
 
     /// Accepts a connection from this peer, if there is room for one more: its slot. Otherwise a client waits for room.
@@ -218,22 +222,23 @@ impl State {
         ensures first { IfSome result (λ t. queue_of self.old.connections worker ≡ slot_of t ∷ queue_of self.new.connections worker) }
         ensures others { (other : ℕ) → other ≢ worker → queue_of self.new.connections other ≡ queue_of self.old.connections other }
         ensures none { self.old.is_stopped ≡ false → IfNone result
-            (((queue_of self.old.connections worker ≡ []) × (self.new ≡ self.old))
+            (((queue_of self.old.connections worker ≡ []) × (self.new.connections ≡ self.old.connections))
             ⊎ DropsLate now self.old.connections self.new.connections worker) }
-        ensures rest { self.new ≡ record self.old { connections = self.new.connections } }
+        ensures rest { self.new ≡ record self.old { connections = self.new.connections; is_message_next = self.new.is_message_next } }
     {
         if self.is_stopped {
             return None;
         }
+        self.is_message_next = false;
         self.connections.take(worker, now)
     }
 
-    /// Whether something is left for the reactor: connections have ended, a client waits for room, or the follower is
-    /// to be asked.
+    /// Whether something is left for the reactor: connections have ended, a client waits for room, or keys are on their
+    /// way to the KDC.
     pub fn wants_reactor(&self) -> bool
         ensures value { result ≡ wants_reactor self.now }
     {
-        self.has_newcomer || self.connections.has_changed() || self.asking.is_to_ask()
+        self.has_newcomer || self.connections.has_changed() || self.is_behind()
     }
 
     /// Whether something is to be done for a connection although nothing was reported: to read, if there was no room.
@@ -277,12 +282,12 @@ impl State {
         }
     }
 
-    /// How many connections are in each stage, and whether the follower is asked about a change.
+    /// How many connections are in each stage, and whether keys are on their way to the KDC.
     #[tactic(auto, using(crate::proofs::ControlLemmas::all_counted))]
     pub fn standing(&self) -> ConnectionCounts
         ensures value { IsCounted self.now result }
         ensures all { sum_of result ≡ slab_len (slots_of self.now.connections) }
-        ensures behind { result.is_behind ≡ is_waited self.now.asking }
+        ensures behind { result.is_behind ≡ is_behind self.now.kdc }
     {
         ConnectionCounts {
             reading: self.connections.count(Counted::Reading),
@@ -291,7 +296,7 @@ impl State {
             confirming: self.connections.count(Counted::Confirming),
             writing: self.connections.count(Counted::Writing),
             ending: self.connections.count(Counted::Ending),
-            is_behind: self.is_waited_for(),
+            is_behind: self.is_behind(),
         }
     }
 
@@ -303,7 +308,7 @@ impl State {
             0
         } else if self.connections.is_empty() && accepting.is_waiting() {
             REST
-        } else if self.is_waited_for() {
+        } else if self.is_behind() {
             SOON
         } else {
             TICK

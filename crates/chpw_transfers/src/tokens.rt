@@ -11,8 +11,8 @@ pub const LISTENER: Token = Token(usize::MAX);
 /// The events of a worker that has something for the reactor.
 pub const WAKER: Token = Token(usize::MAX - 1);
 
-/// The follower's events.
-pub const FOLLOWER: Token = Token(usize::MAX - 2);
+/// The events of the connection to the agent at the KDC's database.
+pub const KDC: Token = Token(usize::MAX - 2);
 
 /// The events of the socket for datagrams.
 pub const DATAGRAMS: Token = Token(usize::MAX - 3);
@@ -25,8 +25,8 @@ pub const CONTROL: Token = Token(usize::MAX - 4);
 pub enum EventSource {
     /// The listener.
     Listener,
-    /// The connection to the follower.
-    Follower,
+    /// The connection to the agent at the KDC's database.
+    Kdc,
     /// The socket for datagrams.
     Datagrams,
     /// The socket of the connection in this slot.
@@ -42,8 +42,8 @@ impl EventSource {
     {
         if token == LISTENER {
             EventSource::Listener
-        } else if token == FOLLOWER {
-            EventSource::Follower
+        } else if token == KDC {
+            EventSource::Kdc
         } else if token == DATAGRAMS {
             EventSource::Datagrams
         } else if token.0 < connections {

@@ -2,6 +2,8 @@
 use Rattle.std.proofs.Common.{◌≡◌, ℕ, zero, suc, ◌+◌, ◌<◌, List, [], ◌∷◌, ◌++◌, Bool, true, false, Option, length, map, refl, sym, ◌∙◌, ap, subst, arith}
 use Rattle.std.specs.Prelude.{IfSome, Result, Ok, Err, IfOk, IfErr}
 use Rattle.std.specs.List.{range_with_len}
+use Rattle.chpw_rules.specs.declared.name.Name.{Name}
+use Rattle.chpw_record.specs.declared.key.KeyRow.{KeyRow}
 use Rattle.chpw_table.specs.declared.times.Moment.{Moment}
 use Rattle.chpw_table.specs.declared.history.Entry.{Entry}
 use Rattle.chpw_table.specs.declared.history.Receipt.{Receipt}
@@ -16,7 +18,7 @@ use Rattle.chpw_serve.specs.declared.messages.Seal.{Seal}
 use Rattle.chpw_serve.specs.Requests.{Opens}
 use Rattle.chpw_book.specs.Passes.{PassView, new_pass}
 use Rattle.chpw_book.specs.Closing.{HasCalls, IsWhole, is_full, was_any_full}
-use Rattle.chpw_connections.specs.declared.taking.Turn.{Turn}
+use Rattle.chpw_workers.specs.declared.inbox.WorkerTurn.{WorkerTurn}
 use Rattle.chpw_workers.specs.declared.worker.Worker.{Worker}
 use Rattle.chpw_workers.specs.Turns.{At, at, AreTurns}
 use Rattle.chpw_workers.specs.Shifts.{IsShift, AreShifts}
@@ -57,21 +59,21 @@ pub if_given_back : {A E : Type 0} (r : Result A E) (passes_of : E → List Pass
 if_given_back (Ok a) passes_of qs P h back = tt
 if_given_back (Err e) passes_of qs P h back = subst (P e) (sym back) h
 
-module _ {I G C X J : Type 0} (moments : C → Moment → C → Type 0) (random : X → ℕ → X → Type 0) (turns_at : I → List Turn)
+module _ {I G C X : Type 0} (moments : C → Moment → C → Type 0) (random : X → ℕ → X → Type 0) (turns_at : I → List WorkerTurn)
     (error_frame : Answer → Moment → List ℕ) (private_frame : Seal → Answer → List ℕ → List ℕ)
-    (opens : List ℕ → List ℕ → Opens → Type 0) (ends : J → Option ℕ → Type 0) (journal : J) (workers : ℕ) where
+    (opens : List ℕ → List ℕ → Opens → Type 0) (holds : Name → Option KeyRow → Type 0) (has_kdc : Bool) (workers : ℕ) where
   abbrev One : PassView → Worker I G C X → PassView → Worker I G C X → Type 0
-  One = IsShift moments random turns_at error_frame private_frame opens ends journal
+  One = IsShift moments random turns_at error_frame private_frame opens holds has_kdc
 
   abbrev Each : List PassView → List (Worker I G C X) → List PassView → List (Worker I G C X) → Type 0
-  Each = AreShifts moments random turns_at error_frame private_frame opens ends journal
+  Each = AreShifts moments random turns_at error_frame private_frame opens holds has_kdc
 
   module _ (history : List Entry) (table : Held) where
     abbrev Served : ℕ → PassView → Worker I G C X → Worker I G C X → Type 0
-    Served w p o n = IsServedBy moments random turns_at error_frame private_frame opens ends journal w p o n history table
+    Served w p o n = IsServedBy moments random turns_at error_frame private_frame opens holds has_kdc w p o n history table
 
     abbrev AllServed : ℕ → List PassView → List (Worker I G C X) → List (Worker I G C X) → Type 0
-    AllServed w ps os ns = AreServedBy moments random turns_at error_frame private_frame opens ends journal w ps os ns history table
+    AllServed w ps os ns = AreServedBy moments random turns_at error_frame private_frame opens holds has_kdc w ps os ns history table
 
     one_served : (w : ℕ) (p : PassView) (o : Worker I G C X) (q : PassView) (n : Worker I G C X) → One p o q n
         → q.receipts ≡ calls history w → (q.was_full ≡ true → is_full table ≡ true) → Served w p o n
@@ -79,9 +81,10 @@ module _ {I G C X J : Type 0} (moments : C → Moment → C → Type 0) (random 
       turns = h.turns;
       gained = h.gained;
       are = subst (λ (rs : List Receipt). AreTurns moments random error_frame private_frame opens
-          (λ (ts : List Receipt). is_full table ≡ true) ends journal (at p.receipts o.clock o.words) h.turns (at rs n.clock n.words)) has
-          (turns_lift moments random error_frame private_frame opens ends journal (λ (rs : List Receipt). q.was_full ≡ true)
-          (λ (rs : List Receipt). is_full table ≡ true) (λ rs g. full g) (at p.receipts o.clock o.words) h.turns (at q.receipts n.clock n.words) h.are);
+          (λ (ts : List Receipt). is_full table ≡ true) holds has_kdc (at p.receipts o.clock o.words) h.turns (at rs n.clock n.words)) has
+          (turns_lift moments random error_frame private_frame opens (λ (rs : List Receipt). q.was_full ≡ true)
+          (λ (rs : List Receipt). is_full table ≡ true) (λ rs g. full g) holds holds (λ name key g. g) has_kdc (at p.receipts o.clock
+          o.words) h.turns (at q.receipts n.clock n.words) h.are);
     }
 
     -- Each worker's turns took it to its calls, from this worker on: its pass has them, and 'full' was told only if the table is full.
@@ -114,7 +117,7 @@ module _ {I G C X J : Type 0} (moments : C → Moment → C → Type 0) (random 
       (history : List Entry) (table : Held) (prior : List ℕ) (told : Option (List ℕ)) → AreInOrder workers ps → Each ps os qs ns
       → IsWhole history (is_full table) workers qs → IsLegal opening history × Agrees table.state (outcome opening history)
       → AreWhole opening history → IsNumbered history × AreOfWorkers workers history → IfSome told (λ bytes. bytes ≡ prior ++ journal_of opening history)
-      → ServedDesk moments random turns_at error_frame private_frame opens ends journal opening workers ps os ns history table prior told
+      → ServedDesk moments random turns_at error_frame private_frame opens holds has_kdc opening workers ps os ns history table prior told
   served_desk opening ps os qs ns history table prior told order h whole legal brings numbered is_told = record {
     legal = legal.0;
     agrees = legal.1;
@@ -133,7 +136,7 @@ module _ {I G C X J : Type 0} (moments : C → Moment → C → Type 0) (random 
       → IfOk r (λ a. IsLegal opening (history_of a) × Agrees (table_of a).state (outcome opening (history_of a)))
       → IfOk r (λ a. AreWhole opening (history_of a)) → IfOk r (λ a. IsNumbered (history_of a) × AreOfWorkers workers (history_of a))
       → IfOk r (λ a. IfSome (told_of a) (λ bytes. bytes ≡ prior ++ journal_of opening (history_of a)))
-      → IfOk r (λ a. ServedDesk moments random turns_at error_frame private_frame opens ends journal opening workers ps os ns
+      → IfOk r (λ a. ServedDesk moments random turns_at error_frame private_frame opens holds has_kdc opening workers ps os ns
       (history_of a) (table_of a) prior (told_of a))
   served_if_closed (Ok a) history_of table_of told_of prior opening ps os qs ns order h whole legal brings numbered is_told =
       served_desk opening ps os qs ns (history_of a) (table_of a) prior (told_of a) order h whole legal brings numbered is_told

@@ -15,8 +15,8 @@ use Rattle.chpw_book.proofs.pass.Pass.TheSendSync as pass
 use Rattle.chpw_workers.specs.contracts.context.Context as Context
 use Rattle.chpw_workers.specs.contracts.shift.Placed as Placed
 
-pub context_sync : (a : NamedLft) (M J T : RattleType) → IsSync M → IsSync J → IsSync T → IsSync (Context.the_row a M J T)
-context_sync a M J T m j t = search (global.the_field_sync, sendable) depth 20
+pub context_sync : (a : NamedLft) (M T : RattleType) → IsSync M → IsSync T → IsSync (Context.the_row a M T)
+context_sync a M T m t = search (global.the_field_sync, sendable) depth 20
 
 pub placed_send : (D I G C X : RattleType) (g : DeskName.Ghosts D.Denot) (g' : Ledger.Ghosts D.Denot) (g'' : LogName.Ghosts D.Denot)
     → IsSend D → IsSend I → IsSend G → IsSend C → IsSend X → IsSend (Placed.the_row D I G C X g g' g'')

@@ -1,23 +1,25 @@
 -- Workers at a desk, one after the other.
-use Rattle.std.proofs.Common.{◌≡◌, ℕ, ◌+◌, List, [], ◌∷◌, ◌++◌, Option, length, refl, sym, subst, arith}
+use Rattle.std.proofs.Common.{◌≡◌, ℕ, Bool, ◌+◌, List, [], ◌∷◌, ◌++◌, Option, length, refl, sym, subst, arith}
 use Rattle.std.proofs.lemmas.List.{append-nil}
+use Rattle.chpw_rules.specs.declared.name.Name.{Name}
+use Rattle.chpw_record.specs.declared.key.KeyRow.{KeyRow}
 use Rattle.chpw_table.specs.declared.times.Moment.{Moment}
 use Rattle.chpw_table.specs.Replies.{Answer}
 use Rattle.chpw_serve.specs.declared.messages.Seal.{Seal}
 use Rattle.chpw_serve.specs.Requests.{Opens}
 use Rattle.chpw_book.specs.Passes.{PassView}
-use Rattle.chpw_connections.specs.declared.taking.Turn.{Turn}
+use Rattle.chpw_workers.specs.declared.inbox.WorkerTurn.{WorkerTurn}
 use Rattle.chpw_workers.specs.declared.worker.Worker.{Worker}
 use Rattle.chpw_workers.specs.Shifts.{IsShift, AreShifts}
 
-module _ {I G C X J : Type 0} (moments : C → Moment → C → Type 0) (random : X → ℕ → X → Type 0) (turns_at : I → List Turn)
+module _ {I G C X : Type 0} (moments : C → Moment → C → Type 0) (random : X → ℕ → X → Type 0) (turns_at : I → List WorkerTurn)
     (error_frame : Answer → Moment → List ℕ) (private_frame : Seal → Answer → List ℕ → List ℕ)
-    (opens : List ℕ → List ℕ → Opens → Type 0) (ends : J → Option ℕ → Type 0) (journal : J) where
+    (opens : List ℕ → List ℕ → Opens → Type 0) (holds : Name → Option KeyRow → Type 0) (has_kdc : Bool) where
   abbrev One : PassView → Worker I G C X → PassView → Worker I G C X → Type 0
-  One = IsShift moments random turns_at error_frame private_frame opens ends journal
+  One = IsShift moments random turns_at error_frame private_frame opens holds has_kdc
 
   abbrev Each : List PassView → List (Worker I G C X) → List PassView → List (Worker I G C X) → Type 0
-  Each = AreShifts moments random turns_at error_frame private_frame opens ends journal
+  Each = AreShifts moments random turns_at error_frame private_frame opens holds has_kdc
 
   -- one that took no turn
   idle : (p : PassView) (o : Worker I G C X) → One p o p o

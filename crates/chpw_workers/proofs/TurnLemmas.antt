@@ -22,7 +22,8 @@ use Rattle.chpw_serve.specs.InTurn.{InTurn}
 use Rattle.chpw_serve.specs.Serving as serving
 use Rattle.chpw_serve.specs.Serving.{StreamState, Around, Answers, Serves, Refuses, IsEnd, IsServed, Leaves, StaysOtherwise, message_too_long}
 use Rattle.chpw_serve.proofs.ChainLemmas.{took}
-use Rattle.chpw_connections.specs.declared.taking.Turn.{Turn}
+use Rattle.chpw_connections.specs.declared.taking.Reply.{Reply}
+use Rattle.chpw_connections.specs.declared.taking.TakenMessage.{TakenMessage}
 use Rattle.chpw_workers.specs.Replies.{IsReplyWith, IsReplyBehind}
 use Rattle.chpw_connections.specs.Turns.{message_of, peer_of}
 use Rattle.chpw_workers.specs.Turns.{At, at, Comes, AddsEntry}
@@ -64,12 +65,12 @@ nothing_behind m text (inr h) e = (let k = h.0 in absurd cc)
 module _ {C X D G : Type 0} (error_frame : Answer → Moment → List ℕ) (private_frame : Seal → Answer → List ℕ → List ℕ)
     (may_be_full : D → List Receipt → Type 0) (gathered : D → List Receipt) (follows : D → D → Type 0) (made : D → Option ℕ → Type 0)
     (passes : G → Spot → G → Type 0) (hears : G → Heard → G → Type 0) (opens : List ℕ → List ℕ → Opens → Type 0)
-    (moments : C → Moment → C → Type 0) (random : X → ℕ → X → Type 0) (t : Turn) where
+    (moments : C → Moment → C → Type 0) (random : X → ℕ → X → Type 0) (taken : TakenMessage) (its_reply : Option Reply) where
   abbrev answers : List ℕ → List ℕ → Moment → D → D → G → G → List ℕ → Bool → Type 0
-  answers = Answering error_frame private_frame may_be_full gathered follows made passes hears (opens (peer_of t.taken)) (peer_of t.taken)
+  answers = Answering error_frame private_frame may_be_full gathered follows made passes hears (opens (peer_of taken)) (peer_of taken)
 
   abbrev adds : List ℕ → Moment → D → D → G → G → Type 0
-  adds = Unanswered gathered follows made passes hears (opens (peer_of t.taken)) (peer_of t.taken)
+  adds = Unanswered gathered follows made passes hears (opens (peer_of taken)) (peer_of taken)
 
   abbrev refusal : Moment → List ℕ
   refusal now = error_frame message_too_long now
@@ -78,23 +79,23 @@ module _ {C X D G : Type 0} (error_frame : Answer → Moment → List ℕ) (priv
   here d a = at (gathered d) a.clock a.words
 
   abbrev Came : D → Around C X G → D → Around C X G → Type 0
-  Came d a e b = Comes moments random error_frame private_frame opens (may_be_full e) t (here d a) (here e b)
+  Came d a e b = Comes moments random error_frame private_frame opens (may_be_full e) taken its_reply (here d a) (here e b)
 
   abbrev AddsOne : Moment → List Receipt → List Receipt → Type 0
-  AddsOne now old new = (new ≡ old) ⊎ AddsEntry opens t now old new
+  AddsOne now old new = (new ≡ old) ⊎ AddsEntry opens taken now old new
 
   -- an answer adds an entry at the most
   one_more : (full : Type 0) (text words : List ℕ) (now : Moment) (old new : List Receipt) (bytes : List ℕ)
-      → next_piece (message_of t.taken) ≡ message text
-      → IsAnswer error_frame private_frame full (opens (peer_of t.taken) text) words now old new bytes → AddsOne now old new
+      → next_piece (message_of taken) ≡ message text
+      → IsAnswer error_frame private_frame full (opens (peer_of taken) text) words now old new bytes → AddsOne now old new
   one_more full text words now old new bytes is (refused a, o, h) = inl h.0
   one_more full text words now old new bytes is (opened q, o, inl h) = inl h.0
   one_more full text words now old new bytes is (opened q, o, inr h) =
       inr (record { text = text; request = q; counts = h.1; verdict = h.0; text_is = is; opens_so = o; adds = h.2 })
 
   -- and so does a message for whose answer memory ran out
-  one_left : (text : List ℕ) (now : Moment) (d e : D) (calls : _) → next_piece (message_of t.taken) ≡ message text
-      → AreCallsUnanswered (peer_of t.taken) now (made e) (gathered d) (gathered e) (opens (peer_of t.taken) text) calls
+  one_left : (text : List ℕ) (now : Moment) (d e : D) (calls : _) → next_piece (message_of taken) ≡ message text
+      → AreCallsUnanswered (peer_of taken) now (made e) (gathered d) (gathered e) (opens (peer_of taken) text) calls
       → AddsOne now (gathered d) (gathered e)
   one_left text now d e calls is (inl k) = inl k.0
   one_left text now d e calls is (inr (refused a, o, k)) = inl k.0
@@ -102,22 +103,22 @@ module _ {C X D G : Type 0} (error_frame : Answer → Moment → List ℕ) (priv
   one_left text now d e calls is (inr (opened q, o, inr k)) =
       inr (record { text = text; request = q; counts = k.1; verdict = k.0; text_is = is; opens_so = o; adds = k.2 })
 
-  left_same : (d e : D) (a b : Around C X G) → b ≡ a → e ≡ d → t.reply ≡ None → Came d a e b
+  left_same : (d e : D) (a b : Around C X G) → b ≡ a → e ≡ d → its_reply ≡ None → Came d a e b
   left_same d e a b same_around same_decider none = inr (inr (record {
     left = inl (ap (λ (k : Around C X G). here e k) same_around ∙ ap (λ (k : D). here k a) same_decider);
     reply = none;
   }))
 
-  left_refused : (d e : D) (a b : Around C X G) (bytes : List ℕ) → Refuses refusal moments random hears (peer_of t.taken) a b bytes
-      → e ≡ d → t.reply ≡ None → Came d a e b
+  left_refused : (d e : D) (a b : Around C X G) (bytes : List ℕ) → Refuses refusal moments random hears (peer_of taken) a b bytes
+      → e ≡ d → its_reply ≡ None → Came d a e b
   left_refused d e a b bytes r same none = inr (inr (record {
     left = inr (r.moment, r.words, record { moment_is = r.moment_is; words_are = r.words_are; nine = r.nine }, inl (ap gathered same));
     reply = none;
   }))
 
-  left_answered : (written : Bool) (before after : StreamState C X D G) (x : serving.Turn) → next_piece (message_of t.taken) ≡ message x.text
-      → Answers answers adds refusal moments random passes hears (peer_of t.taken) written before x after
-      → t.reply ≡ None → Came before.decider before.around after.decider after.around
+  left_answered : (written : Bool) (before after : StreamState C X D G) (x : serving.Turn) → next_piece (message_of taken) ≡ message x.text
+      → Answers answers adds refusal moments random passes hears (peer_of taken) written before x after
+      → its_reply ≡ None → Came before.decider before.around after.decider after.around
   left_answered written before after x is h none = inr (inr (record {
     left = inr (
       x.moment,
@@ -129,8 +130,8 @@ module _ {C X D G : Type 0} (error_frame : Answer → Moment → List ℕ) (priv
   }))
 
   left_open : (before after : StreamState C X D G)
-      → (h : Leaves answers adds refusal moments random passes hears (peer_of t.taken) before after)
-      → next_piece (message_of t.taken) ≡ message h.text → t.reply ≡ None
+      → (h : Leaves answers adds refusal moments random passes hears (peer_of taken) before after)
+      → next_piece (message_of taken) ≡ message h.text → its_reply ≡ None
       → Came before.decider before.around after.decider after.around
   left_open before after h is none = inr (inr (record {
     left = inr (
@@ -147,13 +148,13 @@ module _ {C X D G : Type 0} (error_frame : Answer → Moment → List ℕ) (priv
   stays d e f a b c same_around same_decider h =
       subst (λ (k : Around C X G). Came d a f k) (sym same_around) (subst (λ (k : D). Came d a k b) (sym same_decider) h)
 
-  module _ (m bytes : List ℕ) (is : message_of t.taken ≡ m) (piece : IsPiece m) where
+  module _ (m bytes : List ℕ) (is : message_of taken ≡ m) (piece : IsPiece m) where
     abbrev Ends : Ended → ℕ → StreamState C X D G → StreamState C X D G → Type 0
-    Ends e n last final = IsEnd answers adds refusal moments random passes hears (peer_of t.taken) e n last final
+    Ends e n last final = IsEnd answers adds refusal moments random passes hears (peer_of taken) e n last final
 
     -- no message was answered
     none_answered : (e : Ended) (start final : StreamState C X D G) → start.left ≡ Some m → start.around.out ≡ Some []
-        → final.around.out ≡ Some bytes → Ends e 0 start final → IsReplyBehind e bytes t.reply
+        → final.around.out ≡ Some bytes → Ends e 0 start final → IsReplyBehind e bytes its_reply
         → Came start.decider start.around final.decider final.around
     none_answered end.Input start final at_start out back (less, h) reply =
         absurd (not_ended m piece (took ended m start.left final.left at_start h.0).0)
@@ -168,7 +169,7 @@ module _ {C X D G : Type 0} (error_frame : Answer → Moment → List ℕ) (priv
           longer = ap next_piece is ∙ (took too_long m start.left final.left at_start h.0).0;
           draws = record { moment_is = r.moment_is; words_are = r.words_are; nine = r.nine };
           none = ap gathered h.2;
-          reply = subst (λ (bs : List ℕ). IsReplyWith bs true t.reply) same reply;
+          reply = subst (λ (bs : List ℕ). IsReplyWith bs true its_reply) same reply;
         }))
     none_answered end.ReadFault start final at_start out back (less, h) reply = left_same _ _ _ _ h.1.0 h.1.1 reply
     none_answered end.WriteFault start final at_start out back (less, inl h) reply =
@@ -184,8 +185,8 @@ module _ {C X D G : Type 0} (error_frame : Answer → Moment → List ℕ) (priv
 
     -- one was
     one_answered : (e : Ended) (start mid final : StreamState C X D G) (x : serving.Turn) → start.left ≡ Some m → start.around.out ≡ Some []
-        → final.around.out ≡ Some bytes → Serves answers adds refusal moments random passes hears (peer_of t.taken) start x mid
-        → Ends e 1 mid final → IsReplyBehind e bytes t.reply
+        → final.around.out ≡ Some bytes → Serves answers adds refusal moments random passes hears (peer_of taken) start x mid
+        → Ends e 1 mid final → IsReplyBehind e bytes its_reply
         → Came start.decider start.around final.decider final.around
     one_answered e start mid final x at_start out back served ends reply = by_end e ends reply
       where
@@ -198,12 +199,12 @@ module _ {C X D G : Type 0} (error_frame : Answer → Moment → List ℕ) (priv
         unread : (p : Piece) → TakesPiece p mid.left final.left → ended ≡ p
         unread p h = (took p [] mid.left final.left over h).0
 
-        left_over : StaysOtherwise answers adds refusal moments random passes hears (peer_of t.taken) mid final → t.reply ≡ None
+        left_over : StaysOtherwise answers adds refusal moments random passes hears (peer_of taken) mid final → its_reply ≡ None
             → Came start.decider start.around final.decider final.around
         left_over h none = stays start.decider mid.decider final.decider start.around mid.around final.around h.0 h.1
             (left_answered true start mid x (ap next_piece is ∙ first.0) served.1 none)
 
-        by_end : (e : Ended) → Ends e 1 mid final → IsReplyBehind e bytes t.reply → Came start.decider start.around final.decider final.around
+        by_end : (e : Ended) → Ends e 1 mid final → IsReplyBehind e bytes its_reply → Came start.decider start.around final.decider final.around
         by_end end.Input (less, h) reply =
             let out_same : mid.around.out ≡ Some bytes = ap (λ (k : Around C X G). k.out) (sym h.1.0) ∙ back in
             let same : bytes ≡ sent x.reply = appended start.around.out mid.around.out (sent x.reply) bytes out out_same served.2 in
@@ -215,7 +216,7 @@ module _ {C X D G : Type 0} (error_frame : Answer → Moment → List ℕ) (priv
               text_is = ap next_piece is ∙ first.0;
               draws = record { moment_is = served.1.moment; words_are = served.1.words; nine = served.1.nine };
               answer = served.1.answer.reply;
-              reply = subst (λ (bs : List ℕ). IsReplyWith bs false t.reply) same reply;
+              reply = subst (λ (bs : List ℕ). IsReplyWith bs false its_reply) same reply;
             }))
         by_end end.CutOff (less, h) reply = (let e = unread cut_off h.0 in absurd cc)
         by_end end.TooLong (less, h) reply = (let e = unread too_long h.0 in absurd cc)
@@ -230,8 +231,8 @@ module _ {C X D G : Type 0} (error_frame : Answer → Moment → List ℕ) (priv
     -- and no second one
     by_turns : (e : Ended) (start last final : StreamState C X D G) (turns : List serving.Turn) → start.left ≡ Some m → start.around.out ≡ Some []
         → final.around.out ≡ Some bytes
-        → InTurn (Serves answers adds refusal moments random passes hears (peer_of t.taken)) start turns last
-        → Ends e (length turns) last final → IsReplyBehind e bytes t.reply
+        → InTurn (Serves answers adds refusal moments random passes hears (peer_of taken)) start turns last
+        → Ends e (length turns) last final → IsReplyBehind e bytes its_reply
         → Came start.decider start.around final.decider final.around
     by_turns e start last final [] at_start out back served ends reply =
         none_answered e start final at_start out back (subst (λ (s : StreamState C X D G). Ends e 0 s final) (sym served) ends) reply
@@ -248,7 +249,7 @@ module _ {C X D G : Type 0} (error_frame : Answer → Moment → List ℕ) (priv
     -- what came of a message of which the stream was served
     pub comes : (e : Ended) (start final : StreamState C X D G) → start.left ≡ Some m → start.around.out ≡ Some []
         → final.around.out ≡ Some bytes
-        → IsServed answers adds refusal moments random passes hears (peer_of t.taken) e start final → IsReplyBehind e bytes t.reply
+        → IsServed answers adds refusal moments random passes hears (peer_of taken) e start final → IsReplyBehind e bytes its_reply
         → Came start.decider start.around final.decider final.around
     comes e start final at_start out back served reply =
         by_turns e start served.last final served.turns at_start out back served.served served.end_is reply

@@ -1,6 +1,8 @@
 -- What a desk that was closed had served: the whole, from each message to the history.
-use Rattle.std.specs.Prelude.{◌≡◌, ℕ, ◌+◌, List, [], ◌∷◌, ◌++◌, Option, IfSome, true, map}
+use Rattle.std.specs.Prelude.{◌≡◌, ℕ, Bool, ◌+◌, List, [], ◌∷◌, ◌++◌, Option, IfSome, true, map}
 use Rattle.std.specs.List.{range_with_len}
+use Rattle.chpw_rules.specs.declared.name.Name.{Name}
+use Rattle.chpw_record.specs.declared.key.KeyRow.{KeyRow}
 use Rattle.chpw_table.specs.declared.times.Moment.{Moment}
 use Rattle.chpw_table.specs.declared.history.Entry.{Entry}
 use Rattle.chpw_table.specs.Agreement.{Held, Agrees}
@@ -14,7 +16,7 @@ use Rattle.chpw_journal.specs.Runs.{AreWhole}
 use Rattle.chpw_book.specs.Passes.{PassView}
 use Rattle.chpw_book.specs.Closing.{is_full}
 use Rattle.chpw_book.specs.Receipts.{IsNumbered, AreOfWorkers}
-use Rattle.chpw_connections.specs.declared.taking.Turn.{Turn}
+use Rattle.chpw_workers.specs.declared.inbox.WorkerTurn.{WorkerTurn}
 use Rattle.chpw_workers.specs.declared.worker.Worker.{Worker}
 use Rattle.chpw_workers.specs.Turns.{At, at, AreTurns}
 use Rattle.chpw_workers.specs.Shifts.{at_worker}
@@ -23,17 +25,17 @@ use Rattle.chpw_workers.specs.Shifts.{at_worker}
 abbrev pub AreInOrder : ℕ → List PassView → Type 0
 AreInOrder workers passes = map (λ (p : PassView). p.worker) passes ≡ range_with_len 0 workers
 
-module _ {I G C X J : Type 0} (moments : C → Moment → C → Type 0) (random : X → ℕ → X → Type 0) (turns_at : I → List Turn)
+module _ {I G C X : Type 0} (moments : C → Moment → C → Type 0) (random : X → ℕ → X → Type 0) (turns_at : I → List WorkerTurn)
     (error_frame : Answer → Moment → List ℕ) (private_frame : Seal → Answer → List ℕ → List ℕ)
-    (opens : List ℕ → List ℕ → Opens → Type 0) (ends : J → Option ℕ → Type 0) (end_of : J) where
+    (opens : List ℕ → List ℕ → Opens → Type 0) (holds : Name → Option KeyRow → Type 0) (has_kdc : Bool) where
   -- The turns that a worker's inbox gained, one after the other, took it from the receipts that it had to its calls in the
   -- history: so each reply is the answer to its own message, each entry of the worker's came of one turn, is of the request
   -- that the turn's message opened to, and has the verdict that its reply carries, if memory sufficed for one; and they stand in
   -- the order of the turns. A turn was told that the history is full only if it is.
   pub record IsServedBy (w : ℕ) (pass : PassView) (old new : Worker I G C X) (history : List Entry) (table : Held) : Type 0 where
-    pub turns : List Turn
+    pub turns : List WorkerTurn
     pub gained : turns_at new.inbox ≡ turns_at old.inbox ++ turns
-    pub are : AreTurns moments random error_frame private_frame opens (λ receipts. is_full table ≡ true) ends end_of
+    pub are : AreTurns moments random error_frame private_frame opens (λ receipts. is_full table ≡ true) holds has_kdc
         (at pass.receipts old.clock old.words) turns (at (calls history w) new.clock new.words)
 
   -- for each worker, from this number on

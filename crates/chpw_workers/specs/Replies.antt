@@ -1,9 +1,14 @@
 -- What a worker answers to one message, and when a history is full after it.
-use Rattle.std.specs.Prelude.{◌≡◌, ℕ, ◌+◌, ◌-◌, List, Bool, true, false, Option, Some, None, IsSomeAnd, MatchBool, nat_le, nat_lt, ◌&&◌, length, slice_get}
+use Rattle.std.specs.Prelude.{◌≡◌, ℕ, ◌+◌, ◌-◌, List, Bool, true, false, Option, Some, None, IsSomeAnd, MatchOption}
+use Rattle.std.specs.Prelude.{nat_le, nat_lt, if◌then◌else◌, option_and_then, length, slice_get}
 use Rattle.chpw_serve.specs.declared.serving.Ended.{Ended}
 use Rattle.chpw_serve.specs.declared.serving.Ended.TheVariants as end
 use Rattle.chpw_table.specs.declared.history.Receipt.{Receipt}
-use Rattle.chpw_table.specs.History.{is_accepted}
+use Rattle.chpw_rules.specs.declared.name.Name.{Name}
+use Rattle.chpw_record.specs.declared.key.KeyRow.{KeyRow}
+use Rattle.chpw_decider.specs.Making.{name_changed}
+use Rattle.chpw_connections.specs.declared.kdc_change.KdcChange.{KdcChange}
+use Rattle.chpw_connections.specs.declared.kdc_change.KdcChange.TheVariants as change
 use Rattle.chpw_connections.specs.declared.taking.Reply.{Reply}
 
 abbrev pub IsReplyWith : List ℕ → Bool → Option Reply → Type 0
@@ -26,14 +31,20 @@ is_last_of (Some r) (Some room) = nat_le room (r.position + 1)
 abbrev pub fills_at : List Receipt → Option ℕ → Bool
 fills_at receipts room = is_last_of (slice_get receipts (length receipts - 1)) room
 
-abbrev pub is_of_change : Option Receipt → Bool
-is_of_change None = false
-is_of_change (Some r) = is_accepted r.entry.event
+-- the principal whose keys the newest of these receipts changed, if there is one more than before
+abbrev pub name_changed_after : ℕ → List Receipt → Option Name
+name_changed_after before receipts =
+    if nat_lt before (length receipts)
+    then option_and_then (λ (r : Receipt). name_changed r.entry.event) (slice_get receipts (length receipts - 1))
+    else None
 
--- there is one more than before, and the newest is of a change
-abbrev pub has_changed_after : ℕ → List Receipt → Bool
-has_changed_after before receipts = nat_lt before (length receipts) && is_of_change (slice_get receipts (length receipts - 1))
+-- What a turn leaves to be put into the KDC's database: nothing without a change, or a KDC, or where the name isn't held any
+-- more; and otherwise the name's newest key, unless memory ran out for it.
+abbrev pub IsChangeOf : (Name → Option KeyRow → Type 0) → Name → KdcChange → Type 0
+IsChangeOf holds name change.Nothing = holds name None
+IsChangeOf holds name (change.Key c) = (c.name ≡ name) × holds name (Some c.key)
+IsChangeOf holds name change.Lost = Unit {0}
 
--- the journal's end that a reply waits for: one behind its change, and none without a change
-abbrev pub IsChangeBehind : {J : Type 0} → (J → Option ℕ → Type 0) → J → ℕ → List Receipt → Option ℕ → Type 0
-IsChangeBehind ends journal before receipts change = MatchBool (has_changed_after before receipts) (ends journal change) (change ≡ None)
+abbrev pub IsKdcChange : (Name → Option KeyRow → Type 0) → Bool → ℕ → List Receipt → KdcChange → Type 0
+IsKdcChange holds has_kdc before receipts left =
+    MatchOption (if has_kdc then name_changed_after before receipts else None) (left ≡ change.Nothing) (λ name. IsChangeOf holds name left)

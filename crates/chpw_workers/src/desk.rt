@@ -1,6 +1,7 @@
 //! A desk that workers serve, from its start to its close.
 ghost use Rattle.std.specs.Prelude.{◌≡◌, IfOk, IfErr};
 ghost use Rattle.chpw_changelog.specs.Pens.{opening_state};
+ghost use Rattle.chpw_book.specs.Newest.{IsHeldAfter};
 ghost use Rattle.chpw_book.specs.Closing.{is_full, IsRefusal};
 ghost use Rattle.chpw_book.specs.Recorded.{IsLinearized};
 ghost use Rattle.chpw_workers.specs.Desks.{AreInOrder, ServedDesk};
@@ -8,11 +9,10 @@ ghost use Rattle.chpw_workers.specs.Shifts.{AreShifts};
 
 use crate::context::Context;
 use crate::inbox::{Crew, Inbox};
-use crate::journal_end::JournalEnd;
 use crate::shift::{BackgroundTask, NotStarted, Shift, Staff, run_shift};
 use crate::worker::Worker;
 use chpw_book::{CloseRefused, Closed, Desk, DeskName};
-use chpw_serve::{Clock, Gate, Messages, Observer, Words};
+use chpw_serve::{Clock, Gate, Messages, Observer, UpdateObserver, Words};
 use chpw_table::JournalSink;
 use std::sync::Wait;
 use std::thread::Threads;
@@ -32,28 +32,27 @@ pub fn serve_desk<
     D: DeskName + Send + Sync,
     S: JournalSink + Send,
     I: Inbox + Send + Drop,
-    G: Gate + Observer + Send + Drop,
+    G: Gate + Observer + UpdateObserver + Send + Drop,
     C: Clock + Send + Drop,
     X: Words + Send + Drop,
-    J: JournalEnd + Sync,
     T: Crew + Sync,
     W: BackgroundTask + Drop,
 >(
     rt: &R,
-    context: &Context<'_, M, J, T>,
+    context: &Context<'_, M, T>,
     desk: Desk<D, S>,
     staff: Staff<D, I, G, C, X>,
     meanwhile: W,
 ) -> (AfterDesk<D, S, I, G, C, X>, Result<W::Done, NotStarted>)
     requires passes { AreInOrder D.workers staff.passes.items }
     ensures served { IfOk result.0.closed (λ c. ServedDesk C.gives X.gives I.turns (M.error_frame context.now.service.now)
-        (M.private_frame context.now.service.now) (M.opens context.now.service.now) J.ends context.now.journal.now
+        (M.private_frame context.now.service.now) (M.opens context.now.service.now) (IsHeldAfter (opening_state D.root)) context.now.has_kdc
         (opening_state D.root) D.workers staff.passes.items staff.workers.items result.0.workers.items
         c.history.items c.table D.prior (S.told c.sink)) }
     ensures refusal { IfErr result.0.closed (λ r. (b : _) × IsLinearized (opening_state D.root) D.workers D.prior b
         × IsRefusal b.history (is_full b.table) D.workers r.passes.items r.fault) }
     ensures turns { IfErr result.0.closed (λ r. AreShifts C.gives X.gives I.turns (M.error_frame context.now.service.now)
-        (M.private_frame context.now.service.now) (M.opens context.now.service.now) J.ends context.now.journal.now
+        (M.private_frame context.now.service.now) (M.opens context.now.service.now) (IsHeldAfter (opening_state D.root)) context.now.has_kdc
         staff.passes.items staff.workers.items r.passes.items result.0.workers.items) }
     ensures done { IfOk result.1 (W.gives meanwhile) }
 {
@@ -73,17 +72,16 @@ pub fn close_desk<
     G,
     C: Clock,
     X: Words,
-    J: JournalEnd,
     T,
 >(
     rt: &R,
-    context: &Context<'_, M, J, T>,
+    context: &Context<'_, M, T>,
     desk: Desk<D, S>,
     staff: Staff<D, I, G, C, X>,
 ) -> AfterDesk<D, S, I, G, C, X>
     requires passes { AreInOrder D.workers staff.passes.items }
     ensures served { IfOk result.closed (λ c. ServedDesk C.gives X.gives I.turns (M.error_frame context.now.service.now)
-        (M.private_frame context.now.service.now) (M.opens context.now.service.now) J.ends context.now.journal.now
+        (M.private_frame context.now.service.now) (M.opens context.now.service.now) (IsHeldAfter (opening_state D.root)) context.now.has_kdc
         (opening_state D.root) D.workers staff.passes.items staff.workers.items result.workers.items
         c.history.items c.table D.prior (S.told c.sink)) }
     ensures refusal { IfErr result.closed (λ r. (b : _) × IsLinearized (opening_state D.root) D.workers D.prior b

@@ -6,15 +6,15 @@ mod clock;
 mod context;
 mod desk;
 mod inbox;
-mod journal_end;
 pub mod laws;
 mod shift;
+mod updates;
 mod worker;
 
 pub use clock::{MachineClock, machine_moment};
 pub use context::Context;
 pub use desk::{AfterDesk, close_desk, serve_desk};
-pub use inbox::{Crew, Inbox};
-pub use journal_end::{JournalEnd, NoJournal};
+pub use inbox::{Crew, Inbox, Task, WorkerTurn};
 pub use shift::{BackgroundTask, NotStarted, Shift, Staff, run_shift, serve_at};
+pub use updates::{FittingUpdate, KdcDecider, UpdateTurn};
 pub use worker::Worker;

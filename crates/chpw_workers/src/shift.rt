@@ -1,13 +1,14 @@
 //! The workers of a service at a desk, each in a thread of its own.
 ghost use Rattle.std.specs.Prelude.{◌≡◌, ◌≤◌, ◌<◌, ◌++◌, ◌∷◌, [], length, vec_len, vec_capacity, IfOk, IfErr, ⊤};
+ghost use Rattle.chpw_changelog.specs.Pens.{opening_state};
+ghost use Rattle.chpw_book.specs.Newest.{IsHeldAfter};
 ghost use Rattle.chpw_workers.specs.Shifts.{AreShifts, IsShift};
 
 use crate::context::Context;
 use crate::inbox::{Crew, Inbox};
-use crate::journal_end::JournalEnd;
 use crate::worker::{Worker, work};
 use chpw_book::{AtDesk, Desk, DeskName, Pass};
-use chpw_serve::{Clock, Gate, Messages, Observer, Words};
+use chpw_serve::{Clock, Gate, Messages, Observer, UpdateObserver, Words};
 use chpw_table::JournalSink;
 use std::snapshot::Snapshot;
 use std::sync::Wait;
@@ -62,21 +63,20 @@ pub fn run_shift<
     D: DeskName + Send + Sync,
     S: JournalSink + Send,
     I: Inbox + Send + Drop,
-    G: Gate + Observer + Send + Drop,
+    G: Gate + Observer + UpdateObserver + Send + Drop,
     C: Clock + Send + Drop,
     X: Words + Send + Drop,
-    J: JournalEnd + Sync,
     T: Crew + Sync,
     W: BackgroundTask + Drop,
 >(
     rt: &R,
-    context: &Context<'_, M, J, T>,
+    context: &Context<'_, M, T>,
     desk: &Desk<D, S>,
     staff: Staff<D, I, G, C, X>,
     meanwhile: W,
 ) -> Shift<D, I, G, C, X, W::Done>
     ensures shifts { AreShifts C.gives X.gives I.turns (M.error_frame context.now.service.now) (M.private_frame context.now.service.now)
-        (M.opens context.now.service.now) J.ends context.now.journal.now
+        (M.opens context.now.service.now) (IsHeldAfter (opening_state D.root)) context.now.has_kdc
         staff.passes.items staff.workers.items result.staff.passes.items result.staff.workers.items }
     ensures done { IfOk result.done (W.gives meanwhile) }
 {
@@ -85,7 +85,8 @@ pub fn run_shift<
         rt,
         move |scope| -> Shift<D, I, G, C, X, W::Done>
             ensures { AreShifts C.gives X.gives I.turns (M.error_frame context.entry.now.service.now)
-                (M.private_frame context.entry.now.service.now) (M.opens context.entry.now.service.now) J.ends context.entry.now.journal.now
+                (M.private_frame context.entry.now.service.now) (M.opens context.entry.now.service.now) (IsHeldAfter (opening_state D.root))
+                context.entry.now.has_kdc
                 staff.passes.items staff.workers.items result.staff.passes.items result.staff.workers.items
                 × IfOk result.done (W.gives meanwhile) }
         { place_all(scope, rt, context, desk, staff, meanwhile) },
@@ -104,22 +105,21 @@ fn place_all<
     D: DeskName + Send + Sync + 's,
     S: JournalSink + Send + 's,
     I: Inbox + Send + Drop + 's,
-    G: Gate + Observer + Send + Drop + 's,
+    G: Gate + Observer + UpdateObserver + Send + Drop + 's,
     C: Clock + Send + Drop + 's,
     X: Words + Send + Drop + 's,
-    J: JournalEnd + Sync + 's,
     T: Crew + Sync + 's,
     W: BackgroundTask + Drop + 's,
 >(
     scope: &Scope<'s, &'e ()>,
     rt: &'s R,
-    context: &'s Context<'s, M, J, T>,
+    context: &'s Context<'s, M, T>,
     desk: &'s Desk<D, S>,
     staff: Staff<D, I, G, C, X>,
     meanwhile: W,
 ) -> Shift<D, I, G, C, X, W::Done>
     ensures shifts { AreShifts C.gives X.gives I.turns (M.error_frame context.now.service.now) (M.private_frame context.now.service.now)
-        (M.opens context.now.service.now) J.ends context.now.journal.now
+        (M.opens context.now.service.now) (IsHeldAfter (opening_state D.root)) context.now.has_kdc
         staff.passes.items staff.workers.items result.staff.passes.items result.staff.workers.items }
     ensures done { IfOk result.done (W.gives meanwhile) }
     ensures lengths { (vec_len result.staff.passes ≡ vec_len staff.passes) × (vec_len result.staff.workers ≡ vec_len staff.workers) }
@@ -161,30 +161,26 @@ fn start<
     D: DeskName + Send + Sync + 's,
     S: JournalSink + Send + 's,
     I: Inbox + Send + Drop + 's,
-    G: Gate + Observer + Send + Drop + 's,
+    G: Gate + Observer + UpdateObserver + Send + Drop + 's,
     C: Clock + Send + Drop + 's,
     X: Words + Send + Drop + 's,
-    J: JournalEnd + Sync + 's,
     T: Crew + Sync + 's,
 >(
     scope: &Scope<'s, &'e ()>,
     rt: &'s R,
-    context: &'s Context<'s, M, J, T>,
+    context: &'s Context<'s, M, T>,
     desk: &'s Desk<D, S>,
     placed: Placed<D, I, G, C, X>,
-) -> Result<
-    PromisedHandle<Placed<D, I, G, C, X>, Serves<M, J, D, I, G, C, X>>,
-    Placed<D, I, G, C, X>,
->
+) -> Result<PromisedHandle<Placed<D, I, G, C, X>, Serves<M, D, I, G, C, X>>, Placed<D, I, G, C, X>>
     ensures started { IfOk result (λ h. (h.promise.service.value ≡ context.now.service.now)
-        × (h.promise.journal.value ≡ context.now.journal.now) × (h.promise.placed.value ≡ placed)) }
+        × (h.promise.has_kdc ≡ context.now.has_kdc) × (h.promise.placed.value ≡ placed)) }
     ensures refused { IfErr result (λ p. IsShift C.gives X.gives I.turns (M.error_frame context.now.service.now)
-        (M.private_frame context.now.service.now) (M.opens context.now.service.now) J.ends context.now.journal.now
+        (M.private_frame context.now.service.now) (M.opens context.now.service.now) (IsHeldAfter (opening_state D.root)) context.now.has_kdc
         placed.pass placed.worker p.pass p.worker) }
 {
     let promise = Serves {
         service: Snapshot::of(context.service),
-        journal: Snapshot::of(context.journal),
+        has_kdc: context.has_kdc,
         placed: Snapshot::of(&placed),
     };
     match scope.spawn_with(promise, move || serve_placed(rt, context, desk, placed)) {
@@ -219,19 +215,20 @@ fn with_last<D: DeskName, I, G, C, X>(
 
 // What a worker's thread promises of what it gives back.
 #[derive(Drop)]
-struct Serves<M, J, D: DeskName, I, G, C, X> {
+struct Serves<M, D: DeskName, I, G, C, X> {
     service: Snapshot<M>,
-    journal: Snapshot<J>,
+    has_kdc: bool,
     placed: Snapshot<Placed<D, I, G, C, X>>,
 }
 
-impl<M: Messages, J: JournalEnd, D: DeskName, I: Inbox, G, C: Clock, X: Words> Promise<
-    Placed<D, I, G, C, X>,
-> for Serves<M, J, D, I, G, C, X> {
+impl<M: Messages, D: DeskName, I: Inbox, G, C: Clock, X: Words> Promise<Placed<D, I, G, C, X>>
+    for Serves<M, D, I, G, C, X> {
+    ghost use Rattle.chpw_changelog.specs.Pens.{opening_state};
+    ghost use Rattle.chpw_book.specs.Newest.{IsHeldAfter};
     ghost use Rattle.chpw_workers.specs.Shifts.{IsShift};
 
     ghost kept_by = { λ p done. IsShift C.gives X.gives I.turns (M.error_frame p.service.value) (M.private_frame p.service.value)
-        (M.opens p.service.value) J.ends p.journal.value p.placed.value.pass p.placed.value.worker done.pass done.worker };
+        (M.opens p.service.value) (IsHeldAfter (opening_state D.root)) p.has_kdc p.placed.value.pass p.placed.value.worker done.pass done.worker };
 }
 
 // Answers the messages of a worker's inbox at a desk, in a thread of its own.
@@ -241,19 +238,18 @@ fn serve_placed<
     D: DeskName,
     S: JournalSink,
     I: Inbox,
-    G: Gate + Observer,
+    G: Gate + Observer + UpdateObserver,
     C: Clock,
     X: Words,
-    J: JournalEnd,
     T: Crew,
 >(
     rt: &R,
-    context: &Context<'_, M, J, T>,
+    context: &Context<'_, M, T>,
     desk: &Desk<D, S>,
     placed: Placed<D, I, G, C, X>,
 ) -> Placed<D, I, G, C, X>
     ensures shift { IsShift C.gives X.gives I.turns (M.error_frame context.now.service.now) (M.private_frame context.now.service.now)
-        (M.opens context.now.service.now) J.ends context.now.journal.now placed.pass placed.worker result.pass result.worker }
+        (M.opens context.now.service.now) (IsHeldAfter (opening_state D.root)) context.now.has_kdc placed.pass placed.worker result.pass result.worker }
 {
     let Placed {
         mut pass,
@@ -271,20 +267,19 @@ pub fn serve_at<
     D: DeskName,
     S: JournalSink,
     I: Inbox,
-    G: Gate + Observer,
+    G: Gate + Observer + UpdateObserver,
     C: Clock,
     X: Words,
-    J: JournalEnd,
     T: Crew,
 >(
     rt: &R,
-    context: &Context<'_, M, J, T>,
+    context: &Context<'_, M, T>,
     desk: &Desk<D, S>,
     pass: &mut Pass<D>,
     worker: &mut Worker<I, G, C, X>,
 )
     ensures shift { IsShift C.gives X.gives I.turns (M.error_frame context.now.service.now) (M.private_frame context.now.service.now)
-        (M.opens context.now.service.now) J.ends context.now.journal.now pass.old worker.old pass.new worker.new }
+        (M.opens context.now.service.now) (IsHeldAfter (opening_state D.root)) context.now.has_kdc pass.old worker.old pass.new worker.new }
 {
     let mut decider = AtDesk { rt, desk, pass };
     work(rt, context, &mut decider, worker);

@@ -1,20 +1,23 @@
 //! A worker's turns at a desk.
-ghost use Rattle.std.specs.Prelude.{◌≡◌, ◌++◌, ℕ, List, Option, Some, [], length};
+ghost use Rattle.std.specs.Prelude.{◌≡◌, ◌++◌, ℕ, List, Option, Some, [], length, option_map};
 ghost use Rattle.chpw_connection.specs.Messages.{IsPiece};
 ghost use Rattle.chpw_serve.specs.Answering.{Answering, Unanswered};
 ghost use Rattle.chpw_serve.specs.Serving.{stream_state, message_too_long, IsServed};
 ghost use Rattle.chpw_serve.specs.declared.serving.Ended.{Ended};
-ghost use Rattle.chpw_connections.specs.declared.taking.Turn.{Turn};
-ghost use Rattle.chpw_workers.specs.Replies.{IsChangeBehind, IsReplyBehind, fills_at, has_changed_after};
-ghost use Rattle.chpw_workers.specs.Turns.{at, AreTurns, Comes};
+ghost use Rattle.chpw_workers.specs.declared.inbox.WorkerTurn.{WorkerTurn as turn_spec};
+ghost use Rattle.chpw_workers.specs.Replies.{IsKdcChange, IsReplyBehind, fills_at, name_changed_after};
+ghost use Rattle.chpw_workers.specs.Turns.{at, AreTurns, IsMessageTurn, IsToldTo, IsTurn, IsUpdated};
 ghost use Rattle.chpw_connections.specs.Turns.{message_of, peer_of};
 
 use crate::context::Context;
-use crate::inbox::{Crew, Inbox};
-use crate::journal_end::JournalEnd;
-use chpw_connections::{Reply, TakenMessage, Turn};
-use chpw_decider::Decider;
-use chpw_serve::{Clock, Ended, Gate, Messages, Observer, Words, serve_stream};
+use crate::inbox::{Crew, Inbox, Task, WorkerTurn};
+use crate::updates::{FittingUpdate, KdcDecider, UpdateTurn};
+use chpw_book::DeskUpdateFault;
+use chpw_connections::{KdcChange, Reply, TakenMessage, Turn};
+use chpw_decider::{Decider, changed_by};
+use chpw_record::Change;
+use chpw_rules::Name;
+use chpw_serve::{Clock, Ended, Gate, Messages, Observer, UpdateObserver, Words, serve_stream};
 use chpw_table::Receipt;
 use std::alloc::Global;
 use std::sync::Wait;
@@ -29,32 +32,31 @@ pub struct Worker<I, G, C, X> {
     pub words: X,
 }
 
-/// Answers the messages of a worker's inbox, until none will come any more, or it is to take none for now. The worker whose entry
-/// is the last for which the history has room stops all of them.
+/// Does the tasks of a worker's inbox, until none will come any more, or it is to take none for now. The worker whose entry is the
+/// last for which the history has room stops all of them.
 #[tactic(auto, using(crate::proofs::ChainLemmas::turns_more, crate::proofs::ChainLemmas::turns_lift))]
 pub(crate) fn work<
     R: Wait,
     M: Messages,
-    K: Decider,
+    K: KdcDecider,
     I: Inbox,
-    G: Gate + Observer,
+    G: Gate + Observer + UpdateObserver,
     C: Clock,
     X: Words,
-    J: JournalEnd,
     T: Crew,
->(rt: &R, context: &Context<'_, M, J, T>, decider: &mut K, worker: &mut Worker<I, G, C, X>)
-    ensures turns { (turns : List Turn) × (I.turns worker.new.inbox ≡ I.turns worker.old.inbox ++ turns)
+>(rt: &R, context: &Context<'_, M, T>, decider: &mut K, worker: &mut Worker<I, G, C, X>)
+    ensures turns { (turns : List turn_spec) × (I.turns worker.new.inbox ≡ I.turns worker.old.inbox ++ turns)
         × AreTurns C.gives X.gives (M.error_frame context.now.service.now) (M.private_frame context.now.service.now)
-        (M.opens context.now.service.now) (K.may_be_full decider.new) J.ends context.now.journal.now
+        (M.opens context.now.service.now) (K.may_be_full decider.new) (K.holds decider.new) context.now.has_kdc
         (at (K.gathered decider.old) worker.old.clock worker.old.words) turns
         (at (K.gathered decider.new) worker.new.clock worker.new.words) }
     ensures follows { K.follows decider.old decider.new }
 {
     for _ in rt.forever() {
-        let Some(taken) = worker.inbox.next() else {
+        let Some(task) = worker.inbox.next() else {
             return;
         };
-        let turn = take_turn(context, taken, decider, worker);
+        let turn = do_task(context, task, decider, worker);
         if fills(decider.receipts(), context.room) {
             context.crew.stop();
         }
@@ -62,24 +64,58 @@ pub(crate) fn work<
     }
 }
 
+// Does a task.
+fn do_task<
+    M: Messages,
+    K: KdcDecider,
+    I,
+    G: Gate + Observer + UpdateObserver,
+    C: Clock,
+    X: Words,
+    T,
+>(
+    context: &Context<'_, M, T>,
+    task: Task,
+    decider: &mut K,
+    worker: &mut Worker<I, G, C, X>,
+) -> WorkerTurn
+    ensures turn { IsTurn C.gives X.gives (M.error_frame context.now.service.now) (M.private_frame context.now.service.now)
+        (M.opens context.now.service.now) (K.may_be_full decider.new) (K.holds decider.new) context.now.has_kdc
+        (at (K.gathered decider.old) worker.old.clock worker.old.words) result
+        (at (K.gathered decider.new) worker.new.clock worker.new.words) }
+    ensures follows { K.follows decider.old decider.new }
+    ensures inbox { worker.new.inbox ≡ worker.old.inbox }
+{
+    match task {
+        Task::Message(taken) => WorkerTurn::Message(take_turn(context, taken, decider, worker)),
+        Task::Update(update) => WorkerTurn::Update(take_update(update, decider, worker)),
+    }
+}
+
 // Answers a message.
-fn take_turn<M: Messages, K: Decider, I, G: Gate + Observer, C: Clock, X: Words, J: JournalEnd, T>(
-    context: &Context<'_, M, J, T>,
+fn take_turn<
+    M: Messages,
+    K: KdcDecider,
+    I,
+    G: Gate + Observer + UpdateObserver,
+    C: Clock,
+    X: Words,
+    T,
+>(
+    context: &Context<'_, M, T>,
     taken: TakenMessage,
     decider: &mut K,
     worker: &mut Worker<I, G, C, X>,
 ) -> Turn
-    ensures taken { result.taken ≡ taken }
-    ensures comes { Comes C.gives X.gives (M.error_frame context.now.service.now) (M.private_frame context.now.service.now)
-        (M.opens context.now.service.now) (K.may_be_full decider.new) result
+    ensures turn { IsMessageTurn C.gives X.gives (M.error_frame context.now.service.now) (M.private_frame context.now.service.now)
+        (M.opens context.now.service.now) (K.may_be_full decider.new) (K.holds decider.new) context.now.has_kdc result
         (at (K.gathered decider.old) worker.old.clock worker.old.words) (at (K.gathered decider.new) worker.new.clock worker.new.words) }
-    ensures change { IsChangeBehind J.ends context.now.journal.now (length (K.gathered decider.old)) (K.gathered decider.new) result.change }
     ensures follows { K.follows decider.old decider.new }
     ensures inbox { worker.new.inbox ≡ worker.old.inbox }
 {
     let before = decider.receipts().len();
     let reply = reply_to(context.alloc, context.service, &taken, decider, worker);
-    let change = change_behind(decider.receipts(), before, context.journal);
+    let change = change_after(context.has_kdc, decider, before);
     Turn {
         taken,
         reply,
@@ -87,25 +123,64 @@ fn take_turn<M: Messages, K: Decider, I, G: Gate + Observer, C: Clock, X: Words,
     }
 }
 
-// The end of the journal behind the newest of these receipts, if that is of a change and was not among the first
-// `before`.
-fn change_behind<J: JournalEnd>(receipts: &[Receipt], before: usize, journal: &J) -> Option<u64>
-    ensures value { IsChangeBehind J.ends journal.now before receipts.now result }
+// Decides what the KDC says of a principal.
+fn take_update<K: KdcDecider, I, G: UpdateObserver, C: Clock, X>(
+    update: FittingUpdate,
+    decider: &mut K,
+    worker: &mut Worker<I, G, C, X>,
+) -> UpdateTurn
+    ensures updated { IsUpdated C.gives (K.holds decider.new) result
+        (at (K.gathered decider.old) worker.old.clock worker.old.words) (at (K.gathered decider.new) worker.new.clock worker.new.words) }
+    ensures heard { IsToldTo G.hears_update worker.old.gate result worker.new.gate }
+    ensures follows { K.follows decider.old decider.new }
+    ensures inbox { worker.new.inbox ≡ worker.old.inbox }
 {
-    if has_changed(receipts, before) {
-        journal.journal_end()
-    } else {
-        None
+    let update = update.update();
+    let now = worker.clock.now();
+    let outcome = match update.clone() {
+        Ok(copy) => decider.update(now, copy),
+        Err(_) => Err(DeskUpdateFault::Memory),
+    };
+    if let Ok(verdict) = outcome {
+        worker.gate.updated(now, &update, verdict);
+    }
+    let newest = decider.newest_key(update.name());
+    UpdateTurn {
+        update,
+        outcome,
+        newest,
     }
 }
 
-// Whether there is one more receipt than `before`, and the newest is of a change.
-fn has_changed(receipts: &[Receipt], before: usize) -> bool
-    ensures value { result ≡ has_changed_after before receipts.now }
+// What is to be put into the KDC's database, if there is one, where the newest receipt is of a change and was not among the first
+// `before`.
+fn change_after<K: KdcDecider>(has_kdc: bool, decider: &mut K, before: usize) -> KdcChange
+    ensures value { IsKdcChange (K.holds decider.new) has_kdc before (K.gathered decider.new) result }
+    ensures receipts { K.gathered decider.new ≡ K.gathered decider.old }
+    ensures follows { K.follows decider.old decider.new }
+{
+    if !has_kdc {
+        return KdcChange::Nothing;
+    }
+    let Some(changed) = name_changed(decider.receipts(), before) else {
+        return KdcChange::Nothing;
+    };
+    let Ok(name) = changed.clone() else {
+        return KdcChange::Lost;
+    };
+    match decider.newest_key(&name) {
+        None => KdcChange::Nothing,
+        Some(key) => KdcChange::Key(Change { name, key }),
+    }
+}
+
+// The principal whose keys the newest of these receipts changed, if there are more than `before`.
+fn name_changed(receipts: &[Receipt], before: usize) -> Option<&Name>
+    ensures value { option_map (λ name. name.now) result ≡ name_changed_after before receipts.now }
 {
     match receipts.last() {
-        Some(receipt) => receipts.len() > before && receipt.entry.event.is_accepted(),
-        None => false,
+        Some(receipt) if receipts.len() > before => changed_by(&receipt.entry.event),
+        _ => None,
     }
 }
 
@@ -120,7 +195,7 @@ fn fills(receipts: &[Receipt], room: Option<u32>) -> bool
 }
 
 // Answers a message in memory, as a stream of this message alone. None if memory ran out.
-fn reply_to<M: Messages, K: Decider, I, G: Gate + Observer, C: Clock, X: Words>(
+fn reply_to<M: Messages, K: Decider, I, G: Gate + Observer + UpdateObserver, C: Clock, X: Words>(
     alloc: Global,
     service: &M,
     taken: &TakenMessage,

@@ -15,7 +15,6 @@ scoped-requires g c =
         passed_sync 0 _ g.row.R t.sync-R,
         passed_sync 1 _ g.row.M t.sync-M,
         passed_sync 2 _ g.row.D t.sync-D,
-        passed_sync 8 _ g.row.J t.sync-J,
-        passed_sync 9 _ g.row.T t.sync-T,
+        passed_sync 8 _ g.row.T t.sync-T,
       );
     }

@@ -10,6 +10,7 @@ pub loop-init : goal.loop-init
 loop-init c = record {
   bounds = refl;
   runs = stays;
+  kdc = refl;
   others = λ other differs. refl;
   kept = remains (slice_get c.args.self.now.sockets.by_slot.items c.args.slot);
 }
@@ -19,6 +20,7 @@ returns-in-Queued c = record {
   runs = runs_on (bounds_of c.args.self.now.state.connections) (bounds_of c.loop.self.state.connections) c.args.now c.args.slot
       (slots_of c.args.self.now.state.connections) (slots_of c.loop.self.state.connections) (slots_of c.step.new.self.state.connections)
       c.loop.invariant.bounds c.loop.invariant.runs c.step.ensures.steps;
+  kdc = c.step.ensures.kdc ∙ c.loop.invariant.kdc;
   others = λ other differs. c.step.ensures.others other differs ∙ c.loop.invariant.others other differs;
   kept = remains_on (todo_in (get (slots_of c.loop.self.state.connections) c.args.slot))
       (slice_get c.args.self.now.sockets.by_slot.items c.args.slot) (slice_get c.loop.self.sockets.by_slot.items c.args.slot)
@@ -31,6 +33,7 @@ loop-preserved c = record {
   runs = runs_on (bounds_of c.args.self.now.state.connections) (bounds_of c.loop.self.state.connections) c.args.now c.args.slot
       (slots_of c.args.self.now.state.connections) (slots_of c.loop.self.state.connections) (slots_of c.step.new.self.state.connections)
       c.loop.invariant.bounds c.loop.invariant.runs c.step.ensures.steps;
+  kdc = c.step.ensures.kdc ∙ c.loop.invariant.kdc;
   others = λ other differs. c.step.ensures.others other differs ∙ c.loop.invariant.others other differs;
   kept = remains_on (todo_in (get (slots_of c.loop.self.state.connections) c.args.slot))
       (slice_get c.args.self.now.sockets.by_slot.items c.args.slot) (slice_get c.loop.self.sockets.by_slot.items c.args.slot)

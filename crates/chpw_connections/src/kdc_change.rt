@@ -1,0 +1,14 @@
+//! What a turn leaves to be put into the KDC's database.
+
+use chpw_record::Change;
+
+/// What a turn leaves to be put into the KDC's database.
+#[derive(Drop)]
+pub enum KdcChange {
+    /// Nothing: no change was made, or there is no KDC.
+    Nothing,
+    /// This principal has this key now.
+    Key(Change),
+    /// A change was made, and memory ran out for what it is.
+    Lost,
+}

@@ -1,0 +1,59 @@
+//! The agent at the KDC's database, as a service knows it.
+ghost use Rattle.std.specs.Prelude.{◌≡◌, true, false};
+
+use chpw_connections::Unconfirmed;
+use chpw_kdc::{IsOurs, Notice, ProtocolFault};
+use chpw_rules::Name;
+use mio::net::UnixStream;
+
+/// A service's side of the agent at the KDC's database: where it is, which of the KDC's names are the service's, how long
+/// replies wait for it, and a report of what happens there.
+pub trait KdcTerms: IsOurs {
+    /// The most milliseconds that the reply to a change waits.
+    fn wait(&self) -> u64;
+
+    /// A connection to it; none if nobody listens.
+    fn connect(&mut self) -> Option<UnixStream>;
+
+    /// A connection was made.
+    fn connected(&mut self);
+
+    /// The connection has ended, or couldn't be made; for this reason if the agent has said what it may not.
+    fn lost(&mut self, fault: Option<ProtocolFault>);
+
+    /// The agent has refused something, or something else is to be told once.
+    fn tell(&mut self, notice: Notice);
+
+    /// The reply to this change is sent although the agent hasn't confirmed it.
+    fn unconfirmed(&mut self, change: Unconfirmed);
+}
+
+/// No KDC: no reply waits.
+#[derive(Clone, Copy, PartialEq, Eq, Debug, Drop)]
+pub struct NoKdc;
+
+impl IsOurs for NoKdc {
+    ghost ours = { λ none name. false };
+
+    fn is_ours(&self, _name: &Name) -> bool {
+        false
+    }
+}
+
+impl KdcTerms for NoKdc {
+    fn wait(&self) -> u64 {
+        0
+    }
+
+    fn connect(&mut self) -> Option<UnixStream> {
+        None
+    }
+
+    fn connected(&mut self) {}
+
+    fn lost(&mut self, _fault: Option<ProtocolFault>) {}
+
+    fn tell(&mut self, _notice: Notice) {}
+
+    fn unconfirmed(&mut self, _change: Unconfirmed) {}
+}

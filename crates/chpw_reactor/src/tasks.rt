@@ -1,0 +1,78 @@
+//! What a worker is given to do, and what is noted of it.
+ghost use Rattle.std.specs.Prelude.{◌≡◌, IfSome, Some};
+ghost use Rattle.chpw_table.specs.Updates.{name_in};
+ghost use Rattle.chpw_transfers.specs.Kdc.{IsDecided};
+ghost use Rattle.chpw_reactor.specs.Tasks.{IsTaskOf, may_be_taken_later, table_update, update_for};
+
+use chpw_book::DeskUpdateFault;
+use chpw_rules::Name;
+use chpw_table::{KdcUpdate, UpdateVerdict};
+use chpw_transfers::State;
+use chpw_workers::{FittingUpdate, Task, UpdateTurn};
+
+/// The next task of a worker. The clerk takes what the KDC says and messages in turn.
+pub(crate) fn next_task(state: &mut State, worker: usize, now: u64) -> Option<Task>
+    ensures update { IfSome result (IsTaskOf (update_for worker state.old)) }
+{
+    if let Some(update) = state.take_update(worker) {
+        return update_task(update);
+    }
+    match state.take(worker, now) {
+        Some(taken) => Some(Task::Message(taken)),
+        None => None,
+    }
+}
+
+// An update as a task; none if it isn't within the limits, which the agent's lines are.
+fn update_task(update: chpw_kdc::KdcUpdate) -> Option<Task>
+    ensures update { IfSome result (IsTaskOf (Some update)) }
+{
+    match FittingUpdate::of(table_update(update)) {
+        Some(update) => Some(Task::Update(update)),
+        None => None,
+    }
+}
+
+// The same, as the table knows it.
+fn table_update(update: chpw_kdc::KdcUpdate) -> KdcUpdate
+    ensures value { result ≡ table_update update }
+{
+    match update {
+        chpw_kdc::KdcUpdate::Adopt { name, key } => KdcUpdate::Adopt { name, key },
+        chpw_kdc::KdcUpdate::Lift { name, kvno } => KdcUpdate::Lift { name, kvno },
+        chpw_kdc::KdcUpdate::Remove { name } => KdcUpdate::Remove { name },
+    }
+}
+
+/// A worker has decided what the KDC said, or it was refused. If another try may take it, table and KDC are compared anew.
+pub(crate) fn note_update(state: &mut State, turn: UpdateTurn)
+    ensures decided { IsDecided (name_in turn.update) turn.newest (may_be_taken_later turn.outcome) state.old.kdc state.new.kdc }
+    ensures rest { state.new ≡ record state.old { kdc = state.new.kdc } }
+{
+    let UpdateTurn {
+        update,
+        outcome,
+        newest,
+    } = turn;
+    state.updated(name_of(update), newest, may_be_taken_later(outcome));
+}
+
+// Whether another try may take it: the next history has room, or there may be memory.
+fn may_be_taken_later(outcome: Result<UpdateVerdict, DeskUpdateFault>) -> bool
+    ensures value { result ≡ may_be_taken_later outcome }
+{
+    matches!(
+        outcome,
+        Err(DeskUpdateFault::Full | DeskUpdateFault::NoRoom | DeskUpdateFault::Memory)
+    )
+}
+
+// Its name.
+fn name_of(update: KdcUpdate) -> Name
+    ensures value { result ≡ name_in update }
+{
+    match update {
+        KdcUpdate::Adopt { name, .. } | KdcUpdate::Lift { name, .. } | KdcUpdate::Remove { name } =>
+            name,
+    }
+}
