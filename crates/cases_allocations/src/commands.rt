@@ -166,6 +166,7 @@ fn word_of<'a>(invocation: &Invocation<'a>) -> &'a str {
         Invocation::Check { config } => config,
         Invocation::Table(options) => options.config,
         Invocation::Import(options) => options.keytab,
+        Invocation::ImportKdc(options) => options.socket,
         Invocation::Key(options) => options.name,
         Invocation::Serve(options) => options.journal,
         Invocation::Control(options) => options.socket,

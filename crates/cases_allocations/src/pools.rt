@@ -219,6 +219,6 @@ fn put_left(page: &mut Page, closed: &Closed<MemorySink>, fell: Fell) -> Result<
 fn is_replay(entry: &Entry) -> bool {
     match &entry.event {
         Event::Ask { opened: _, verdict } => *verdict == Verdict::Replay,
-        Event::Raise { .. } => false,
+        Event::Raise { .. } | Event::Update { .. } => false,
     }
 }

@@ -5,7 +5,7 @@ use crate::world::known_name;
 use chpw_book::{Desk, DeskName, Pass};
 use chpw_decider::{Alone, Decider};
 use chpw_journal::MemorySink;
-use chpw_table::{Entry, Event, KeyRow, Lookup, Receipt, Table};
+use chpw_table::{Entry, Event, KdcUpdate, KeyRow, Lookup, Receipt, Table};
 
 /// The principals.
 const NAMES: [&str; 2] = ["alice", "bob"];
@@ -57,6 +57,16 @@ fn event_words(event: &Event) -> (&'static str, u32, &'static str) {
     match event {
         Event::Ask { opened, verdict } => (" of ", opened.cusec, verdict.text()),
         Event::Raise { count, verdict } => (" to ", *count, verdict.text()),
+        Event::Update { update, verdict } => (" from ", version_in(update), verdict.text(update)),
+    }
+}
+
+/// The version that an update has; 0 for none.
+fn version_in(update: &KdcUpdate) -> u32 {
+    match update {
+        KdcUpdate::Adopt { key, .. } => key.kvno,
+        KdcUpdate::Lift { kvno, .. } => *kvno,
+        KdcUpdate::Remove { .. } => 0,
     }
 }
 

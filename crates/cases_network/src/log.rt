@@ -3,6 +3,7 @@
 mod answering;
 mod events;
 mod making;
+mod updates;
 mod words;
 
 use std::alloc::Global;

@@ -31,12 +31,12 @@ abbrev pub told_of : RequestSink → Option (List ℕ)
 told_of s = if s.fails then Some [] else None
 
 -- a record is not empty
-not_empty : (xs ys : List ℕ) → [] ≡ xs ++ 1 ∷ ys → ⊥
-not_empty [] ys h = cc
-not_empty (x ∷ xs) ys h = cc
+pub not_empty : (n : ℕ) (xs ys : List ℕ) → [] ≡ xs ++ n ∷ ys → ⊥
+not_empty n [] ys h = cc
+not_empty n (x ∷ xs) ys h = cc
 
 not_recorded : (b : Bool) (name : Name) (k : KeyRow) → [] ≡ (if b then record_bytes name k else []) → b ≡ false
-not_recorded true name k h = absurd (not_empty (to_be_bytes w16 (length (key_text 1 name k))) _ h)
+not_recorded true name k h = absurd (not_empty 1 (to_be_bytes w16 (length (key_text 1 name k))) _ h)
 not_recorded false name k h = refl
 
 -- only a broken journal answers so where no append fails

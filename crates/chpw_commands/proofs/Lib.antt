@@ -5,5 +5,6 @@ pub mod SetupLemmas
 pub mod AppendLemmas
 pub mod RespondLemmas
 pub mod RaiseLemmas
+pub mod UpdateLemmas
 pub mod RunLemmas
 pub mod StageLemmas

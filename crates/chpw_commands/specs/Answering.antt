@@ -9,6 +9,7 @@ use Rattle.chpw_commands.specs.declared.drill.DrillFault.TheVariants as fault
 abbrev pub IsAnswer : {T : Type 0} → Drilled → Result T DrillFault → Type 0
 IsAnswer d (Ok x) = d.bad ≡ None
 IsAnswer d (Err (fault.Line n)) = d.bad ≡ Some n
+IsAnswer d (Err fault.TooMany) = Unit {0}
 IsAnswer d (Err fault.Memory) = Unit {0}
 IsAnswer d (Err fault.Read) = Unit {0}
 IsAnswer d (Err fault.Write) = Unit {0}
@@ -18,6 +19,7 @@ abbrev pub IsWritten : {T : Type 0} → Drilled → Result T DrillFault → Opti
     → Option (List ℕ) → Type 0
 IsWritten d (Ok x) old new = Appends old new d.output
 IsWritten d (Err (fault.Line n)) old new = Appends old new d.output
+IsWritten d (Err fault.TooMany) old new = Unit {0}
 IsWritten d (Err fault.Memory) old new = Unit {0}
 IsWritten d (Err fault.Read) old new = Unit {0}
 IsWritten d (Err fault.Write) old new = Unit {0}

@@ -4,14 +4,22 @@ use Rattle.std.specs.Fmt.{decimal}
 use Rattle.std.specs.Str.{is_utf8}
 use Rattle.chpw_rules.specs.declared.config.Config.{Config}
 use Rattle.chpw_config.specs.declared.fault.ConfigFault.{ConfigFault}
-use Rattle.chpw_config.specs.Faults.{no_toml, fault_text}
+use Rattle.chpw_config.specs.Faults.{no_toml, fault_text, ◌>>=◌}
+use Rattle.chpw_config.specs.Kdc.{kdc_of}
 use Rattle.chpw_config.specs.Settings.{settings_of}
 use Rattle.chpw_commands.specs.declared.drill.DrillFault.{DrillFault}
 use Rattle.chpw_commands.specs.declared.drill.DrillFault.TheVariants as drill
 
--- the configuration or its first fault; bytes that are not UTF-8 are no TOML
+-- the configuration or its first fault, which may be one of the table [kdc]
+abbrev pub whole_file : List ℕ → Result Config ConfigFault
+whole_file text = do
+  config ← settings_of text
+  _ ← kdc_of text
+  Ok config
+
+-- bytes that are not UTF-8 are no TOML
 abbrev pub checked : List ℕ → Result Config ConfigFault
-checked text = if is_utf8 text then settings_of text else Err no_toml
+checked text = if is_utf8 text then whole_file text else Err no_toml
 
 abbrev pub good_line : Config → List ℕ
 good_line c =
@@ -34,5 +42,6 @@ status_of (Err fault) = 1
 abbrev pub IsCheckFault : DrillFault → Type 0
 IsCheckFault drill.Memory = Unit {0}
 IsCheckFault drill.Write = Unit {0}
+IsCheckFault drill.TooMany = ⊥
 IsCheckFault drill.Read = ⊥
 IsCheckFault (drill.Line n) = ⊥

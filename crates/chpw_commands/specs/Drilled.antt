@@ -37,6 +37,7 @@ drilled script = drilled_from start 1 (lines_of script)
 -- why a command ended early
 abbrev pub fault_text : DrillFault → List ℕ
 fault_text (fault.Line n) = codes "line " ++ decimal n ++ codes ": bad"
+fault_text fault.TooMany = codes "too many principals"
 fault_text fault.Memory = codes "memory"
 fault_text fault.Read = codes "cannot read"
 fault_text fault.Write = codes "cannot write"

@@ -2,11 +2,11 @@
 ghost use Rattle.std.specs.Prelude.{◌≡◌, Err, IfOk, IfErr, is_some, string_bytes, if◌then◌else◌};
 ghost use Rattle.std.specs.Io.KnownBytes.{Appends};
 ghost use Rattle.chpw_config.specs.Faults.{UnlessMemory};
-ghost use Rattle.chpw_commands.specs.Checked.{checked, line_of_check, status_of, good_line, fault_line, IsCheckFault};
+ghost use Rattle.chpw_commands.specs.Checked.{checked, whole_file, line_of_check, status_of, good_line, fault_line, IsCheckFault};
 ghost use Rattle.chpw_commands.specs.declared.drill.DrillFault.TheVariants.{Memory};
 
 use crate::drill::DrillFault;
-use chpw_config::{ConfigError, ConfigFault, explain, read_config};
+use chpw_config::{ConfigError, ConfigFault, explain, read_config, read_kdc};
 use chpw_rules::Config;
 use std::alloc::{AllocError, Global};
 use std::io::Write;
@@ -77,9 +77,18 @@ fn read_text(alloc: Global, text: &[u8]) -> Result<Config, ConfigError>
     ensures value { UnlessMemory result (checked text.now) }
 {
     match str::from_utf8(text) {
-        Ok(text) => read_config(alloc, text),
+        Ok(text) => read_whole(alloc, text),
         Err(_) => Err(ConfigError::Fault(ConfigFault::not_toml())),
     }
+}
+
+// The configuration that the text sets, if its table `kdc` has no fault either.
+fn read_whole(alloc: Global, text: &str) -> Result<Config, ConfigError>
+    ensures value { UnlessMemory result (whole_file text.now) }
+{
+    let config = read_config(alloc, text)?;
+    let _ = read_kdc(alloc, text)?;
+    Ok(config)
 }
 
 // The line of a configuration without a fault.

@@ -2,7 +2,7 @@
 ghost use Rattle.std.specs.Prelude.{◌≡◌, map, Err, IfOk, IfSome};
 ghost use Rattle.chpw_commands.specs.Drilled.{drilled, lines_of};
 ghost use Rattle.chpw_commands.specs.Answering.{IsAnswer, IsWritten};
-ghost use Rattle.chpw_commands.specs.declared.drill.DrillFault.TheVariants.{Memory, Read as ReadFault};
+ghost use Rattle.chpw_commands.specs.declared.drill.DrillFault.TheVariants.{Memory, Read as ReadFault, TooMany};
 
 mod asking;
 mod line;
@@ -15,6 +15,7 @@ mod stage;
 mod words;
 
 use crate::drill::reading::{MAX_READS, read_script};
+use crate::drill::running::TurnFault;
 use crate::drill::stage::{Stage, take_turn};
 use chpw_rules::Items;
 use std::alloc::{AllocError, Global};
@@ -26,6 +27,8 @@ use std::io::{Read, Write};
 pub enum DrillFault {
     /// The line of this number, from 1, is bad.
     Line(u64),
+    /// An update would add a principal to the 10,000 that there are.
+    TooMany,
     /// A growth was refused.
     Memory,
     /// A read failed, or there were too many.
@@ -43,6 +46,7 @@ impl fmt::Display for DrillFault {
     fn fmt<W: fmt::Write>(&self, f: &mut fmt::Formatter<W>) -> fmt::Result {
         match self {
             DrillFault::Line(number) => write!(f, "line {number}: bad"),
+            DrillFault::TooMany => f.write_str("too many principals"),
             DrillFault::Memory => f.write_str("memory"),
             DrillFault::Read => f.write_str("cannot read"),
             DrillFault::Write => f.write_str("cannot write"),
@@ -54,7 +58,8 @@ impl fmt::Display for DrillFault {
 /// line runs, in at most 16,777,216 reads, and what it prints is written once it has ended.
 ///
 /// `Line` for the first bad line; what the lines before it print is written then. `Read` if a read failed or there were
-/// too many and `Memory` if a growth was refused, and nothing is written then; `Write` if the write failed.
+/// too many, `TooMany` if an update would add a principal to the 10,000 that a table may hold, and `Memory` if a growth was
+/// refused, and nothing is written then; `Write` if the write failed.
 pub fn run_drill<R: Read, W: Write>(
     alloc: Global,
     reader: &mut R,
@@ -64,6 +69,7 @@ pub fn run_drill<R: Read, W: Write>(
     ensures written { IfSome (R.remaining reader.old) (λ script.
         IsWritten (drilled script) result (W.contents writer.old) (W.contents writer.new)) }
     ensures unread { result ≡ Err ReadFault → writer.new ≡ writer.old }
+    ensures crowded { result ≡ Err TooMany → writer.new ≡ writer.old }
     ensures unchanged { result ≡ Err Memory → writer.new ≡ writer.old }
 {
     let mut reads = MAX_READS;
@@ -71,8 +77,10 @@ pub fn run_drill<R: Read, W: Write>(
         Ok(script) => script,
         Err(fault) => return Err(fault),
     };
-    let Ok(drilled) = run_script(alloc, script.as_slice()) else {
-        return Err(DrillFault::Memory);
+    let drilled = match run_script(alloc, script.as_slice()) {
+        Ok(drilled) => drilled,
+        Err(TurnFault::TooMany) => return Err(DrillFault::TooMany),
+        Err(TurnFault::Memory) => return Err(DrillFault::Memory),
     };
     match (writer.write_all(drilled.output.as_slice()), drilled.bad) {
         (Err(_), _) => Err(DrillFault::Write),
@@ -90,7 +98,7 @@ pub struct Drilled {
 
 // Runs a script, line by line.
 #[tactic(auto, using(crate::proofs::RunLemmas::begins, crate::proofs::RunLemmas::ends))]
-fn run_script(alloc: Global, script: &[u8]) -> Result<Drilled, AllocError>
+fn run_script(alloc: Global, script: &[u8]) -> Result<Drilled, TurnFault>
     ensures value { IfOk result (λ found. found ≡ drilled script.now) }
 {
     let parts = lines_of(alloc, script)?;

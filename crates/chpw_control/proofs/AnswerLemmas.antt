@@ -20,7 +20,3 @@ pub at_last : {E : Type 0} (result : Result Unit E) (old front back : List ℕ) 
     → OnOk result (back ≡ front ++ lines_text more) → OnOk result (back ≡ old ++ lines_text (lines ++ more))
 at_last (Ok done) old front back lines more is then = further old front back lines more is then
 at_last (Err fault) old front back lines more is then = then
-
--- the line of the quiet time
-pub quiet_joined : (old time : List ℕ) → old ++ codes "quiet-until " ++ time ++ 10 ∷ [] ≡ old ++ lines_text (row (codes "quiet-until") time ∷ [])
-quiet_joined old time = simp append_assoc refl

@@ -12,11 +12,11 @@ use Rattle.std.proofs.lemmas.List.Folds.{list_all-append}
 use Rattle.chpw_rules.specs.Limits.{range, is_in}
 use Rattle.chpw_printing.specs.Quoting.{are_printed, is_field, words_text}
 use Rattle.chpw_printing.proofs.QuotingLemmas.{graphic_printed}
-use Rattle.chpw_control.specs.declared.status.FollowerState.{FollowerState}
-use Rattle.chpw_control.specs.declared.status.FollowerState.TheVariants.{Absent, Confirmed, Unconfirmed}
+use Rattle.chpw_control.specs.declared.status.KdcState.{KdcState}
+use Rattle.chpw_control.specs.declared.status.KdcState.TheVariants.{Absent, Connected, Down}
 use Rattle.chpw_control.specs.declared.status.JournalState.{JournalState}
 use Rattle.chpw_control.specs.declared.status.JournalState.TheVariants.{Good, Failed}
-use Rattle.chpw_control.specs.Statuses.{follower_word, journal_word, row}
+use Rattle.chpw_control.specs.Statuses.{journal_word, kdc_word, row}
 use Rattle.chpw_control.specs.Answers.{lines_text, ok_line, error_line, ended_ok}
 use Rattle.chpw_control.specs.Dialogs.{is_newline, is_whole}
 use Rattle.chpw_control.specs.Endings.{is_line, are_lines, EndsWell, CutOff, EndsBadly}
@@ -283,10 +283,10 @@ pub journal_plain : (journal : JournalState) → is_whole (journal_word journal)
 journal_plain Good = refl
 journal_plain Failed = refl
 
-pub follower_plain : (follower : FollowerState) → is_whole (follower_word follower) ≡ false
-follower_plain Absent = refl
-follower_plain Confirmed = refl
-follower_plain Unconfirmed = refl
+pub kdc_plain : (kdc : KdcState) → is_whole (kdc_word kdc) ≡ false
+kdc_plain Absent = refl
+kdc_plain Connected = refl
+kdc_plain Down = refl
 
 -- ---- what could be put
 

@@ -1,6 +1,6 @@
 //! The state of the service.
 ghost use Rattle.std.specs.Prelude.{◌≡◌};
-ghost use Rattle.chpw_control.specs.Statuses.{follower_word, journal_word};
+ghost use Rattle.chpw_control.specs.Statuses.{journal_word, kdc_word};
 
 use crate::time::Time;
 
@@ -12,15 +12,14 @@ pub enum JournalState {
     Failed,
 }
 
-/// Which changes a follower has confirmed.
+/// Whether the agent at the KDC's database can be asked.
 #[derive(Clone, Copy, Drop)]
-pub enum FollowerState {
+pub enum KdcState {
     /// There is none.
     Absent,
-    /// All of them.
-    Confirmed,
-    /// Not all of them.
-    Unconfirmed,
+    Connected,
+    /// There is no connection.
+    Down,
 }
 
 /// The state of the service, as `status` reports it.
@@ -56,7 +55,13 @@ pub struct Status<'a> {
     pub journal: JournalState,
     /// The lines of the log that couldn't be written.
     pub log_lost: u64,
-    pub follower: FollowerState,
+    pub kdc: KdcState,
+    /// Since when there is a connection to the agent, or none.
+    pub kdc_since: Option<Time>,
+    /// The keys that are on their way to the KDC.
+    pub kdc_behind: u64,
+    /// The name that the agent refused last, and why.
+    pub kdc_refused: Option<&'a [u8]>,
 }
 
 impl JournalState {
@@ -70,14 +75,14 @@ impl JournalState {
     }
 }
 
-impl FollowerState {
+impl KdcState {
     pub(crate) fn word(self) -> &'static str
-        ensures value { result.now ≡ follower_word self }
+        ensures value { result.now ≡ kdc_word self }
     {
         match self {
-            FollowerState::Absent => "none",
-            FollowerState::Confirmed => "confirmed",
-            FollowerState::Unconfirmed => "unconfirmed",
+            KdcState::Absent => "none",
+            KdcState::Connected => "connected",
+            KdcState::Down => "down",
         }
     }
 }

@@ -1,13 +1,13 @@
 //! The lines of the answer to `status`.
-ghost use Rattle.std.specs.Prelude.{◌≡◌, ◌++◌, ◌∷◌, [], codes, true, false, IfOk, OnOk};
+ghost use Rattle.std.specs.Prelude.{◌≡◌, ◌++◌, ◌∷◌, [], codes, true, false, IfOk, OnOk, option_map};
 ghost use Rattle.std.specs.Fmt.{decimal};
 ghost use Rattle.std.specs.Option.{ForSome, option_map_or};
 ghost use Rattle.chpw_printing.specs.Quoting.{words_text};
 ghost use Rattle.chpw_control.specs.Answers.{lines_text, ok_line};
 ghost use Rattle.chpw_control.specs.Dialogs.{is_whole};
 ghost use Rattle.chpw_control.specs.Endings.{are_lines};
-ghost use Rattle.chpw_control.specs.Statuses.{AreTold, IsTold, connection_lines, history_lines, keeping_lines};
-ghost use Rattle.chpw_control.specs.Statuses.{row, service_lines, status_lines, text_of, worker_lines};
+ghost use Rattle.chpw_control.specs.Statuses.{AreTold, IsTold, connection_lines, history_lines, kdc_lines, keeping_lines};
+ghost use Rattle.chpw_control.specs.Statuses.{refused_text, row, service_lines, status_lines, text_of, worker_lines};
 
 use crate::answer::put_ok;
 use crate::status::Status;
@@ -27,6 +27,7 @@ pub fn status_answer(alloc: Global, status: &Status<'_>) -> Result<Vec<u8>, Allo
     put_connections(&mut text, status)?;
     put_workers(&mut text, status)?;
     put_keeping(&mut text, status)?;
+    put_kdc(&mut text, status)?;
     put_ok(&mut text)?;
     Ok(text)
 }
@@ -38,7 +39,7 @@ fn put_service(text: &mut Vec<u8>, status: &Status<'_>) -> Result<(), AllocError
 {
     put_version(text, status.version)?;
     put_since(text, status.since)?;
-    put_quiet(text, status.quiet_until)?;
+    put_moment(text, "quiet-until", status.quiet_until)?;
     put_count(text, "principals", status.principals)?;
     put_count(text, "iterations", status.iterations)
 }
@@ -81,8 +82,18 @@ fn put_keeping(text: &mut Vec<u8>, status: &Status<'_>) -> Result<(), AllocError
 {
     put_count(text, "journal-bytes", status.journal_bytes)?;
     put_word(text, "journal", status.journal.word())?;
-    put_count(text, "log-lost", status.log_lost)?;
-    put_word(text, "follower", status.follower.word())
+    put_count(text, "log-lost", status.log_lost)
+}
+
+fn put_kdc(text: &mut Vec<u8>, status: &Status<'_>) -> Result<(), AllocError>
+    requires times { AreTold status.now }
+    ensures value { OnOk result (text.new.items ≡ text.old.items ++ lines_text (kdc_lines status.now)) }
+    ensures lines { OnOk result (are_lines (kdc_lines status.now) ≡ true) }
+{
+    put_word(text, "kdc", status.kdc.word())?;
+    put_moment(text, "kdc-since", status.kdc_since)?;
+    put_count(text, "kdc-behind", status.kdc_behind)?;
+    put_refused(text, status.kdc_refused)
 }
 
 fn put_version(text: &mut Vec<u8>, version: &str) -> Result<(), AllocError>
@@ -109,17 +120,41 @@ fn put_since(text: &mut Vec<u8>, time: Time) -> Result<(), AllocError>
     Ok(())
 }
 
-// Puts the line of the quiet time at the end.
-fn put_quiet(text: &mut Vec<u8>, until: Option<Time>) -> Result<(), AllocError>
-    requires time { ForSome until IsTold }
+// Puts the line of a time at the end, or of `-`.
+fn put_moment(text: &mut Vec<u8>, name: &str, time: Option<Time>) -> Result<(), AllocError>
+    requires time { ForSome time IsTold }
     ensures value { OnOk result (text.new.items
-        ≡ text.old.items ++ lines_text (row (codes "quiet-until") (option_map_or text_of until (codes "-")) ∷ [])) }
-    ensures plain { OnOk result (is_whole (option_map_or text_of until (codes "-")) ≡ false) }
+        ≡ text.old.items ++ lines_text (row name.now (option_map_or text_of time (codes "-")) ∷ [])) }
+    ensures plain { OnOk result (is_whole (option_map_or text_of time (codes "-")) ≡ false) }
 {
-    text.extend_from_slice(b"quiet-until ")?;
-    put_until(text, until)?;
+    text.extend_from_slice(name.as_bytes())?;
+    text.push(b' ')?;
+    put_until(text, time)?;
     text.push(b'\n')?;
     Ok(())
+}
+
+// Puts the line of the last refusal at the end, or of `-`.
+fn put_refused(text: &mut Vec<u8>, refused: Option<&[u8]>) -> Result<(), AllocError>
+    ensures value { OnOk result (text.new.items
+        ≡ text.old.items ++ lines_text (row (codes "kdc-refused") (refused_text (option_map (λ text. text.now) refused.entry)) ∷ [])) }
+    ensures plain { OnOk result (is_whole (refused_text (option_map (λ text. text.now) refused.entry)) ≡ false) }
+{
+    text.extend_from_slice(b"kdc-refused ")?;
+    put_words_or_none(text, refused)?;
+    text.push(b'\n')?;
+    Ok(())
+}
+
+// Puts some words at the end, or `-`.
+fn put_words_or_none(text: &mut Vec<u8>, words: Option<&[u8]>) -> Result<(), AllocError>
+    ensures value { OnOk result (text.new.items ≡ text.old.items ++ refused_text (option_map (λ text. text.now) words.entry)) }
+    ensures plain { OnOk result (is_whole (refused_text (option_map (λ text. text.now) words.entry)) ≡ false) }
+{
+    match words {
+        Some(words) => put_words(text, words),
+        None => text.extend_from_slice(b"-"),
+    }
 }
 
 // Puts a time at the end, or `-`.

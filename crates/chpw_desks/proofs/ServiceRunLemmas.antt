@@ -1,5 +1,5 @@
 -- Histories of a service, one after the other.
-use Rattle.std.proofs.Common.{◌≡◌, ℕ, List, [], ◌∷◌, ◌++◌, Option, Some, None, length, inl, inr, refl, sym, ◌∙◌, ap, subst}
+use Rattle.std.proofs.Common.{◌≡◌, ℕ, Bool, List, [], ◌∷◌, ◌++◌, Option, Some, None, length, inl, inr, refl, sym, ◌∙◌, ap, subst}
 use Rattle.std.specs.Prelude.{IfSome}
 use Rattle.chpw_rules.specs.declared.config.Config.{Config}
 use Rattle.chpw_table.specs.Agreement.{Agrees, Held}
@@ -23,14 +23,13 @@ use Rattle.chpw_invocation.specs.declared.invocation.ServeOptions.{ServeOptions}
 use Rattle.chpw_control.specs.TakenOrders.{command_in}
 use Rattle.chpw_desks.proofs.OrderLemmas.{reload_by}
 use Rattle.chpw_desks.specs.Following.{DoesWhatIsDue, TakesRules}
-use Rattle.chpw_desks.specs.Journals.{tells_end}
+use Rattle.chpw_book.specs.Newest.{IsHeldAfter}
 use Rattle.chpw_desks.specs.Orders.{IsDueBy}
 use Rattle.chpw_orders.specs.Rereading.{IsReadAnew}
 use Rattle.chpw_desks.specs.ServiceRuns.{Between, DeskRun, GoesOnBy, IsNextDesk, IsReloadBy, IsRun, IsServed, RunsAreServiceRuns}
 use Rattle.chpw_desks.specs.ServiceRuns.{between, gives_moment, new_passes}
 use Rattle.chpw_start.specs.Rules.{AreRulesOf}
 use Rattle.chpw_desks.specs.Staff.{ServiceWorker}
-use Rattle.chpw_desks.specs.declared.journals.JournalLength.{JournalLength}
 use Rattle.chpw_desks.specs.declared.orders.AfterClose.{AfterClose}
 use Rattle.chpw_desks.specs.declared.orders.AfterClose.TheVariants.{Compact, Reload}
 use Rattle.chpw_orders.specs.declared.rereading.PendingReload.{PendingReload}
@@ -87,17 +86,17 @@ goes_on_from : (options : ServeOptions) (left : Held) (old : Rules) (next : Held
 goes_on_from options left old next new (inl h) = inl (subst (λ (t : Held). Agrees t.state left.state) (sym h.0) (agrees_itself left.state))
 goes_on_from options left old next new (inr r) = inr (r.config, r.records, r.reload)
 
-module _ {R L : Type 0} (journal : JournalLength) where
+module _ {R L : Type 0} (has_kdc : Bool) where
   -- what a desk of so many workers served, each of whom has a pass
   pub served_at : (rules : Rules) (opening : Held) (count : ℕ) (passes : List PassView) (before after : List (ServiceWorker R L))
       (history : List Entry) (left : Held) (prior : List ℕ) → AreInOrder count passes
       → ServedDesk gives_moment gives_word seat_turns (error_frame rules.service.realm) private_frame
-      (OpensUnder rules.service.accepts rules.service.realm rules.service.keys) tells_end journal
+      (OpensUnder rules.service.accepts rules.service.realm rules.service.keys) (IsHeldAfter opening.state) has_kdc
       opening.state count passes before after history left prior None
-      → IsServed journal rules opening passes before after history left
+      → IsServed has_kdc rules opening passes before after history left
   served_at rules opening count passes before after history left prior order served =
       subst (λ (n : ℕ). ServedDesk gives_moment gives_word seat_turns (error_frame rules.service.realm) private_frame
-      (OpensUnder rules.service.accepts rules.service.realm rules.service.keys) tells_end journal
+      (OpensUnder rules.service.accepts rules.service.realm rules.service.keys) (IsHeldAfter opening.state) has_kdc
       opening.state n passes before after history left [] None)
       (sym (in_order_length count passes order)) (record {
         legal = served.legal;
@@ -110,31 +109,31 @@ module _ {R L : Type 0} (journal : JournalLength) where
       })
 
   history_of : (rules : Rules) (opening : Held) (passes : List PassView) (before after : List (ServiceWorker R L))
-      (history : List Entry) (left : Held) → IsServed journal rules opening passes before after history left → IsHistory opening.state left
+      (history : List Entry) (left : Held) → IsServed has_kdc rules opening passes before after history left → IsHistory opening.state left
   history_of rules opening passes before after history left served =
       record { history = history; legal = served.legal; whole = served.whole; agrees = served.agrees }
 
   -- a desk has as many workers after it as before
   pub as_many : (rules : Rules) (opening : Held) (passes : List PassView) (before after : List (ServiceWorker R L))
-      (history : List Entry) (left : Held) → IsServed journal rules opening passes before after history left → length after ≡ length before
+      (history : List Entry) (left : Held) → IsServed has_kdc rules opening passes before after history left → length after ≡ length before
   as_many rules opening passes before after history left served =
       served_count gives_moment gives_word seat_turns (error_frame rules.service.realm) private_frame
-      (OpensUnder rules.service.accepts rules.service.realm rules.service.keys) tells_end journal
+      (OpensUnder rules.service.accepts rules.service.realm rules.service.keys) (IsHeldAfter opening.state) has_kdc
       0 passes before after history left served.each
 
   module _ (options : ServeOptions) where
     -- a first desk is a run, and one more desk extends one
     pub run_begins : (opening : Held) (passes : List PassView) (rules : Rules) (workers after : List (ServiceWorker R L))
-        (history : List Entry) (table : Held) → IsServed journal rules opening passes workers after history table
-        → IsRun journal options opening passes rules workers (between table rules after)
+        (history : List Entry) (table : Held) → IsServed has_kdc rules opening passes workers after history table
+        → IsRun has_kdc options opening passes rules workers (between table rules after)
     run_begins opening passes rules workers after history table served =
         record { history = history; first = between table rules after; rules_are = refl; served = served; more = []; follow = refl }
 
     pub run_goes_on : (opening : Held) (passes : List PassView) (rules : Rules) (workers : List (ServiceWorker R L)) (now : Between R L)
         (next : Held) (new : Rules) (after : List (ServiceWorker R L)) (history : List Entry) (table : Held)
-        → IsRun journal options opening passes rules workers now → GoesOnBy options now.table now.rules next new
-        → IsServed journal new next (new_passes (length now.workers)) now.workers after history table
-        → IsRun journal options opening passes rules workers (between table new after)
+        → IsRun has_kdc options opening passes rules workers now → GoesOnBy options now.table now.rules next new
+        → IsServed has_kdc new next (new_passes (length now.workers)) now.workers after history table
+        → IsRun has_kdc options opening passes rules workers (between table new after)
     run_goes_on opening passes rules workers now next new after history table run goes served =
         let desk : DeskRun = record { opening = next; history = history } in
         record {
@@ -143,15 +142,15 @@ module _ {R L : Type 0} (journal : JournalLength) where
           rules_are = run.rules_are;
           served = run.served;
           more = run.more ++ desk ∷ [];
-          follow = drawn_on (IsNextDesk journal options) run.first run.more now desk (between table new after) run.follow
+          follow = drawn_on (IsNextDesk has_kdc options) run.first run.more now desk (between table new after) run.follow
               (record { goes_on = goes; served = served });
         }
 
     desks_lead_on : (opening : State) (desks : List DeskRun) (before after : Between R L) → IsServiceRun opening before.table
-        → InTurn (IsNextDesk journal options) before desks after → IsServiceRun opening after.table
+        → InTurn (IsNextDesk has_kdc options) before desks after → IsServiceRun opening after.table
     desks_lead_on opening [] before after run follow = subst (λ (b : Between R L). IsServiceRun opening b.table) follow run
     desks_lead_on opening (d ∷ ds) before after run follow =
-        let next : IsNextDesk journal options before d follow.0 = follow.1 in
+        let next : IsNextDesk has_kdc options before d follow.0 = follow.1 in
         desks_lead_on opening ds follow.0 after
         (runs_go_on opening d.opening.state before.table follow.0.table run
         (goes_on_from options before.table before.rules d.opening follow.0.rules next.goes_on)
@@ -159,10 +158,10 @@ module _ {R L : Type 0} (journal : JournalLength) where
         follow.2
 
     pub run_leads : (opening : Held) (passes : List PassView) (rules : Rules) (workers : List (ServiceWorker R L)) (now : Between R L)
-        → IsRun journal options opening passes rules workers now → IsServiceRun opening.state now.table
+        → IsRun has_kdc options opening passes rules workers now → IsServiceRun opening.state now.table
     run_leads opening passes rules workers now run = desks_lead_on opening.state run.more run.first now
         (runs_begin opening.state run.first.table
         (history_of rules opening passes workers run.first.workers run.history run.first.table run.served)) run.follow
 
 pub run_is_service_run : {R L : Type 0} → RunsAreServiceRuns R L
-run_is_service_run journal options opening passes rules workers now run = run_leads journal options opening passes rules workers now run
+run_is_service_run has_kdc options opening passes rules workers now run = run_leads has_kdc options opening passes rules workers now run

@@ -1,6 +1,5 @@
 pub mod Filled
 pub mod Following
-pub mod Journals
 pub mod Orders
 pub mod ServiceRuns
 pub mod Staff

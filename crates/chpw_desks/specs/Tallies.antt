@@ -5,7 +5,7 @@ use Rattle.chpw_table.specs.State.{State}
 use Rattle.chpw_table.specs.Verdicts.{is_done}
 use Rattle.chpw_table.specs.declared.history.Entry.{Entry}
 use Rattle.chpw_table.specs.declared.history.Event.{Event}
-use Rattle.chpw_table.specs.declared.history.Event.TheVariants.{Ask, Raise}
+use Rattle.chpw_table.specs.declared.history.Event.TheVariants.{Ask, Raise, Update}
 use Rattle.chpw_book.specs.Passes.{PassView}
 use Rattle.chpw_book.specs.Recorded.{RecordedView, IsLinearized}
 use Rattle.chpw_book.specs.Closing.{IsRefusal, is_full}
@@ -26,10 +26,11 @@ after_print is_printed is_last is_reported =
     else if is_reported then GoOn
     else ReportLoss
 
--- a raise of the iteration count is an entry, and no change
+-- a raise of the iteration count and an update from the KDC are entries, and no changes
 abbrev pub changes_a_password : Event → Bool
 changes_a_password (Ask opened verdict) = is_done verdict
 changes_a_password (Raise count verdict) = false
+changes_a_password (Update update verdict) = false
 
 abbrev pub password_changes : List Entry → ℕ
 password_changes history = count_by (λ (e : Entry). changes_a_password e.event) history

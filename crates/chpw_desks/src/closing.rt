@@ -92,6 +92,6 @@ fn is_password_change(event: &Event) -> bool
 {
     match event {
         Event::Ask { verdict, .. } => *verdict == Verdict::Done,
-        Event::Raise { .. } => false,
+        Event::Raise { .. } | Event::Update { .. } => false,
     }
 }

@@ -25,9 +25,6 @@ use std::fs::{self, File, Files};
 use std::sync::Wait;
 use std::time::Clock;
 
-/// How many milliseconds a closed desk waits for the follower.
-const LONGEST_WAIT: u64 = 1_000;
-
 /// What the next desk opens with: the closed table, and a compact journal in place of the present one; or that journal,
 /// if there is no compact one. The order is answered.
 pub(crate) fn compact<
@@ -72,7 +69,7 @@ fn replaced_answer(alloc: Global, path: &str, replaced: Result<(), NotReplaced>)
     answer_or_empty(alloc, compact_answer(alloc, path, replaced))
 }
 
-// Replaces the present journal by a compact one, once no reply waits for the follower.
+// Replaces the present journal by a compact one.
 fn replace<'l, R: Wait + Clock + Eprint + AllocGlobal, P: JournalPlace>(
     rt: &R,
     hall: &ServiceContext<'l, R>,
@@ -92,13 +89,8 @@ fn replace<'l, R: Wait + Clock + Eprint + AllocGlobal, P: JournalPlace>(
         Ok(text) => text,
         Err(why) => return Err(why),
     };
-    if !hall.engine.waits_for_none(rt, LONGEST_WAIT) {
-        return Err(NotReplaced::Waited);
-    }
     let Ok(new) = place.replace(&text) else {
         return Err(NotReplaced::Unwritten);
     };
-    let replaced = go_on_in(sink, new, text.len() as u64);
-    hall.engine.begin_marks_anew(rt);
-    replaced
+    go_on_in(sink, new, text.len() as u64)
 }

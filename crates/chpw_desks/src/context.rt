@@ -6,6 +6,7 @@ use crate::journals::JournalLength;
 use chpw_invocation::ServeOptions;
 use chpw_logging::Log;
 use chpw_reactor::Engine;
+use chpw_rules::NamePatterns;
 use std::sync::Wait;
 
 /// What all desks are served with.
@@ -14,18 +15,20 @@ pub struct ServiceContext<'l, R: Wait + Eprint> {
     pub engine: Engine,
     pub workers: u8,
     pub log: &'l Log<'l, R>,
-    /// How long the journal is, if replies wait for a follower.
+    /// How long the journal is.
     pub journal: JournalLength,
-    pub follower: FollowerTerms<'l>,
+    pub kdc: KdcPlace<'l>,
+    /// Which of the KDC's names are the service's.
+    pub patterns: &'l NamePatterns,
     pub options: &'l ServeOptions<'l>,
     ghost some_workers: { (1 ≤ workers) × (workers ≤ 16) },
     ghost queues: { workers_at engine ≡ workers },
 }
 
-/// Where the follower is, and how long replies wait for it.
+/// Where the agent at the KDC's database is, and how long replies wait for it.
 #[derive(Clone, Copy, Drop)]
-pub struct FollowerTerms<'l> {
-    /// Its socket; none if no reply waits.
+pub struct KdcPlace<'l> {
+    /// Its socket; none without a KDC.
     pub socket: Option<&'l str>,
     /// In milliseconds.
     pub wait: u32,

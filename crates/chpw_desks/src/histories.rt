@@ -1,5 +1,5 @@
 //! One history after the other.
-ghost use Rattle.std.specs.Prelude.{◌≡◌, ◌<◌, ◌-◌, ◌^◌, IfOk, IfErr, Ok, IfSome, List, false, length, vec_len};
+ghost use Rattle.std.specs.Prelude.{◌≡◌, ◌<◌, ◌-◌, ◌^◌, IfOk, IfErr, Ok, IfSome, List, false, length, vec_len, is_some};
 ghost use Rattle.chpw_changelog.specs.Pens.{opening_state, opening_table};
 ghost use Rattle.chpw_book.specs.Starting.{IsNamed, table_of, workers_of};
 ghost use Rattle.chpw_start.specs.Faults.{IsLate};
@@ -60,7 +60,8 @@ pub fn serve_histories<
 ) -> Result<Table, ServeFault<'a>>
     requires passes { length first.passes.items ≡ hall.now.workers }
     requires workers { length workers.items ≡ hall.now.workers }
-    ensures served { IfOk result (RunsTo hall.now.journal hall.now.options.now (opening_table D.root) first.passes.items rules workers.entry.items) }
+    ensures served { IfOk result (RunsTo (is_some hall.now.kdc.socket) hall.now.options.now (opening_table D.root) first.passes.items rules
+        workers.entry.items) }
     ensures histories { IfOk result (λ table. IsServiceRun (opening_state D.root) table) }
     ensures fault { IfErr result IsLate }
 {
@@ -214,7 +215,7 @@ fn serve_history<
     requires name { IsNamed opening.unnamed D.name D.parts D.book D.root D.workers }
     requires opening { workers_of opening.unnamed ≡ hall.now.workers }
     requires workers { length workers.items ≡ hall.now.workers }
-    ensures served { IfOk result (λ left. (history : List Entry) × IsServed hall.now.journal rules.now (table_of opening.unnamed)
+    ensures served { IfOk result (λ left. (history : List Entry) × IsServed (is_some hall.now.kdc.socket) rules.now (table_of opening.unnamed)
         (new_passes (length workers.entry.items)) workers.entry.items left.workers.items history left.served.table) }
     ensures due { IfOk result (λ left. IfSome left.served.due (IsDueBy hall.now.options.now rules.now.text.items)) }
     ensures workers { IfOk result (λ left. length left.workers.items ≡ hall.now.workers) }
@@ -246,7 +247,7 @@ fn serve_desk<
 ) -> Result<Attended<'h, 'l, 't, R, T>, ServeFault<'a>>
     requires passes { length opened.passes.items ≡ hall.now.workers }
     requires workers { length workers.items ≡ hall.now.workers }
-    ensures served { IfOk result (λ left. (history : List Entry) × IsServed hall.now.journal rules.now (opening_table D.root)
+    ensures served { IfOk result (λ left. (history : List Entry) × IsServed (is_some hall.now.kdc.socket) rules.now (opening_table D.root)
         opened.passes.items workers.entry.items left.workers.items history left.served.table) }
     ensures due { IfOk result (λ left. IfSome left.served.due (IsDueBy hall.now.options.now rules.now.text.items)) }
     ensures workers { IfOk result (λ left. length left.workers.items ≡ hall.now.workers) }
@@ -322,7 +323,7 @@ fn serve_shift<
     Result<Option<AfterClose>, NotStarted>,
 )
     requires paired { vec_len opened.passes ≡ vec_len workers }
-    ensures served { IfOk result.0.closed (λ c. IsServed hall.now.journal rules.now (opening_table D.root)
+    ensures served { IfOk result.0.closed (λ c. IsServed (is_some hall.now.kdc.socket) rules.now (opening_table D.root)
         opened.passes.items workers.entry.items result.0.workers.items c.history.items c.table) }
     ensures refused { IfErr result.0.closed (λ r. IsMismatch (opening_state D.root) D.workers r.passes.items) }
     ensures due { IfOk result.1 (λ due. IfSome due (IsDueBy hall.now.options.now rules.now.text.items)) }
@@ -335,7 +336,7 @@ fn serve_shift<
     let context = Context {
         alloc: rt.alloc(),
         service: &rules.service,
-        journal: &hall.journal,
+        has_kdc: hall.kdc.socket.is_some(),
         crew: &crew,
         room: Some(rules.max_entries),
     };

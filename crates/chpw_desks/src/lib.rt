@@ -14,7 +14,7 @@ mod reloading;
 mod staff;
 mod tallies;
 
-pub use context::{FollowerTerms, ServiceContext};
+pub use context::{KdcPlace, ServiceContext};
 pub use histories::serve_histories;
 pub use journals::{JournalLength, journal_length};
 pub use openings::{Opened, Opening, first_opening, start_desk};

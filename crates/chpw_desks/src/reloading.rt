@@ -57,6 +57,7 @@ pub(crate) fn reload<'a, 'l, R: Wait + Clock + Eprint + AllocGlobal, T: Clock>(
             *rules = next_rules;
             tell_reloaded(rt, time, hall, &table, &lacked);
             let answer = reloaded_answer(rt.alloc(), &lacked);
+            hall.engine.hold_table(rt, &table);
             hall.engine.answer_order(rt, order, answer);
             Ok(Opening {
                 unnamed: UnnamedDesk::of(table, hall.workers),

@@ -1,12 +1,14 @@
 -- What is brought in is within the limits of a configuration.
 use Rattle.std.proofs.Common.{◌≡◌, ◌∙◌, sym, ap, refl, subst, ℕ, ℤ, pos, negsuc, zero, suc, ◌<◌, ◌≤◌, Bool, true}
 use Rattle.std.proofs.Common.{false, List, [], ◌∷◌, length, codes, inl, inr, if◌then◌else◌, Option, Some, None, arith}
+use Rattle.std.specs.Prelude.{nat_lt}
 use Rattle.std.specs.Cmp.{IsTotalOrder}
 use Rattle.std.specs.List.{AllByRecursion, list_all}
 use Rattle.std.specs.Map.{lookup}
 use Rattle.std.specs.Option.{unwrap_or}
 use Rattle.std.specs.Ordering.{eq_by_cmp}
 use Rattle.std.proofs.lemmas.Bool.{and_from, and_parts, cases_lt, eq-eqb, eqb-true, le-leb}
+use Rattle.std.proofs.lemmas.Bool.Decides.{nat_tests}
 use Rattle.std.proofs.lemmas.Cmp.{back_total, int_cmp_total, nat_cmp_total, on_total, then_total}
 use Rattle.std.proofs.lemmas.List.{length-take}
 use Rattle.std.proofs.lemmas.Option.{same_Some}
@@ -98,6 +100,9 @@ pair_is kvno iterations (Some (Aes128 x)) (Some (Aes256 y)) key h =
     (sym (ap (λ (k : KeyBytes). k.kvno) is), sym (ap (λ (k : KeyBytes). k.iterations) is))
 pair_is kvno iterations a b key h = cc
 
+below_next : (m n : ℕ) → m ≡ n → nat_lt m (suc n) ≡ true
+below_next m n h = grind (arith, nat_tests)
+
 module _ (pair : ℕ → Option KeyBytes) (iterations : ℕ)
     (are : (kvno : ℕ) (key : KeyBytes) → pair kvno ≡ Some key → (key.kvno ≡ kvno) × (key.iterations ≡ iterations)) where
   all_fit : is_in iteration_counts iterations ≡ true → (count kvno : ℕ) → kvno ≤ kvnos.high → list_all key_fits (keys_from pair count kvno) ≡ true
@@ -125,7 +130,7 @@ module _ (pair : ℕ → Option KeyBytes) (iterations : ℕ)
       at None e others = refl
       at (Some key) e others =
           let version : key.kvno ≡ suc below = (are (suc below) key e).0 in
-          and_from _ _ (eq-eqb _ _ (omega arith)) (subst (λ (k : ℕ). descend_from k (keys_from pair count below) ≡ true) (sym version) others)
+          and_from _ _ (below_next key.kvno (suc below) version) (subst (λ (k : ℕ). descend_from k (keys_from pair count below) ≡ true) (sym version) others)
 
 few_keys : (pair : ℕ → Option KeyBytes) (count kvno : ℕ) → length (keys_from pair count kvno) ≤ count
 unfolding keys_from

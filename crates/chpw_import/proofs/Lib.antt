@@ -1,6 +1,8 @@
 pub mod EntryLemmas
 pub mod FitLemmas
 pub mod ImportLemmas
+pub mod KdcImportLemmas
+pub mod KdcLemmas
 pub mod LeftLemmas
 pub mod OrderLemmas
 pub mod PasswordLemmas

@@ -13,6 +13,9 @@ use Rattle.chpw_invocation.specs.declared.invocation.ImportOptions.{ImportOption
 use Rattle.chpw_invocation.specs.declared.invocation.KeyOptions.{KeyOptions}
 use Rattle.chpw_import.specs.declared.fault.KeysFault.{KeysFault}
 use Rattle.chpw_import.specs.declared.fault.KeysFault.TheVariants.{BadName, CannotRead, Keytab, EmptyPassword, CannotPrint, Memory}
+use Rattle.chpw_import.specs.declared.fault.KeysFault.TheVariants.{Unconnected, Unanswered, Kdc, Patterns, NoPrincipal}
+use Rattle.chpw_config.specs.Faults.{fault_text}
+use Rattle.chpw_import.specs.KdcLists.{fault_words}
 
 abbrev pub keytab_text : KeytabFault → List ℕ
 keytab_text NotKeytab = codes "not a keytab of format 0x0502"
@@ -25,6 +28,11 @@ line_of BadName = codes "bad argument"
 line_of (CannotRead file) = codes "cannot read " ++ file.now
 line_of (Keytab file fault) = file.now ++ codes ": " ++ keytab_text fault
 line_of (EmptyPassword file) = file.now ++ codes ": the password is empty"
+line_of (Unconnected socket) = codes "cannot connect to " ++ socket.now
+line_of (Unanswered socket) = socket.now ++ codes ": the connection failed"
+line_of (Kdc socket fault) = socket.now ++ codes ": " ++ fault_words fault
+line_of (Patterns file fault) = file.now ++ codes ": " ++ fault_text fault
+line_of (NoPrincipal socket) = socket.now ++ codes ": no principal is imported"
 line_of CannotPrint = codes "cannot write"
 line_of Memory = codes "memory"
 
@@ -67,6 +75,7 @@ IsOfName text fault = ⊥
 -- nothing was written before it
 abbrev pub IsEarly : KeysFault → Type 0
 IsEarly CannotPrint = ⊥
+IsEarly (NoPrincipal socket) = ⊥
 IsEarly fault = Unit {0}
 
 -- a fault of `import`

@@ -1,5 +1,10 @@
 pub mod Entries
 pub mod Faults
+pub mod KdcChoices
+pub mod KdcFaults
+pub mod KdcLines
+pub mod KdcLists
+pub mod KdcSeen
 pub mod Keytabs
 pub mod LeftLines
 pub mod LeftOut

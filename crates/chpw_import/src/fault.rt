@@ -1,4 +1,6 @@
 //! Why no keys are written.
+use crate::kdc::ListFault;
+use chpw_config::ConfigFault;
 use krb_keytab::KeytabFault;
 use std::fmt;
 
@@ -13,6 +15,16 @@ pub enum KeysFault<'a> {
     Keytab(&'a str, KeytabFault),
     /// This file holds no password.
     EmptyPassword(&'a str),
+    /// There is no agent at this socket.
+    Unconnected(&'a str),
+    /// The connection to the agent at this socket failed.
+    Unanswered(&'a str),
+    /// What the agent at this socket answered has this fault.
+    Kdc(&'a str, ListFault),
+    /// The table `kdc` of this file has this fault.
+    Patterns(&'a str, ConfigFault),
+    /// No principal is imported of the agent's at this socket.
+    NoPrincipal(&'a str),
     /// A line couldn't be printed.
     CannotPrint,
     /// A growth was refused.
@@ -31,6 +43,11 @@ impl fmt::Display for KeysFault<'_> {
             KeysFault::CannotRead(file) => write!(f, "cannot read {file}"),
             KeysFault::Keytab(file, fault) => write!(f, "{file}: {}", KeytabWords(*fault)),
             KeysFault::EmptyPassword(file) => write!(f, "{file}: the password is empty"),
+            KeysFault::Unconnected(socket) => write!(f, "cannot connect to {socket}"),
+            KeysFault::Unanswered(socket) => write!(f, "{socket}: the connection failed"),
+            KeysFault::Kdc(socket, fault) => write!(f, "{socket}: {fault}"),
+            KeysFault::Patterns(file, fault) => write!(f, "{file}: {fault}"),
+            KeysFault::NoPrincipal(socket) => write!(f, "{socket}: no principal is imported"),
             KeysFault::CannotPrint => f.write_str("cannot write"),
             KeysFault::Memory => f.write_str("memory"),
         }

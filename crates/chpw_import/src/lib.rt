@@ -1,10 +1,11 @@
 //! Importing keys: the service keys and the principals' keys of a keytab, with the entries that are skipped and why;
-//! and a principal's keys from a password.
+//! the principals that a KDC has; and a principal's keys from a password.
 #![tactic(auto)]
 
 mod entries;
 mod fault;
 mod import_command;
+mod kdc;
 mod key_command;
 mod keytab;
 mod left;
@@ -18,6 +19,9 @@ mod table;
 
 pub use fault::KeysFault;
 pub use import_command::{import, tell_keytab, write_keytab};
+pub use kdc::{
+    KdcImport, KdcKeys, LeftName, LeftReason, ListFault, Listed, import_from, listing_of, tell_kdc,
+};
 pub use key_command::{key, tell_password, write_password};
 pub use keytab::{ImportFault, KeytabImport, bring_in};
 pub use left::{Reason, SkippedEntry, left_text};

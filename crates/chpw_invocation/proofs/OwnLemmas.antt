@@ -7,7 +7,8 @@ use Rattle.std.proofs.lemmas.Slice.Eq.{bytes_eq-Decides}
 use Rattle.clap.specs.Simple.{filled}
 use Rattle.clap.specs.Walk.{Row, Text, first_of}
 use Rattle.chpw_invocation.specs.Controls.{takes_file}
-use Rattle.chpw_invocation.specs.Invocations.{AimsOld, HasNoPassword, HasTwoPasswords, IsGiven, IsOwnReason, IsOwnRefusal, RefusesClient, RefusesControl}
+use Rattle.chpw_invocation.specs.Invocations.{AimsOld, HasNoPassword, HasTwoPasswords, IsGiven, IsOwnReason}
+use Rattle.chpw_invocation.specs.Invocations.{IsOwnRefusal, RefusesClient, RefusesControl, RefusesImport}
 use Rattle.chpw_invocation.specs.Needs.{IsSuited, Meets, Suits}
 use Rattle.chpw_invocation.specs.Options.{flag}
 use Rattle.chpw_invocation.specs.Program.{client}
@@ -20,23 +21,29 @@ use Rattle.chpw_invocation.specs.declared.refusing.Refusal.TheVariants.{OldTarge
 differ : (a b : Text) → bytes_eq a b ≡ false → a ≡ b → ⊥
 differ a b apart same = true≢false (sym ((bytes_eq-Decides a b).1 same) ∙ apart)
 
-neither : (name a b : Text) → bytes_eq name a ≡ false → bytes_eq name b ≡ false → (name ≡ a) ⊎ (name ≡ b) → ⊥
-neither name a b one other (inl same) = differ name a one same
-neither name a b one other (inr same) = differ name b other same
-
 of_client : (options : List Row) (refusal : Refusal) → IsOwnRefusal (Some (codes "client", options)) refusal → RefusesClient options refusal
 of_client options refusal (inl r) = r.1
 of_client options refusal (inr (inl r)) = absurd (differ (codes "client") (codes "control") refl r.0)
 of_client options refusal (inr (inr (inl r))) = absurd (differ (codes "client") (codes "table") refl r.0)
 of_client options refusal (inr (inr (inr (inl r)))) = absurd (differ (codes "client") (codes "serve") refl r.0)
-of_client options refusal (inr (inr (inr (inr r)))) = absurd (neither (codes "client") (codes "import") (codes "key") refl refl r.0)
+of_client options refusal (inr (inr (inr (inr (inl r))))) = absurd (differ (codes "client") (codes "import") refl r.0)
+of_client options refusal (inr (inr (inr (inr (inr r))))) = absurd (differ (codes "client") (codes "key") refl r.0)
 
 of_control : (options : List Row) (refusal : Refusal) → IsOwnRefusal (Some (codes "control", options)) refusal → RefusesControl options refusal
 of_control options refusal (inl r) = absurd (differ (codes "control") (codes "client") refl r.0)
 of_control options refusal (inr (inl r)) = r.1
 of_control options refusal (inr (inr (inl r))) = absurd (differ (codes "control") (codes "table") refl r.0)
 of_control options refusal (inr (inr (inr (inl r)))) = absurd (differ (codes "control") (codes "serve") refl r.0)
-of_control options refusal (inr (inr (inr (inr r)))) = absurd (neither (codes "control") (codes "import") (codes "key") refl refl r.0)
+of_control options refusal (inr (inr (inr (inr (inl r))))) = absurd (differ (codes "control") (codes "import") refl r.0)
+of_control options refusal (inr (inr (inr (inr (inr r))))) = absurd (differ (codes "control") (codes "key") refl r.0)
+
+of_import : (options : List Row) (refusal : Refusal) → IsOwnRefusal (Some (codes "import", options)) refusal → RefusesImport options refusal
+of_import options refusal (inl r) = absurd (differ (codes "import") (codes "client") refl r.0)
+of_import options refusal (inr (inl r)) = absurd (differ (codes "import") (codes "control") refl r.0)
+of_import options refusal (inr (inr (inl r))) = absurd (differ (codes "import") (codes "table") refl r.0)
+of_import options refusal (inr (inr (inr (inl r)))) = absurd (differ (codes "import") (codes "serve") refl r.0)
+of_import options refusal (inr (inr (inr (inr (inl r))))) = r.1
+of_import options refusal (inr (inr (inr (inr (inr r))))) = absurd (differ (codes "import") (codes "key") refl r.0)
 
 pub client_refused : (asked : Option (Text × List Row)) (options : List Row) (refusal : Refusal) → asked ≡ Some (codes "client", options)
     → (Suits (filled (flag (codes "old"))) options → (r : Refusal) → RefusesClient options r → RefusesClient options refusal)
@@ -52,6 +59,13 @@ pub control_refused : (asked : Option (Text × List Row)) (options : List Row) (
 control_refused asked options refusal is why reason =
     let own : IsOwnReason (Some (codes "control", options)) = subst IsOwnReason is reason in
     subst (λ (o : Option (Text × List Row)). IsOwnRefusal o refusal) (sym is) (inr (inl (refl, why own.0 (of_control options own.0 own.1))))
+
+pub import_refused : (asked : Option (Text × List Row)) (options : List Row) (refusal : Refusal) → asked ≡ Some (codes "import", options)
+    → ((r : Refusal) → RefusesImport options r → RefusesImport options refusal) → IsOwnReason asked → IsOwnRefusal asked refusal
+import_refused asked options refusal is why reason =
+    let own : IsOwnReason (Some (codes "import", options)) = subst IsOwnReason is reason in
+    subst (λ (o : Option (Text × List Row)). IsOwnRefusal o refusal) (sym is)
+    (inr (inr (inr (inr (inl (refl, why own.0 (of_import options own.0 own.1)))))))
 
 -- ---- why `client` is refused
 

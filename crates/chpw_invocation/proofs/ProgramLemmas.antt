@@ -142,8 +142,8 @@ check_found = ((refl, refl), ((refl, refl), tt))
 table_found : AllByRecursion (IsFound (rules_of program.table.rules)) (rules_of program.table.rules)
 table_found = ((refl, refl), ((refl, refl), ((refl, refl), ((refl, refl), tt))))
 
-import_keytab_found : AllByRecursion (IsFound (rules_of program.import_keytab.rules)) (rules_of program.import_keytab.rules)
-import_keytab_found = ((refl, refl), ((refl, refl), ((refl, refl), ((refl, refl), tt))))
+import_found : AllByRecursion (IsFound (rules_of program.import.rules)) (rules_of program.import.rules)
+import_found = ((refl, refl), ((refl, refl), ((refl, refl), ((refl, refl), ((refl, refl), ((refl, refl), tt))))))
 
 key_found : AllByRecursion (IsFound (rules_of program.key.rules)) (rules_of program.key.rules)
 key_found = ((refl, refl), ((refl, refl), ((refl, refl), ((refl, refl), ((refl, refl), ((refl, refl), tt))))))
@@ -227,7 +227,7 @@ each_suits name words no_help = (
     (
       λ is e. leaf_meets (codes "table") program.table.rules words table_found e,
       (
-        λ is e. leaf_meets (codes "import") program.import_keytab.rules words import_keytab_found e,
+        λ is e. leaf_meets (codes "import") program.import.rules words import_found e,
         (
           λ is e. leaf_meets (codes "key") program.key.rules words key_found e,
           (

@@ -1,7 +1,7 @@
 -- What a user asks for, by what clap matched: the command's name, and each option's value by its name. The words are
 -- matched by clap's own rules.
 use Rattle.std.specs.Prelude.{◌≡◌, ◌≢◌, ◌⊎◌, ◌≤◌, ℕ, Bool, true, false, List, [], Option, Some}
-use Rattle.std.specs.Prelude.{None, option_map, codes, bytes_eq, if◌then◌else◌, length, pos, ◌<◌}
+use Rattle.std.specs.Prelude.{None, option_map, codes, bytes_eq, if◌then◌else◌, length, pos, ◌<◌, ◌&&◌, nat_le}
 use Rattle.std.specs.Fmt.{decimal}
 use Rattle.std.specs.Option.{option_map_or}
 use Rattle.std.specs.Str.Parse.{IsNumeral, digits_value, without_leading_plus}
@@ -14,16 +14,17 @@ use Rattle.chpw_invocation.specs.Controls.{file_of, takes_file, word_of}
 use Rattle.chpw_invocation.specs.Refusals.{kind_for}
 use Rattle.chpw_invocation.specs.declared.refusing.Refusal.{Refusal}
 use Rattle.chpw_invocation.specs.declared.refusing.Refusal.TheVariants.{OldTarget, TwoPasswords, NoPassword, NoCommand}
-use Rattle.chpw_invocation.specs.declared.refusing.Refusal.TheVariants.{NoFile, SpareFile, NoForm, NoLimit, NoRealm}
+use Rattle.chpw_invocation.specs.declared.refusing.Refusal.TheVariants.{NoFile, SpareFile, NoForm, NoLimit, NoRealm, SpareSource, NoSource, SpareConfig}
 use Rattle.chpw_invocation.specs.declared.invocation.ClientOptions.{ClientOptions}
 use Rattle.chpw_invocation.specs.declared.invocation.ConnectionLimit.{ConnectionLimit}
 use Rattle.chpw_invocation.specs.declared.invocation.ConnectionLimit.TheVariants.{Unlimited, Of}
 use Rattle.chpw_invocation.specs.declared.invocation.ControlOptions.{ControlOptions}
 use Rattle.chpw_invocation.specs.declared.invocation.ServeOptions.{ServeOptions}
 use Rattle.chpw_invocation.specs.declared.invocation.ImportOptions.{ImportOptions}
+use Rattle.chpw_invocation.specs.declared.invocation.KdcOptions.{KdcOptions}
 use Rattle.chpw_invocation.specs.declared.invocation.KeyOptions.{KeyOptions}
 use Rattle.chpw_invocation.specs.declared.invocation.Invocation.{Invocation}
-use Rattle.chpw_invocation.specs.declared.invocation.Invocation.TheVariants.{Drill, Check, Table, Import, Key, Serve, Control, Client}
+use Rattle.chpw_invocation.specs.declared.invocation.Invocation.TheVariants.{Drill, Check, Table, Import, ImportKdc, Key, Serve, Control, Client}
 use Rattle.chpw_invocation.specs.declared.invocation.PasswordSource.{PasswordSource}
 use Rattle.chpw_invocation.specs.declared.invocation.PasswordSource.TheVariants as source
 use Rattle.chpw_invocation.specs.declared.invocation.TableForm.{TableForm}
@@ -113,6 +114,11 @@ pub record AsksImport (options : List Row) (asked : ImportOptions) : Type 0 wher
   pub realm : HasRealm options asked.realm.now
   pub iterations : HasNumberOr 4096 1 16777216 options (codes "iterations") asked.iterations
 
+pub record AsksKdc (options : List Row) (asked : KdcOptions) : Type 0 where
+  pub kdc : HasText options (codes "kdc") asked.socket.now
+  pub config : option_map (λ file. file.now) asked.config ≡ first_of (codes "config") options
+  pub iterations : HasNumberOr 4096 1 16777216 options (codes "iterations") asked.iterations
+
 pub record AsksKey (options : List Row) (asked : KeyOptions) : Type 0 where
   pub realm : HasRealm options asked.realm.now
   pub name : HasText options (codes "name") asked.name.now
@@ -132,8 +138,8 @@ pub record AsksServe (options : List Row) (asked : ServeOptions) : Type 0 where
   pub buffers : HasNumberOr 32 1 1024 options (codes "buffers") asked.buffers
   pub raise : MayHaveNumber 1 16777216 options (codes "raise") asked.raise
   pub log : option_map (λ file. file.now) asked.log ≡ first_of (codes "log") options
-  pub follower : option_map (λ socket. socket.now) asked.follower ≡ first_of (codes "follower") options
-  pub follower_wait : HasNumberOr 2000 1 60000 options (codes "follower-wait") asked.follower_wait
+  pub kdc : option_map (λ socket. socket.now) asked.kdc ≡ first_of (codes "kdc") options
+  pub kdc_wait : HasNumberOr 2000 1 60000 options (codes "kdc-wait") asked.kdc_wait
   pub control : option_map (λ socket. socket.now) asked.control ≡ first_of (codes "control") options
   pub udp : IsGiven options (codes "udp") asked.udp
   pub rfc3244_only : IsGiven options (codes "rfc3244-only") asked.rfc3244_only
@@ -187,6 +193,7 @@ AsksFor (Some p) Drill = p.0 ≡ codes "drill"
 AsksFor (Some p) (Check config) = (p.0 ≡ codes "check") × HasText p.1 (codes "config") config.now
 AsksFor (Some p) (Table asked) = (p.0 ≡ codes "table") × AsksTable p.1 asked
 AsksFor (Some p) (Import asked) = (p.0 ≡ codes "import") × AsksImport p.1 asked
+AsksFor (Some p) (ImportKdc asked) = (p.0 ≡ codes "import") × AsksKdc p.1 asked
 AsksFor (Some p) (Key asked) = (p.0 ≡ codes "key") × AsksKey p.1 asked
 AsksFor (Some p) (Serve asked) = (p.0 ≡ codes "serve") × AsksServe p.1 asked
 AsksFor (Some p) (Control asked) = (p.0 ≡ codes "control") × AsksControl p.1 asked
@@ -224,8 +231,29 @@ RefusesControl options refusal =
     ⊎ (((refusal ≡ NoFile) × LacksFile options)
     ⊎ ((refusal ≡ SpareFile) × HasSpareFile options))
 
--- Why words in which clap finds no fault are refused: a refused client or control, a table in an unknown form, a service
--- without a number of connections or `unlimited`, or a keytab or a password of a realm of 0 or more than 255 bytes.
+-- a realm has 1 to 255 bytes
+abbrev pub is_realm : Text → Bool
+is_realm realm = nat_le 1 (length realm) && nat_le (length realm) 255
+
+-- Why keys are not imported, by `--kdc`, `--keytab`, `--realm` and `--config`: they come from a KDC, or from a keytab of a
+-- realm, to which no configuration belongs.
+abbrev pub import_refusal : Option Text → Option Text → Option Text → Option Text → Option Refusal
+import_refusal (Some kdc) None None config = None
+import_refusal (Some kdc) (Some keytab) realm config = Some SpareSource
+import_refusal (Some kdc) None (Some realm) config = Some SpareSource
+import_refusal None None realm config = Some NoSource
+import_refusal None (Some keytab) None config = Some NoSource
+import_refusal None (Some keytab) (Some realm) (Some config) = Some SpareConfig
+import_refusal None (Some keytab) (Some realm) None = if is_realm realm then None else Some NoRealm
+
+abbrev pub RefusesImport : List Row → Refusal → Type 0
+RefusesImport options refusal =
+    import_refusal (first_of (codes "kdc") options) (first_of (codes "keytab") options) (first_of (codes "realm") options)
+    (first_of (codes "config") options)
+    ≡ Some refusal
+
+-- Why words in which clap finds no fault are refused: a refused client, control or import, a table in an unknown form, a
+-- service without a number of connections or `unlimited`, or a password of a realm of 0 or more than 255 bytes.
 abbrev pub IsOwnRefusal : Option (Text × List Row) → Refusal → Type 0
 IsOwnRefusal None refusal = ⊥
 IsOwnRefusal (Some p) refusal =
@@ -233,7 +261,8 @@ IsOwnRefusal (Some p) refusal =
     ⊎ (((p.0 ≡ codes "control") × RefusesControl p.1 refusal)
     ⊎ (((p.0 ≡ codes "table") × (refusal ≡ NoForm) × (form_asked p.1 ≡ None))
     ⊎ (((p.0 ≡ codes "serve") × (refusal ≡ NoLimit) × LacksLimit p.1)
-    ⊎ (((p.0 ≡ codes "import") ⊎ (p.0 ≡ codes "key")) × (refusal ≡ NoRealm) × LacksRealm p.1))))
+    ⊎ (((p.0 ≡ codes "import") × RefusesImport p.1 refusal)
+    ⊎ ((p.0 ≡ codes "key") × (refusal ≡ NoRealm) × LacksRealm p.1)))))
 
 -- the program itself refuses words in which clap finds no fault
 abbrev pub IsOwnReason : Option (Text × List Row) → Type 0

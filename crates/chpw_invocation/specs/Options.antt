@@ -76,8 +76,8 @@ clients = may_be_numbered (codes "clients") 65536
 abbrev pub buffers : Rule
 buffers = may_be_numbered (codes "buffers") 1024
 
-abbrev pub follower_wait : Rule
-follower_wait = may_be_numbered (codes "follower-wait") 60000
+abbrev pub kdc_wait : Rule
+kdc_wait = may_be_numbered (codes "kdc-wait") 60000
 
 abbrev pub raise : Rule
 raise = may_be_numbered (codes "raise") 16777216

@@ -5,7 +5,7 @@ use Rattle.clap.specs.Simple.{App, Shape, app_of, new_shape}
 use Rattle.clap.specs.declared.builder.command.Command.{Command}
 use Rattle.clap.specs.declared.builder.command.Command.TheViews.{out-Command}
 use Rattle.chpw_invocation.specs.Options.{required, optional, flag, required_word, optional_word, port, workers}
-use Rattle.chpw_invocation.specs.Options.{connections, idle, clients, buffers, raise, follower_wait, iterations, kvno}
+use Rattle.chpw_invocation.specs.Options.{connections, idle, clients, buffers, raise, kdc_wait, iterations, kvno}
 
 abbrev pub command : Text → List Rule → Shape
 command name options = record (new_shape name) { rules = options }
@@ -38,11 +38,13 @@ table = command (codes "table")
     ∷ optional (codes "as")
     ∷ [])
 
--- import --keytab FILE --realm REALM [--iterations COUNT]
-abbrev pub import_keytab : Shape
-import_keytab = command (codes "import")
-    (required (codes "keytab")
-    ∷ required (codes "realm")
+-- import [--keytab FILE] [--realm REALM] [--kdc SOCKET] [--config FILE] [--iterations COUNT]
+abbrev pub import : Shape
+import = command (codes "import")
+    (optional (codes "keytab")
+    ∷ optional (codes "realm")
+    ∷ optional (codes "kdc")
+    ∷ optional (codes "config")
     ∷ iterations
     ∷ [])
 
@@ -57,7 +59,7 @@ key = command (codes "key")
     ∷ [])
 
 -- serve --config FILE --journal FILE --seed FILE --port N --workers N --connections N [--idle SECONDS]
--- [--clients N] [--buffers MEBIBYTES] [--raise COUNT] [--log FILE] [--follower SOCKET] [--follower-wait MILLISECONDS]
+-- [--clients N] [--buffers MEBIBYTES] [--raise COUNT] [--log FILE] [--kdc SOCKET] [--kdc-wait MILLISECONDS]
 -- [--control SOCKET] [--udp] [--rfc3244-only] [--strict-messages] [--strict-modes]
 abbrev pub serve : Shape
 serve = command (codes "serve")
@@ -72,8 +74,8 @@ serve = command (codes "serve")
     ∷ buffers
     ∷ raise
     ∷ optional (codes "log")
-    ∷ optional (codes "follower")
-    ∷ follower_wait
+    ∷ optional (codes "kdc")
+    ∷ kdc_wait
     ∷ optional (codes "control")
     ∷ flag (codes "udp")
     ∷ flag (codes "rfc3244-only")
@@ -116,5 +118,5 @@ leading a = record a {
 
 abbrev pub program : App
 program = record (leading (alone (record (new_shape (codes "chpw_server")) { is_leaf = false }))) {
-  subs = drill ∷ check ∷ table ∷ import_keytab ∷ key ∷ serve ∷ control ∷ client ∷ [];
+  subs = drill ∷ check ∷ table ∷ import ∷ key ∷ serve ∷ control ∷ client ∷ [];
 }

@@ -5,7 +5,7 @@ use Rattle.clap.specs.declared.error.kind.ErrorKind.{ErrorKind}
 use Rattle.clap.specs.declared.error.kind.ErrorKind.TheVariants.{ArgumentConflict, InvalidValue, MissingRequiredArgument, UnknownArgument}
 use Rattle.chpw_invocation.specs.declared.refusing.Refusal.{Refusal}
 use Rattle.chpw_invocation.specs.declared.refusing.Refusal.TheVariants.{OldTarget, TwoPasswords, NoPassword, NoCommand}
-use Rattle.chpw_invocation.specs.declared.refusing.Refusal.TheVariants.{NoFile, SpareFile, NoForm, NoLimit, NoRealm}
+use Rattle.chpw_invocation.specs.declared.refusing.Refusal.TheVariants.{NoFile, SpareFile, NoForm, NoLimit, NoRealm, SpareSource, NoSource, SpareConfig}
 
 abbrev pub kind_for : Refusal → ErrorKind
 kind_for OldTarget = ArgumentConflict
@@ -17,6 +17,9 @@ kind_for SpareFile = UnknownArgument
 kind_for NoForm = InvalidValue
 kind_for NoLimit = InvalidValue
 kind_for NoRealm = InvalidValue
+kind_for SpareSource = ArgumentConflict
+kind_for NoSource = MissingRequiredArgument
+kind_for SpareConfig = ArgumentConflict
 
 abbrev pub text_for : Refusal → Text
 text_for OldTarget = codes "the argument '--old' cannot be used with '--target <NAME>'"
@@ -28,3 +31,6 @@ text_for SpareFile = codes "only the command 'compact' takes a '<FILE>'"
 text_for NoForm = codes "a value for '--as <FORM>' is one of: lines, configuration, keys"
 text_for NoLimit = codes "a value for '--connections <N>' is a number from 1 to 4294967295, or unlimited"
 text_for NoRealm = codes "a value for '--realm <REALM>' has 1 to 255 bytes"
+text_for SpareSource = codes "the argument '--kdc <SOCKET>' cannot be used with '--keytab <FILE>' or '--realm <REALM>'"
+text_for NoSource = codes "either '--keytab <FILE>' with '--realm <REALM>' or '--kdc <SOCKET>' is required"
+text_for SpareConfig = codes "the argument '--config <FILE>' cannot be used with '--keytab <FILE>'"

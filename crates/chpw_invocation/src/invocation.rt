@@ -26,11 +26,11 @@ pub const MOST_BUFFERS: u16 = 1_024;
 /// The default of `--buffers`: the MiB that the messages and replies of all connections may hold together.
 pub const USUAL_BUFFERS: u16 = 32;
 
-/// The greatest `--follower-wait`, in milliseconds: a minute.
-pub const LONGEST_FOLLOWER_WAIT: u32 = 60_000;
+/// The greatest `--kdc-wait`, in milliseconds: a minute.
+pub const LONGEST_KDC_WAIT: u32 = 60_000;
 
-/// The default of `--follower-wait`: the milliseconds that the reply to a change waits for a follower.
-pub const USUAL_FOLLOWER_WAIT: u32 = 2_000;
+/// The default of `--kdc-wait`: the milliseconds that the reply to a change waits for the KDC.
+pub const USUAL_KDC_WAIT: u32 = 2_000;
 
 /// The greatest iteration count.
 pub const GREATEST_COUNT: u32 = 16_777_216;
@@ -116,11 +116,11 @@ pub struct ServeOptions<'a> {
     pub raise: Option<u32>,
     /// The file of the log, if there is one.
     pub log: Option<&'a str>,
-    /// The socket of the follower that confirms that the KDC has a change; without one no reply waits.
-    pub follower: Option<&'a str>,
-    /// How many milliseconds the reply to a change waits for the follower, 1 to [`LONGEST_FOLLOWER_WAIT`]; default
-    /// [`USUAL_FOLLOWER_WAIT`].
-    pub follower_wait: u32,
+    /// The socket of the agent at the KDC's database; without one keys go nowhere else, and no reply waits.
+    pub kdc: Option<&'a str>,
+    /// How many milliseconds the reply to a change waits for the KDC, 1 to [`LONGEST_KDC_WAIT`]; default
+    /// [`USUAL_KDC_WAIT`].
+    pub kdc_wait: u32,
     /// The path of the control socket, if there is one.
     pub control: Option<&'a str>,
     /// Whether messages are accepted over UDP too.
@@ -135,7 +135,7 @@ pub struct ServeOptions<'a> {
     ghost some_idle: { (1 ≤ idle) × (idle ≤ 3600) },
     ghost some_clients: { (1 ≤ clients) × (clients ≤ 65536) },
     ghost some_buffers: { (1 ≤ buffers) × (buffers ≤ 1024) },
-    ghost some_follower_wait: { (1 ≤ follower_wait) × (follower_wait ≤ 60000) },
+    ghost some_kdc_wait: { (1 ≤ kdc_wait) × (kdc_wait ≤ 60000) },
     ghost some_count: { (count : ℕ) → raise ≡ Some count → (1 ≤ count) × (count ≤ 16777216) },
 }
 
@@ -223,6 +223,18 @@ pub struct ImportOptions<'a> {
     ghost some_count: { (1 ≤ iterations) × (iterations ≤ 16777216) },
 }
 
+/// The KDC whose principals are imported.
+#[derive(Clone, Copy, Drop)]
+pub struct KdcOptions<'a> {
+    /// The socket of the agent at the KDC's database.
+    pub socket: &'a str,
+    /// The configuration's file whose table `kdc` says who is the service's, if there is one.
+    pub config: Option<&'a str>,
+    /// The iteration count that the KDC makes keys with, 1 to 16,777,216; default [`USUAL_COUNT`].
+    pub iterations: u32,
+    ghost some_count: { (1 ≤ iterations) × (iterations ≤ 16777216) },
+}
+
 /// The principal whose keys are made from a password.
 #[derive(Clone, Copy, Drop)]
 pub struct KeyOptions<'a> {
@@ -252,6 +264,8 @@ pub enum Invocation<'a> {
     Table(TableOptions<'a>),
     /// Convert the keys of a keytab.
     Import(ImportOptions<'a>),
+    /// Convert the keys that a KDC has.
+    ImportKdc(KdcOptions<'a>),
     /// Make the keys of a password.
     Key(KeyOptions<'a>),
     /// Run the service.

@@ -13,19 +13,19 @@ ghost use Rattle.chpw_invocation.specs.Invocations.{HasPassword, HasRealm, HasTa
 ghost use Rattle.chpw_invocation.specs.Invocations.{HasTwoPasswords, IsGiven, IsInFile, IsOwnReason, IsRefusal};
 ghost use Rattle.chpw_invocation.specs.Invocations.{HasLimit, IsLimit, LacksGiven, LacksLimit, LacksNumber, LacksRealm};
 ghost use Rattle.chpw_invocation.specs.Invocations.{MayHaveNumber};
-ghost use Rattle.chpw_invocation.specs.Invocations.{RefusesClient, RefusesControl, form_asked, form_of_name};
+ghost use Rattle.chpw_invocation.specs.Invocations.{RefusesClient, RefusesControl, RefusesImport, form_asked, form_of_name};
 ghost use Rattle.chpw_invocation.specs.Controls as controls;
 ghost use Rattle.chpw_invocation.specs.Controls.{file_of, word_of};
 
 use crate::invocation::{
     ClientOptions, ConnectionLimit, ControlCommand, ControlOptions, GREATEST_COUNT, GREATEST_KVNO,
-    GREATEST_PORT, ImportOptions, Invocation, KeyOptions, LONGEST_FOLLOWER_WAIT, LONGEST_IDLE,
-    LONGEST_REALM, MOST_BUFFERS, MOST_CLIENTS, MOST_WORKERS, PasswordSource, ServeOptions,
-    TableForm, TableOptions, USUAL_BUFFERS, USUAL_CLIENTS, USUAL_COUNT, USUAL_FOLLOWER_WAIT,
-    USUAL_IDLE, USUAL_KVNO,
+    GREATEST_PORT, ImportOptions, Invocation, KdcOptions, KeyOptions, LONGEST_IDLE,
+    LONGEST_KDC_WAIT, LONGEST_REALM, MOST_BUFFERS, MOST_CLIENTS, MOST_WORKERS, PasswordSource,
+    ServeOptions, TableForm, TableOptions, USUAL_BUFFERS, USUAL_CLIENTS, USUAL_COUNT, USUAL_IDLE,
+    USUAL_KDC_WAIT, USUAL_KVNO,
 };
 use crate::program::program as new_program;
-use crate::refusing::{Refusal, refusal_of};
+use crate::refusing::{Refusal, import_refusal, refusal_of};
 use clap::{ArgMatches, Error};
 use std::alloc::Global;
 
@@ -115,17 +115,28 @@ fn form_named(name: &str) -> Option<TableForm>
     }
 }
 
-#[tactic(auto, using(crate::proofs::NeedLemmas::required_there))]
 fn import_of<'a>(options: &ArgMatches<'a>) -> Option<Invocation<'a>>
     ensures asked { IfSome result (AsksFor (Some (codes "import", rows_of (found_of options.now)))) }
-    ensures none { Meets specs_of.import_keytab (rows_of (found_of options.now)) → result ≡ None
-        → LacksRealm (rows_of (found_of options.now)) }
+    ensures none { Meets specs_of.import (rows_of (found_of options.now)) → result ≡ None
+        → (refusal : Refusal) × RefusesImport (rows_of (found_of options.now)) refusal }
 {
-    Some(Invocation::Import(ImportOptions {
-        keytab: text_of(options, "keytab")?,
-        realm: realm_of(options)?,
-        iterations: iterations_of(options)?,
-    }))
+    if import_refusal(options).is_some() {
+        return None;
+    }
+    let iterations = iterations_of(options)?;
+    match (text_of(options, "kdc"), text_of(options, "keytab")) {
+        (Some(socket), _) => Some(Invocation::ImportKdc(KdcOptions {
+            socket,
+            config: text_of(options, "config"),
+            iterations,
+        })),
+        (None, Some(keytab)) => Some(Invocation::Import(ImportOptions {
+            keytab,
+            realm: realm_of(options)?,
+            iterations,
+        })),
+        (None, None) => None,
+    }
 }
 
 #[tactic(auto, using(crate::proofs::NeedLemmas::required_there))]
@@ -175,8 +186,8 @@ fn serve_of<'a>(options: &ArgMatches<'a>) -> Option<Invocation<'a>>
         buffers: buffers_of(options)?,
         raise: raise_of(options)?,
         log: text_of(options, "log"),
-        follower: text_of(options, "follower"),
-        follower_wait: follower_wait_of(options)?,
+        kdc: text_of(options, "kdc"),
+        kdc_wait: kdc_wait_of(options)?,
         control: text_of(options, "control"),
         udp: is_given(options, "udp"),
         rfc3244_only: is_given(options, "rfc3244-only"),
@@ -426,20 +437,15 @@ fn buffers_of(options: &ArgMatches<'_>) -> Option<u16>
     Some(buffers as u16)
 }
 
-// How many milliseconds the reply to a change waits for the follower.
-fn follower_wait_of(options: &ArgMatches<'_>) -> Option<u32>
-    ensures follower_wait { IfSome result
-        (HasNumberOr 2000 1 60000 (rows_of (found_of options.now)) (codes "follower-wait")) }
+// How many milliseconds the reply to a change waits for the KDC.
+fn kdc_wait_of(options: &ArgMatches<'_>) -> Option<u32>
+    ensures kdc_wait { IfSome result
+        (HasNumberOr 2000 1 60000 (rows_of (found_of options.now)) (codes "kdc-wait")) }
     ensures lacks { result ≡ None
-        → LacksGiven 1 60000 (rows_of (found_of options.now)) (codes "follower-wait") }
-    ensures taken { Suits (filled options_of.follower_wait) (rows_of (found_of options.now)) → result ≢ None }
+        → LacksGiven 1 60000 (rows_of (found_of options.now)) (codes "kdc-wait") }
+    ensures taken { Suits (filled options_of.kdc_wait) (rows_of (found_of options.now)) → result ≢ None }
 {
-    number_or(
-        options,
-        "follower-wait",
-        USUAL_FOLLOWER_WAIT,
-        LONGEST_FOLLOWER_WAIT,
-    )
+    number_or(options, "kdc-wait", USUAL_KDC_WAIT, LONGEST_KDC_WAIT)
 }
 
 // The iteration count to raise to, if one is given.

@@ -6,8 +6,8 @@ ghost use Rattle.chpw_invocation.specs.Options.{rule_for};
 ghost use Rattle.chpw_invocation.specs.Program as specs_of;
 
 use crate::invocation::{
-    GREATEST_COUNT, GREATEST_KVNO, GREATEST_PORT, LONGEST_FOLLOWER_WAIT, LONGEST_IDLE,
-    MOST_BUFFERS, MOST_CLIENTS, MOST_WORKERS,
+    GREATEST_COUNT, GREATEST_KVNO, GREATEST_PORT, LONGEST_IDLE, LONGEST_KDC_WAIT, MOST_BUFFERS,
+    MOST_CLIENTS, MOST_WORKERS,
 };
 use crate::options::{
     OptionLine, argument_of, flag, number, optional, optional_number, optional_word,
@@ -82,9 +82,10 @@ that is silent or slow occupies only its own connection, for as long as --idle a
 is reached, a new connection ends the one that has waited longest for its client. When --buffers
 leaves no room, those connections end whose message or reply has been on its way the longest.
 
-With --follower SOCKET the reply to a change waits until the KDC has the new key, so that a client can
-use its new password at once. If the follower doesn't answer within --follower-wait, or isn't running,
-the reply is sent anyway, and the log says so.
+With --kdc SOCKET it asks the agent at the KDC's database to write each new key there, and takes users
+and passwords from there. The reply to a change waits until the KDC has the new key, so that a client
+can use its new password at once. If the agent doesn't answer within --kdc-wait, the reply is sent
+anyway, and the log says so.
 
 With --raise COUNT it first prints the result: 'raised COUNT', 'count not higher', 'journal failed' or
 'history full'. It serves after each of them.
@@ -115,11 +116,11 @@ const RAISE_HELP: &str =
 const LOG_HELP: &str =
     "Append a line for each decision to this file, created if it doesn't exist; - for standard error [default: no log]";
 
-const FOLLOWER_HELP: &str =
-    "The follower's socket: the reply to a change waits until the KDC has the change [default: no wait]";
+const KDC_HELP: &str =
+    "The socket of the agent at the KDC's database: keys are written and taken there [default: none]";
 
-const FOLLOWER_WAIT_HELP: &str =
-    "How many milliseconds a reply waits for the follower at most, 1 to 60000 [default: 2000]";
+const KDC_WAIT_HELP: &str =
+    "How many milliseconds a reply waits for the KDC at most, 1 to 60000 [default: 2000]";
 
 const CONTROL_HELP: &str = "Accept commands of 'control' at this socket [default: none]";
 
@@ -133,19 +134,34 @@ const STRICT_MESSAGES_HELP: &str =
 
 const STRICT_MODES_HELP: &str = "Don't start if other users may read, write or replace its files";
 
-const IMPORT: &str = "Convert a keytab's keys to a configuration.";
+const IMPORT: &str = "Convert a keytab's keys, or a KDC's, to a configuration.";
 
 const IMPORT_MORE: &str = "\
-Prints a [[service.key]] for each key of kadmin/changepw, and a [[principal]] for each other principal
-of the realm. Entries that a configuration can't hold are skipped, each with a line on standard error
-that says why. A keytab doesn't contain the iteration count of its keys: give it with --iterations.
+With --keytab and --realm: prints a [[service.key]] for each key of kadmin/changepw, and a
+[[principal]] for each other principal of the realm. Entries that a configuration can't hold are
+skipped, each with a line on standard error that says why.
+
+With --kdc: asks the agent at the KDC's database, and prints a [[principal]] for each principal with
+both AES keys that [kdc] of --config includes and doesn't exclude; without --config for each of one
+component. The others are skipped, each with such a line; the last line has both numbers. If none is
+left, the status is 1.
+
+Neither contains the iteration count of its keys: give it with --iterations.
 
 The output has keys in the clear: protect it like the keytab.
 
-Example:
-  chpw_server import --keytab realm.keytab --realm EXAMPLE.COM >> realm.toml";
+Examples:
+  chpw_server import --keytab realm.keytab --realm EXAMPLE.COM >> realm.toml
+  chpw_server import --kdc /run/kdc/agent.socket >> realm.toml";
 
-const KEYTAB_HELP: &str = "The keytab, in MIT's format 0x0502";
+const KEYTAB_HELP: &str = "The keytab, in MIT's format 0x0502; or --kdc";
+
+const KEYTAB_REALM_HELP: &str = "The realm of the keytab's principals, 1 to 255 bytes";
+
+const AGENT_HELP: &str = "The socket of the agent at the KDC's database; or --keytab with --realm";
+
+const KDC_CONFIG_HELP: &str =
+    "With --kdc: the configuration whose [kdc] says who is the service's [default: one component]";
 
 const REALM_HELP: &str = "The realm, 1 to 255 bytes";
 
@@ -268,13 +284,15 @@ fn table<'a>(alloc: Global) -> Result<Command<'a>, AllocError>
     command_with(alloc, "table", TABLE, TABLE_MORE, &options)
 }
 
-fn import_keytab<'a>(alloc: Global) -> Result<Command<'a>, AllocError>
-    ensures shape { IfOk result (λ c. app_of c ≡ specs_of.alone specs_of.import_keytab) }
+fn import<'a>(alloc: Global) -> Result<Command<'a>, AllocError>
+    ensures shape { IfOk result (λ c. app_of c ≡ specs_of.alone specs_of.import) }
     ensures local { IfOk result specs_of.IsLocal }
 {
     let options = [
-        required_option("keytab", "FILE", KEYTAB_HELP),
-        required_option("realm", "REALM", REALM_HELP),
+        optional("keytab", "FILE", KEYTAB_HELP),
+        optional("realm", "REALM", KEYTAB_REALM_HELP),
+        optional("kdc", "SOCKET", AGENT_HELP),
+        optional("config", "FILE", KDC_CONFIG_HELP),
         optional_number("iterations", "COUNT", GREATEST_COUNT, KEY_COUNT_HELP),
     ];
     command_with(alloc, "import", IMPORT, IMPORT_MORE, &options)
@@ -310,13 +328,8 @@ fn serve<'a>(alloc: Global) -> Result<Command<'a>, AllocError>
         optional_number("buffers", "MEBIBYTES", MOST_BUFFERS as u32, BUFFERS_HELP),
         optional_number("raise", "COUNT", GREATEST_COUNT, RAISE_HELP),
         optional("log", "FILE", LOG_HELP),
-        optional("follower", "SOCKET", FOLLOWER_HELP),
-        optional_number(
-            "follower-wait",
-            "MILLISECONDS",
-            LONGEST_FOLLOWER_WAIT,
-            FOLLOWER_WAIT_HELP,
-        ),
+        optional("kdc", "SOCKET", KDC_HELP),
+        optional_number("kdc-wait", "MILLISECONDS", LONGEST_KDC_WAIT, KDC_WAIT_HELP),
         optional("control", "SOCKET", CONTROL_HELP),
         flag("udp", UDP_HELP),
         flag("rfc3244-only", RFC3244_ONLY_HELP),
@@ -389,7 +402,7 @@ pub(crate) fn program<'a>(alloc: Global) -> Result<Command<'a>, AllocError>
     let program = with_command(Ok(leading(alloc)), drill(alloc));
     let program = with_command(program, check(alloc));
     let program = with_command(program, table(alloc));
-    let program = with_command(program, import_keytab(alloc));
+    let program = with_command(program, import(alloc));
     let program = with_command(program, key(alloc));
     let program = with_command(program, serve(alloc));
     let program = with_command(program, control(alloc));

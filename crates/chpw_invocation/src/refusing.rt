@@ -1,13 +1,15 @@
 //! Why words in which clap finds no fault are refused.
-ghost use Rattle.std.specs.Prelude.{◌≡◌, false, true, codes};
+ghost use Rattle.std.specs.Prelude.{◌≡◌, [], None, Some, false, true, codes, option_map};
 ghost use Rattle.clap.specs.Simple.{filled};
-ghost use Rattle.clap.specs.Words.{found_of, rows_of, subcommand_rows_of};
+ghost use Rattle.clap.specs.Words.{first_of, found_of, rows_of, subcommand_rows_of};
 ghost use Rattle.chpw_invocation.specs.Controls as controls;
 ghost use Rattle.chpw_invocation.specs.Invocations.{AimsOld, IsOwnReason, IsOwnRefusal, RefusesClient, RefusesControl};
+ghost use Rattle.chpw_invocation.specs.Invocations.{RefusesImport, import_refusal, is_realm};
 ghost use Rattle.chpw_invocation.specs.Needs.{IsSuited, Suits};
 ghost use Rattle.chpw_invocation.specs.Options.{flag};
 ghost use Rattle.chpw_invocation.specs.Refusals.{kind_for, text_for};
 
+use crate::invocation::LONGEST_REALM;
 use crate::matching::{is_given, text_of};
 use clap::ArgMatches;
 use clap::error::ErrorKind;
@@ -33,6 +35,12 @@ pub(crate) enum Refusal {
     NoLimit,
     /// The realm is empty or has more than 255 bytes.
     NoRealm,
+    /// `import` has a KDC, and a keytab or its realm.
+    SpareSource,
+    /// `import` has neither a KDC nor a keytab with its realm.
+    NoSource,
+    /// `import` has a configuration for a keytab.
+    SpareConfig,
 }
 
 impl Refusal {
@@ -42,7 +50,10 @@ impl Refusal {
     {
         match self {
             Refusal::OldTarget | Refusal::TwoPasswords => ErrorKind::ArgumentConflict,
-            Refusal::NoPassword | Refusal::NoFile => ErrorKind::MissingRequiredArgument,
+            Refusal::SpareSource | Refusal::SpareConfig => ErrorKind::ArgumentConflict,
+            Refusal::NoPassword | Refusal::NoFile | Refusal::NoSource => {
+                ErrorKind::MissingRequiredArgument
+            }
             Refusal::NoCommand | Refusal::NoForm | Refusal::NoLimit | Refusal::NoRealm => {
                 ErrorKind::InvalidValue
             }
@@ -72,6 +83,15 @@ impl Refusal {
                 "a value for '--connections <N>' is a number from 1 to 4294967295, or unlimited"
             }
             Refusal::NoRealm => "a value for '--realm <REALM>' has 1 to 255 bytes",
+            Refusal::SpareSource => {
+                "the argument '--kdc <SOCKET>' cannot be used with '--keytab <FILE>' or '--realm <REALM>'"
+            }
+            Refusal::NoSource => {
+                "either '--keytab <FILE>' with '--realm <REALM>' or '--kdc <SOCKET>' is required"
+            }
+            Refusal::SpareConfig => {
+                "the argument '--config <FILE>' cannot be used with '--keytab <FILE>'"
+            }
         }
     }
 }
@@ -87,6 +107,7 @@ pub(crate) fn refusal_of(matches: &ArgMatches<'_>) -> Refusal
     match name {
         "client" => client_refusal(options),
         "control" => control_refusal(options),
+        "import" => refusal_of_import(options),
         "table" => Refusal::NoForm,
         "serve" => Refusal::NoLimit,
         _ => Refusal::NoRealm,
@@ -121,6 +142,70 @@ fn control_refusal(options: &ArgMatches<'_>) -> Refusal
             Some(false) => Refusal::SpareFile,
         },
     }
+}
+
+// Why `import` is refused.
+fn refusal_of_import(options: &ArgMatches<'_>) -> Refusal
+    ensures why { (refusal : Refusal) → RefusesImport (rows_of (found_of options.now)) refusal
+        → RefusesImport (rows_of (found_of options.now)) result }
+{
+    match import_refusal(options) {
+        Some(refusal) => refusal,
+        None => Refusal::NoRealm,
+    }
+}
+
+/// Why `import` is refused, if it is.
+pub(crate) fn import_refusal(options: &ArgMatches<'_>) -> Option<Refusal>
+    ensures value { result ≡ import_refusal (first_of (codes "kdc") (rows_of (found_of options.now)))
+        (first_of (codes "keytab") (rows_of (found_of options.now)))
+        (first_of (codes "realm") (rows_of (found_of options.now)))
+        (first_of (codes "config") (rows_of (found_of options.now))) }
+{
+    source_refusal(
+        text_of(options, "kdc"),
+        text_of(options, "keytab"),
+        text_of(options, "realm"),
+        text_of(options, "config"),
+    )
+}
+
+fn source_refusal(
+    kdc: Option<&str>,
+    keytab: Option<&str>,
+    realm: Option<&str>,
+    config: Option<&str>,
+) -> Option<Refusal>
+    ensures value { result ≡ import_refusal (option_map (λ t. t.now) kdc.entry)
+        (option_map (λ t. t.now) keytab.entry) (option_map (λ t. t.now) realm.entry)
+        (option_map (λ t. t.now) config.entry) }
+{
+    match (kdc, keytab, realm) {
+        (Some(_), None, None) => None,
+        (Some(_), _, _) => Some(Refusal::SpareSource),
+        (None, Some(_), Some(realm)) => keytab_refusal(realm, config),
+        (None, _, _) => Some(Refusal::NoSource),
+    }
+}
+
+// Why the keys of a keytab of this realm are not imported, if they aren't.
+fn keytab_refusal(realm: &str, config: Option<&str>) -> Option<Refusal>
+    ensures value { result ≡ import_refusal None (Some []) (Some realm.now) (option_map (λ t. t.now) config.entry) }
+{
+    if config.is_some() {
+        Some(Refusal::SpareConfig)
+    } else if is_realm(realm) {
+        None
+    } else {
+        Some(Refusal::NoRealm)
+    }
+}
+
+/// Whether a realm has 1 to 255 bytes.
+pub(crate) fn is_realm(realm: &str) -> bool
+    ensures value { result ≡ is_realm realm.now }
+{
+    1 <= realm.len() && realm.len() <= LONGEST_REALM
 }
 
 // Whether the command of this word takes a file; none if there is no such command.

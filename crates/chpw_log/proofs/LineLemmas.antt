@@ -68,8 +68,8 @@ pub unconfirmed_joined : (a b words : List ℕ)
 unconfirmed_joined a b words = simp append_assoc refl
 
 pub mark_joined : (old a : List ℕ)
-    → old ++ codes "not confirmed by the follower: the journal up to byte " ++ a
-    ≡ old ++ (codes "not confirmed by the follower: the journal up to byte " ++ a)
+    → old ++ codes "not confirmed by the KDC: change " ++ a
+    ≡ old ++ (codes "not confirmed by the KDC: change " ++ a)
 mark_joined old a = simp append_assoc refl
 
 -- ---- the words of what was held back
@@ -139,3 +139,22 @@ with_quiet (Err fault) both quiet h k = tt
 
 pub number_printed : (words : List ℕ) (number : ℕ) → number < 2 ^ 64 → are_printed words ≡ true → are_printed (words ++ decimal number) ≡ true
 number_printed words number small h = both_printed words (decimal number) h (graphic_printed (decimal number) (decimal_graphic number small))
+
+-- ---- updates from the KDC
+
+pub named_printed : {E : Type 0} (result : Result Unit E) (word name : List ℕ) → OnOk result (are_graphic name ≡ true)
+    → OnOk result (are_printed word ≡ true → are_printed (word ++ name) ≡ true)
+named_printed (Ok done) word name g = λ h. both_printed word name h (graphic_printed name g)
+named_printed (Err fault) word name g = tt
+
+pub version_joined : (old named a : List ℕ) → old ++ named ++ codes " kvno " ++ a ≡ old ++ (named ++ codes " kvno " ++ a)
+version_joined old named a = simp append_assoc refl
+
+pub refusal_joined : (old refused words : List ℕ) → old ++ refused ++ codes " text " ++ words ≡ old ++ (refused ++ codes " text " ++ words)
+refusal_joined old refused words = simp append_assoc refl
+
+pub refusal_printed : {E : Type 0} (result : Result Unit E) (refused words : List ℕ) → are_printed refused ≡ true → OnOk result (are_printed words ≡ true)
+    → OnOk result (are_printed (refused ++ codes " text " ++ words) ≡ true)
+refusal_printed (Ok done) refused words h k =
+    both_printed (refused ++ codes " text ") words (both_printed refused (codes " text ") h refl) k
+refusal_printed (Err fault) refused words h k = tt

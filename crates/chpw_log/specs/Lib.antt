@@ -7,3 +7,4 @@ pub mod Summaries
 pub mod Unconfirmed
 pub mod Laws
 pub mod Events
+pub mod Updates

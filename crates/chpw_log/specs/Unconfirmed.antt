@@ -1,4 +1,4 @@
--- The line for a change whose reply was sent although no follower had confirmed that the KDC has it.
+-- The line for a change whose reply was sent although the KDC hadn't confirmed it.
 use Rattle.std.specs.Prelude.{ℕ, List, [], ◌∷◌, ◌++◌, codes}
 use Rattle.std.specs.List.{join_with_byte}
 use Rattle.std.specs.Fmt.{decimal}
@@ -6,9 +6,9 @@ use Rattle.chpw_table.specs.declared.times.Moment.{Moment}
 use Rattle.chpw_log.specs.Lines.{address_text}
 use Rattle.chpw_log.specs.Moments.{moment_text}
 
--- this many bytes of the journal, which include the change's record
+-- the change of this number since the service started
 abbrev pub unconfirmed_words : ℕ → List ℕ
-unconfirmed_words mark = codes "not confirmed by the follower: the journal up to byte " ++ decimal mark
+unconfirmed_words mark = codes "not confirmed by the KDC: change " ++ decimal mark
 
 -- the peer whose reply it was; the change itself has a line of its own before it
 abbrev pub unconfirmed_fields : Moment → List ℕ → ℕ → List (List ℕ)

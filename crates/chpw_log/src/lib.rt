@@ -12,6 +12,7 @@ mod message_event;
 mod moment;
 mod summing;
 mod unconfirmed;
+mod updates;
 mod writing;
 
 pub use event::{ServiceEvent, write_event};
@@ -22,4 +23,5 @@ pub use line::{Line, micros_of};
 pub use message_event::{Asked, MessageEvent, Party};
 pub use summing::write_held;
 pub use unconfirmed::write_unconfirmed;
+pub use updates::write_update;
 pub use writing::write_line;

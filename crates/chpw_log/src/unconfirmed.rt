@@ -1,4 +1,4 @@
-//! The line for a change that no follower has confirmed.
+//! The line for a change that the KDC hasn't confirmed.
 ghost use Rattle.std.specs.Prelude.{◌≡◌, ◌++◌, ◌<◌, codes, true, IfOk, OnOk};
 ghost use Rattle.std.specs.Fmt.{decimal};
 ghost use Rattle.chpw_printing.specs.Quoting.{are_printed, is_field};
@@ -13,8 +13,8 @@ use chpw_printing::put_number;
 use chpw_table::Moment;
 use std::alloc::{AllocError, Global};
 
-/// The line that says that the reply to a change was sent to this peer before the follower had confirmed the journal's
-/// first `mark` bytes, which include the change; with its newline. It has the fields of every line, with `-` for all
+/// The line that says that the reply to a change was sent to this peer before the KDC had confirmed it, the `mark`-th
+/// since the service started; with its newline. It has the fields of every line, with `-` for all
 /// but the moment, the peer and the text.
 pub fn write_unconfirmed(
     alloc: Global,
@@ -50,12 +50,12 @@ fn put_start(text: &mut Vec<u8>, moment: Moment, peer: [u8; 4]) -> Result<(), Al
     put_address(text, peer)
 }
 
-// Adds up to where the journal isn't confirmed, in words.
+// Adds which change isn't confirmed, in words.
 fn put_mark(text: &mut Vec<u8>, mark: u64) -> Result<(), AllocError>
     ensures value { OnOk result (text.new.items ≡ text.old.items ++ unconfirmed_words mark) }
     ensures printed { OnOk result (are_printed (unconfirmed_words mark) ≡ true) }
 {
-    text.extend_from_slice(b"not confirmed by the follower: the journal up to byte ")?;
+    text.extend_from_slice(b"not confirmed by the KDC: change ")?;
     put_number(text, mark)?;
     Ok(())
 }

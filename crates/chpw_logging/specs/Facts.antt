@@ -49,6 +49,10 @@ behind_raise f iterations = record f {
   all_entries = plus f.all_entries 1;
 }
 
+-- so is an update from the KDC, however it was decided
+abbrev pub after_update : Facts → Facts
+after_update f = record f { entries = plus f.entries 1; all_entries = plus f.all_entries 1 }
+
 -- the line of a message: only a decision is counted
 abbrev pub after_line : Facts → MessageEvent → Facts
 after_line f (Decided asked verdict kvno) = behind_decision f verdict

@@ -3,6 +3,7 @@ use Rattle.std.specs.Prelude.{ℕ, List, ◌++◌, codes}
 use Rattle.std.specs.Fmt.{decimal}
 use Rattle.chpw_logging.specs.declared.notices.Notice.{Notice}
 use Rattle.chpw_logging.specs.declared.notices.Notice.TheVariants.{LogLost, JournalFailed, OutputLost, Expired, Unconfirmed}
+use Rattle.chpw_logging.specs.declared.notices.Notice.TheVariants.{KdcDown, KdcMisspoken, KdcRefused, KdcFailed, KdcLacks, KdcLost}
 use Rattle.chpw_logging.specs.declared.notices.Notice.TheVariants.{Shared, ManagerNotTold, Lacked, TailCut}
 
 abbrev pub notice_line : Notice → List ℕ
@@ -12,7 +13,14 @@ notice_line (JournalFailed journal) =
 notice_line OutputLost = codes "standard output: a line was lost; further losses are not reported"
 notice_line (Expired count) = codes "messages dropped after waiting 5 seconds for a worker: " ++ decimal count
 notice_line (Unconfirmed socket) =
-    socket.now ++ codes ": a change was answered before the follower confirmed it; more are not reported until it confirms one"
+    socket.now ++ codes ": a change was answered before the KDC had it; more are not reported until one is confirmed"
+notice_line (KdcDown socket) = socket.now ++ codes ": no connection to the KDC's agent; it is tried again"
+notice_line (KdcMisspoken socket) = socket.now ++ codes ": the KDC's agent said what it may not; it is called again"
+notice_line (KdcRefused socket refusal) = socket.now ++ (codes ": the KDC's agent refuses " ++ refusal.now)
+notice_line (KdcFailed socket text) = socket.now ++ (codes ": the KDC's database can't be had: " ++ text.now)
+notice_line (KdcLacks socket gone of) =
+    socket.now ++ (codes ": the KDC lacks " ++ (decimal gone ++ (codes " of " ++ (decimal of ++ codes " principals; none is removed"))))
+notice_line (KdcLost socket) = socket.now ++ codes ": memory ran out for a change on its way to the KDC; both are compared"
 notice_line (Shared file) = file.now ++ codes ": other users may read or write it"
 notice_line ManagerNotTold = codes "NOTIFY_SOCKET: the service manager could not be told that the service is ready"
 notice_line (Lacked count) = codes "principals missing from the configuration: "

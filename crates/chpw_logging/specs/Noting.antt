@@ -4,7 +4,9 @@ use Rattle.chpw_table.specs.declared.times.Moment.{Moment}
 use Rattle.chpw_table.specs.declared.request.Opened.{Opened}
 use Rattle.chpw_table.specs.declared.request.Target.{Target}
 use Rattle.chpw_table.specs.declared.history.Event.{Event}
-use Rattle.chpw_table.specs.declared.history.Event.TheVariants.{Ask, Raise}
+use Rattle.chpw_table.specs.declared.history.Event.TheVariants.{Ask, Raise, Update}
+use Rattle.chpw_table.specs.declared.updating.KdcUpdate.{KdcUpdate}
+use Rattle.chpw_table.specs.declared.updating.UpdateVerdict.{UpdateVerdict}
 use Rattle.chpw_table.specs.declared.verdict.Verdict.{Verdict}
 use Rattle.chpw_table.specs.declared.verdict.Verdict.TheVariants.{Skew, Replay, Broken}
 use Rattle.chpw_table.specs.Requests.{client_of}
@@ -15,11 +17,12 @@ use Rattle.chpw_log.specs.declared.kind.HeldKind.TheVariants.{Unopened, Skewed, 
 use Rattle.chpw_log.specs.Lines.{Outcome, target_asked, line_with}
 
 -- the line of a message that opened, of this moment; that of one of a kind whose lines are limited, which may be held
--- back, with its moment and peer; or that the journal did not take a change, at this moment
+-- back, with its moment and peer; that the journal did not take a change, at this moment; or what came of an update from the KDC
 pub data Noted : Type 0 where
   opened : Moment → List ℕ → Noted
   limited : HeldKind → Moment → List ℕ → List ℕ → Noted
   journal_failed : Moment → Noted
+  updated : Moment → KdcUpdate → UpdateVerdict → Noted
 
 -- what anybody can have answered without a ticket: a message that was recorded, long ago or a short while ago
 abbrev pub kind_of : Verdict → Option HeldKind
@@ -59,11 +62,12 @@ abbrev pub failed_under : Moment → Verdict → List Noted
 failed_under now Broken = journal_failed now ∷ []
 failed_under now v = []
 
--- for a decision: its line, and before it that the journal failed, if it did; a raise belongs to no message
+-- for a decision: its line, and before it that the journal failed, if it did; a raise and an update belong to no message
 abbrev pub noted_event : ℕ → List ℕ → Moment → Event → Option ℕ → List Noted
 noted_event worker peer now (Ask o v) kvno =
     failed_under now v ++ noted_line (kind_of v) now peer (decided_line worker peer now o v kvno) ∷ []
 noted_event worker peer now (Raise count v) kvno = []
+noted_event worker peer now (Update u v) kvno = []
 
 -- by the observer of this worker
 abbrev pub noted : ℕ → Heard → List Noted

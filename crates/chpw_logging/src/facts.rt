@@ -4,7 +4,7 @@ ghost use Rattle.std.specs.Option.{ForSome};
 ghost use Rattle.chpw_table.specs.Times.{IsMoment};
 ghost use Rattle.chpw_control.specs.Statuses.{IsTold};
 ghost use Rattle.chpw_log.specs.Events.{IsQuietTold, IsWholeMoment};
-ghost use Rattle.chpw_logging.specs.Facts.{after_line, after_loss, after_opening, after_raise, behind_decision, behind_raise};
+ghost use Rattle.chpw_logging.specs.Facts.{after_line, after_loss, after_opening, after_raise, after_update, behind_decision, behind_raise};
 ghost use Rattle.chpw_logging.specs.Facts.{ended_event, quiet_moment, quiet_time, raised_event, reloaded_event};
 ghost use Rattle.chpw_logging.specs.Facts.{principals_told, rolled_over_event, started_event};
 
@@ -141,6 +141,14 @@ impl Facts {
         ensures value { self.new ≡ behind_raise self.old iterations }
     {
         self.iterations = iterations;
+        self.entries = self.entries.saturating_add(1);
+        self.all_entries = self.all_entries.saturating_add(1);
+    }
+
+    /// An update from the KDC was decided.
+    pub(crate) fn count_update(&mut self)
+        ensures value { self.new ≡ after_update self.old }
+    {
         self.entries = self.entries.saturating_add(1);
         self.all_entries = self.all_entries.saturating_add(1);
     }

@@ -13,10 +13,10 @@ use crate::observers::Lines;
 use chpw_invocation::ServeOptions;
 use chpw_log::{
     Held, HeldCounts, HeldKind, Line, LineLimits, ServiceEvent, micros_of, write_event, write_held,
-    write_line, write_unconfirmed,
+    write_line, write_unconfirmed, write_update,
 };
 use chpw_start::{LineOutput, RaiseReport, ServeFault, is_standard_error, keep_apart};
-use chpw_table::{Moment, Table};
+use chpw_table::{KdcUpdate, Moment, Table, UpdateVerdict};
 use std::alloc::{AllocError, Global};
 use std::fs::{File, Files};
 use std::io::{self, ErrorKind};
@@ -138,6 +138,20 @@ impl<R: Wait + Eprint> Log<'_, R> {
         }
     }
 
+    /// An update from the KDC was decided: an entry of the history, and a line.
+    pub fn tell_update(&self, now: Moment, update: &KdcUpdate, verdict: UpdateVerdict)
+        requires moment { IsMoment now }
+        requires micros { now.micros < 1000000 }
+    {
+        self.facts.lock(self.rt).count_update();
+        if let Some(book) = &self.book {
+            self.put_text(book, write_update(self.alloc, now, update, verdict));
+        }
+        if matches!(verdict, UpdateVerdict::Broken) {
+            self.tell_failed(now);
+        }
+    }
+
     /// Appends the summaries that are still due, and the line of the end. They are the last ones.
     pub fn end(&self, now: Moment)
         requires moment { IsMoment now }
@@ -210,8 +224,8 @@ impl<R: Wait + Eprint> Log<'_, R> {
         }
     }
 
-    /// Appends the line of a change that was answered, to this peer, before the follower had confirmed the journal's first
-    /// `mark` bytes, which include it.
+    /// Appends the line of a change that was answered, to this peer, before the KDC had confirmed it: the `mark`-th since the
+    /// service started.
     pub fn put_unconfirmed(&self, now: Moment, peer: [u8; 4], mark: u64)
         requires moment { IsMoment now }
         requires micros { now.micros < 1000000 }
@@ -346,5 +360,9 @@ impl<R: Wait + Eprint> Lines for LogLines<'_, R> {
 
     fn tell_failed(&mut self, now: Moment) {
         self.log.tell_failed(now);
+    }
+
+    fn put_update(&mut self, now: Moment, update: &KdcUpdate, verdict: UpdateVerdict) {
+        self.log.tell_update(now, update, verdict);
     }
 }

@@ -14,8 +14,20 @@ pub enum Notice<'a> {
     OutputLost,
     /// This many more messages had waited too long for their worker.
     Expired(u32),
-    /// The follower at this socket hasn't confirmed a change that was answered.
+    /// The agent at this socket hasn't confirmed a change that was answered.
     Unconfirmed(&'a str),
+    /// There is no connection to the agent at this socket.
+    KdcDown(&'a str),
+    /// The agent at this socket has said what it may not.
+    KdcMisspoken(&'a str),
+    /// The agent at this socket refuses a name: which, and why.
+    KdcRefused(&'a str, &'a str),
+    /// The agent at this socket can't get at its database: what it says of it.
+    KdcFailed(&'a str, &'a str),
+    /// The KDC lacks this many of the names that are held, of so many.
+    KdcLacks(&'a str, u64, u64),
+    /// A change was lost for want of memory on its way to the agent at this socket.
+    KdcLost(&'a str),
     /// Others than its owner may read or write this file.
     Shared(&'a str),
     /// The service manager couldn't be told that the service listens.
@@ -56,7 +68,37 @@ impl fmt::Display for Notice<'_> {
             Notice::Unconfirmed(socket) => {
                 write!(
                     f,
-                    "{socket}: a change was answered before the follower confirmed it; more are not reported until it confirms one"
+                    "{socket}: a change was answered before the KDC had it; more are not reported until one is confirmed"
+                )
+            }
+            Notice::KdcDown(socket) => {
+                write!(
+                    f,
+                    "{socket}: no connection to the KDC's agent; it is tried again"
+                )
+            }
+            Notice::KdcMisspoken(socket) => {
+                write!(
+                    f,
+                    "{socket}: the KDC's agent said what it may not; it is called again"
+                )
+            }
+            Notice::KdcRefused(socket, refusal) => {
+                write!(f, "{socket}: the KDC's agent refuses {refusal}")
+            }
+            Notice::KdcFailed(socket, text) => {
+                write!(f, "{socket}: the KDC's database can't be had: {text}")
+            }
+            Notice::KdcLacks(socket, gone, of) => {
+                write!(
+                    f,
+                    "{socket}: the KDC lacks {gone} of {of} principals; none is removed"
+                )
+            }
+            Notice::KdcLost(socket) => {
+                write!(
+                    f,
+                    "{socket}: memory ran out for a change on its way to the KDC; both are compared"
                 )
             }
             Notice::Shared(file) => write!(f, "{file}: other users may read or write it"),

@@ -4,12 +4,12 @@ ghost use Rattle.chpw_table.specs.Times.{IsMoment};
 ghost use Rattle.chpw_serve.specs.Holding.{answer_in};
 ghost use Rattle.chpw_serve.specs.InTurn.{InTurn};
 ghost use Rattle.chpw_log.specs.Lines.{line_of};
-ghost use Rattle.chpw_logging.specs.Noting.{Noted, opened as opened_line, limited, journal_failed};
+ghost use Rattle.chpw_logging.specs.Noting.{Noted, opened as opened_line, limited, journal_failed, updated as update_told};
 ghost use Rattle.chpw_logging.specs.Noting.{decided_line, failed_under, kind_of, noted_line, refused_line};
 
 use chpw_log::{Asked, HeldKind, Line, MessageEvent};
-use chpw_serve::{Gate, Observer, Spot};
-use chpw_table::{Event, Moment, Opened, Receipt, Verdict};
+use chpw_serve::{Gate, Observer, Spot, UpdateObserver};
+use chpw_table::{Event, KdcUpdate, Moment, Opened, Receipt, UpdateVerdict, Verdict};
 use krb_protocol::Refusal;
 
 /// Where the lines of a log go.
@@ -30,6 +30,12 @@ pub trait Lines {
         requires moment { IsMoment now }
         requires micros { now.micros < 1000000 }
         ensures taken { takes self.old (journal_failed now) self.new };
+
+    /// The line of an update from the KDC that was decided at this moment.
+    fn put_update(&mut self, now: Moment, update: &KdcUpdate, verdict: UpdateVerdict)
+        requires moment { IsMoment now }
+        requires micros { now.micros < 1000000 }
+        ensures taken { takes self.old (update_told now update.now verdict) self.new };
 }
 
 /// Hears what comes of this worker's messages; a gate that holds nobody.
@@ -57,6 +63,18 @@ impl<L: Lines> Gate for Logging<L> {
     fn at(&mut self, _spot: Spot) {}
 }
 
+impl<L: Lines> UpdateObserver for Logging<L> {
+    ghost use Rattle.std.specs.Prelude.{◌≡◌};
+    ghost use Rattle.chpw_logging.specs.Noting.{updated as update_noted};
+
+    ghost hears_update = { λ a now update verdict b.
+        (b.worker ≡ a.worker) × L.takes a.lines (update_noted now update verdict) b.lines };
+
+    fn updated(&mut self, now: Moment, update: &KdcUpdate, verdict: UpdateVerdict) {
+        self.lines.put_update(now, update, verdict);
+    }
+}
+
 impl<L: Lines> Observer for Logging<L> {
     ghost use Rattle.std.specs.Prelude.{◌≡◌};
     ghost use Rattle.chpw_serve.specs.InTurn.{InTurn};
@@ -64,7 +82,7 @@ impl<L: Lines> Observer for Logging<L> {
 
     ghost hears = { λ a h b. (b.worker ≡ a.worker) × InTurn L.takes a.lines (noted a.worker h) b.lines };
 
-    // A raise belongs to no message.
+    // A raise and an update from the KDC belong to no message.
     fn decided(&mut self, peer: [u8; 4], now: Moment, receipt: &Receipt, kvno: Option<u32>) {
         if let Event::Ask { opened, verdict } = &receipt.entry.event {
             tell_failed(&mut self.lines, now, *verdict);

@@ -9,7 +9,7 @@ use Rattle.chpw_start.specs.Modes.{words_of}
 use Rattle.chpw_orders.specs.declared.compacting.CompactFault.{CompactFault}
 use Rattle.chpw_orders.specs.declared.compacting.CompactFault.TheVariants as compaction
 use Rattle.chpw_orders.specs.declared.replacing.NotReplaced.{NotReplaced}
-use Rattle.chpw_orders.specs.declared.replacing.NotReplaced.TheVariants.{Failed, Changed, NoGain, Waited, Unwritten, Unsafe, Memory}
+use Rattle.chpw_orders.specs.declared.replacing.NotReplaced.TheVariants.{Failed, Changed, NoGain, Unwritten, Unsafe, Memory}
 use Rattle.chpw_orders.specs.declared.rereading.PrepareFault.{PrepareFault}
 use Rattle.chpw_start.specs.declared.ownership.Exposure.{Exposure}
 use Rattle.chpw_orders.specs.declared.rereading.PrepareFault.TheVariants as reload
@@ -59,7 +59,6 @@ abbrev pub not_replaced_words : List ℕ → NotReplaced → List ℕ
 not_replaced_words path Failed = codes "journal failed"
 not_replaced_words path Changed = changed_words
 not_replaced_words path NoGain = codes "nothing to gain"
-not_replaced_words path Waited = codes "replies wait for the follower"
 not_replaced_words path Unwritten = unwritten path
 not_replaced_words path Unsafe = unwritten path
 not_replaced_words path Memory = codes "memory"

@@ -117,7 +117,6 @@ pub fn compact_answer(
         Err(NotReplaced::Failed) => refusal(alloc, "journal failed"),
         Err(NotReplaced::Changed) => refusal(alloc, CHANGED),
         Err(NotReplaced::NoGain) => refusal(alloc, "nothing to gain"),
-        Err(NotReplaced::Waited) => refusal(alloc, "replies wait for the follower"),
         Err(NotReplaced::Unwritten | NotReplaced::Unsafe) => write_refusal(alloc, path),
         Err(NotReplaced::Memory) => refusal(alloc, "memory"),
     }

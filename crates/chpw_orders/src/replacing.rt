@@ -22,8 +22,6 @@ pub enum NotReplaced {
     Changed,
     /// The compact one would be as long as the present one, or longer.
     NoGain,
-    /// A reply waited too long for the follower.
-    Waited,
     /// The new one can't be written.
     Unwritten,
     /// It has replaced the former one, but may not be on the disk: nothing more is written to either.
@@ -120,7 +118,7 @@ fn compact_text(alloc: Global, base: &Table, held: &Table) -> Result<Option<Vec<
     ensures whole { IfOk result (λ found. IfSome found (λ _. AreWholeRecords (compacted base.now.state held.now.state))) }
     ensures none { IfOk result (λ found. IfNone found (GoesWith base.now.state held.now.state → ⊥)) }
 {
-    if !goes_with(alloc, base, held)? {
+    if !goes_with(base, held) {
         return Ok(None);
     }
     Ok(Some(compact_journal(alloc, base, held)?))

@@ -10,7 +10,7 @@ use crate::control::send_command;
 use crate::ending::Ending;
 use crate::new_password::unread_ending;
 use chpw_commands::{DrillFault, explain_check, run_check, run_drill};
-use chpw_import::{KeysFault, tell_keytab, tell_password};
+use chpw_import::{KeysFault, tell_kdc, tell_keytab, tell_password};
 use chpw_invocation::{Invocation, command_of};
 use chpw_service::serve;
 use chpw_start::{ServeFault, read_configuration, tell_table};
@@ -48,6 +48,7 @@ where
         Ok(Invocation::Check { config }) => check(rt, config),
         Ok(Invocation::Table(options)) => ending_of_service(tell_table(rt, options)),
         Ok(Invocation::Import(options)) => ending_of_keys(tell_keytab(rt, options)),
+        Ok(Invocation::ImportKdc(options)) => ending_of_keys(tell_kdc(rt, options)),
         Ok(Invocation::Key(options)) => ending_of_keys(tell_password(rt, options)),
         Ok(Invocation::Serve(options)) => ending_of_service(serve(rt, options)),
         Ok(Invocation::Control(options)) => send_command(rt, options),

@@ -1,5 +1,5 @@
 -- The whole run of a service, put together from its parts.
-use Rattle.std.proofs.Common.{◌≡◌, ℕ, List, Option, is_some, length, subst}
+use Rattle.std.proofs.Common.{◌≡◌, ℕ, Bool, List, Option, is_some, length, subst}
 use Rattle.std.specs.declared.fs.File.{File}
 use Rattle.chpw_rules.specs.declared.config.Config.{Config}
 use Rattle.chpw_table.specs.Agreement.{Held}
@@ -15,45 +15,44 @@ use Rattle.chpw_desks.specs.ServiceRuns.{RunsTo, gives_moment, new_passes}
 use Rattle.chpw_start.specs.Rules.{AreRulesOf}
 use Rattle.chpw_desks.specs.Staff.{AreStaff, ServiceWorker}
 use Rattle.chpw_service.specs.WholeRuns.{IsServedByNewWorkers, IsServedFrom, IsWholeRun}
-use Rattle.chpw_desks.specs.declared.journals.JournalLength.{JournalLength}
 use Rattle.chpw_start.specs.declared.raising.RaiseReport.{RaiseReport}
 use Rattle.chpw_start.specs.declared.rules.Rules.{Rules}
 
 module _ {R L : Type 0} (options : ServeOptions) (key : List ℕ) (rules : Rules) where
   -- workers that are new serve
-  pub by_new_workers : (journal : JournalLength) (count : ℕ) (opening : Held) (passes : List PassView)
+  pub by_new_workers : (has_kdc : Bool) (count : ℕ) (opening : Held) (passes : List PassView)
       (workers : List (ServiceWorker R L)) → AreStaff key 0 workers → length workers ≡ count
-      → (table : Held) × RunsTo journal options opening passes rules workers table
-      → IsServedByNewWorkers R L journal options key count opening passes rules
-  by_new_workers journal count opening passes workers new counted run =
+      → (table : Held) × RunsTo has_kdc options opening passes rules workers table
+      → IsServedByNewWorkers R L has_kdc options key count opening passes rules
+  by_new_workers has_kdc count opening passes workers new counted run =
       record { workers = workers; are_new = new; counted = counted; left = run.0; run = run.1 }
 
   -- they serve with what the service starts with
-  pub served_from : (journal mark : JournalLength) (used : ServeOptions) (count : ℕ) (opening table : Held) (passes olds : List PassView)
-      (before after : Moment) (told : Option RaiseReport) → mark ≡ journal → used ≡ options → count ≡ options.workers → table ≡ opening
-      → olds ≡ new_passes options.workers
+  pub served_from : (has_kdc : Bool) (used : ServeOptions) (count : ℕ) (opening table : Held) (passes olds : List PassView)
+      (before after : Moment) (told : Option RaiseReport) → has_kdc ≡ is_some options.kdc → used ≡ options → count ≡ options.workers
+      → table ≡ opening → olds ≡ new_passes options.workers
       → IsRaisedWhereAsked gives_moment table.state before after olds passes options.raise told
-      → IsServedByNewWorkers R L mark used key count table passes rules
-      → IsServedFrom R L journal options key opening rules before
-  served_from journal mark used count opening table passes olds before after told marks uses counts tables old raised served =
-      let by_mark = subst (λ (m : JournalLength). IsServedByNewWorkers R L m used key count table passes rules) marks served in
-      let by_options = subst (λ (o : ServeOptions). IsServedByNewWorkers R L journal o key count table passes rules) uses by_mark in
-      let by_count = subst (λ (n : ℕ). IsServedByNewWorkers R L journal options key n table passes rules) counts by_options in
+      → IsServedByNewWorkers R L has_kdc used key count table passes rules
+      → IsServedFrom R L options key opening rules before
+  served_from has_kdc used count opening table passes olds before after told kdc uses counts tables old raised served =
+      let by_kdc = subst (λ (b : Bool). IsServedByNewWorkers R L b used key count table passes rules) kdc served in
+      let by_options = subst (λ (o : ServeOptions). IsServedByNewWorkers R L (is_some options.kdc) o key count table passes rules) uses by_kdc in
+      let by_count = subst (λ (n : ℕ). IsServedByNewWorkers R L (is_some options.kdc) options key n table passes rules) counts by_options in
       record {
         after = after;
         passes = passes;
         told = told;
         raised = subst (λ (t : Held). IsRaisedWhereAsked gives_moment t.state before after (new_passes options.workers) passes options.raise told) tables
             (subst (λ (ps : List PassView). IsRaisedWhereAsked gives_moment table.state before after ps passes options.raise told) old raised);
-        served = subst (λ (t : Held). IsServedByNewWorkers R L journal options key options.workers t passes rules) tables by_count;
+        served = subst (λ (t : Held). IsServedByNewWorkers R L (is_some options.kdc) options key options.workers t passes rules) tables by_count;
       }
 
 -- and that is what its files say
 pub whole_run : {R L : Type 0} (options : ServeOptions) (config : Config) (rules : Rules) (given : Option (List ℕ)) (started since : Moment)
-    (found : Journal File) (journal : JournalLength) (seed : List ℕ) (table : Held) → AreRulesOf config options rules
-    → IsOpening gives_moment config given (moment_after 0) started found → journal.has_follower ≡ is_some options.follower
-    → table ≡ found.table → IsServedFrom R L journal options (key_of seed) table rules since → IsWholeRun R L options
-whole_run {R} {L} options config rules given started since found journal seed table are opening follower tables served =
+    (found : Journal File) (seed : List ℕ) (table : Held) → AreRulesOf config options rules
+    → IsOpening gives_moment config given (moment_after 0) started found
+    → table ≡ found.table → IsServedFrom R L options (key_of seed) table rules since → IsWholeRun R L options
+whole_run {R} {L} options config rules given started since found seed table are opening tables served =
     record {
       config = config;
       rules = rules;
@@ -62,9 +61,7 @@ whole_run {R} {L} options config rules given started since found journal seed ta
       given = given;
       found = found;
       opening = opening;
-      journal = journal;
-      follower = follower;
       seed = seed;
       since = since;
-      served = subst (λ (t : Held). IsServedFrom R L journal options (key_of seed) t rules since) tables served;
+      served = subst (λ (t : Held). IsServedFrom R L options (key_of seed) t rules since) tables served;
     }

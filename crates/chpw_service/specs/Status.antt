@@ -1,25 +1,27 @@
 -- What `status` tells of a service.
-use Rattle.std.specs.Prelude.{◌≡◌, ℕ, ◌-◌, ◌^◌, min, List, [], ◌∷◌, ◌++◌, Bool, if◌then◌else◌}
+use Rattle.std.specs.Prelude.{◌≡◌, ℕ, ◌-◌, ◌^◌, min, List, [], ◌∷◌, ◌++◌, Bool, Option, Some, None, option_map, if◌then◌else◌}
+use Rattle.std.specs.Option.{option_map_or}
 use Rattle.chpw_control.specs.Answers.{lines_text, ok_line}
 use Rattle.chpw_control.specs.Statuses.{status_lines}
 use Rattle.chpw_control.specs.declared.status.Status.{Status}
 use Rattle.chpw_control.specs.declared.status.JournalState.{JournalState}
 use Rattle.chpw_control.specs.declared.status.JournalState.TheVariants.{Good, Failed}
-use Rattle.chpw_control.specs.declared.status.FollowerState.{FollowerState}
-use Rattle.chpw_control.specs.declared.status.FollowerState.TheVariants.{Absent, Confirmed, Unconfirmed}
+use Rattle.chpw_control.specs.declared.status.KdcState.{KdcState}
+use Rattle.chpw_control.specs.declared.status.KdcState.TheVariants.{Absent, Connected, Down}
 use Rattle.chpw_control.specs.declared.time.Time.{Time}
 use Rattle.chpw_transfers.specs.Controlling.{sum_of}
 use Rattle.chpw_transfers.specs.declared.connection_counts.ConnectionCounts.{ConnectionCounts}
 use Rattle.chpw_logging.specs.Facts.{quiet_time}
 use Rattle.chpw_logging.specs.declared.facts.Facts.{Facts}
-use Rattle.chpw_service.specs.declared.status.Readings.{Readings}
+use Rattle.chpw_service.specs.declared.readings.KdcReadings.{KdcReadings}
+use Rattle.chpw_service.specs.declared.readings.Readings.{Readings}
 
 abbrev pub journal_state : Bool → JournalState
 journal_state has_failed = if has_failed then Failed else Good
 
-abbrev pub follower_state : Bool → Bool → FollowerState
-follower_state has_follower is_behind =
-    if has_follower then (if is_behind then Unconfirmed else Confirmed) else Absent
+abbrev pub kdc_state : Option KdcReadings → KdcState
+kdc_state None = Absent
+kdc_state (Some k) = if k.is_connected then Connected else Down
 
 -- the status of a service of this version, by what was read of it, its counters and its connections: busy are the
 -- workers that answer a message, queued the messages that wait for one
@@ -46,11 +48,12 @@ pub record IsStatusOf (version : List ℕ) (r : Readings) (f : Facts) (c : Conne
   pub journal_bytes : s.journal_bytes ≡ r.journal_bytes
   pub journal : s.journal ≡ journal_state r.has_failed
   pub log_lost : s.log_lost ≡ f.lost
-  pub follower : s.follower ≡ follower_state r.has_follower c.is_behind
+  pub kdc : s.kdc ≡ kdc_state r.kdc
+  pub kdc_since : s.kdc_since ≡ option_map (λ k. k.since) r.kdc
+  pub kdc_behind : s.kdc_behind ≡ option_map_or (λ k. k.behind) r.kdc 0
 
--- the whole answer of a service that started then, with this many workers, and with a follower or without: its status at
--- some moment
-pub record IsStatusAnswer (version : List ℕ) (since : Time) (workers : ℕ) (has_follower : Bool) (c : ConnectionCounts)
+-- the whole answer of a service that started then, with this many workers: its status at some moment
+pub record IsStatusAnswer (version : List ℕ) (since : Time) (workers : ℕ) (c : ConnectionCounts)
     (text : List ℕ) : Type 0 where
   pub readings : Readings
   pub facts : Facts
@@ -58,5 +61,4 @@ pub record IsStatusAnswer (version : List ℕ) (since : Time) (workers : ℕ) (h
   pub is_status : IsStatusOf version readings facts c status
   pub since_is : readings.since ≡ since
   pub workers_is : readings.workers ≡ workers
-  pub follower_is : readings.has_follower ≡ has_follower
   pub text_is : text ≡ lines_text (status_lines status ++ ok_line ∷ [])

@@ -1,5 +1,5 @@
 -- THE WHOLE RUN of a service, from the text of its configuration to the table that its last desk left.
-use Rattle.std.specs.Prelude.{◌≡◌, ℕ, List, Option, is_some, length}
+use Rattle.std.specs.Prelude.{◌≡◌, ℕ, Bool, List, Option, is_some, length}
 use Rattle.std.specs.declared.fs.File.{File}
 use Rattle.rand_chacha.specs.ChaCha.{key_of}
 use Rattle.chpw_rules.specs.declared.config.Config.{Config}
@@ -14,28 +14,27 @@ use Rattle.chpw_start.specs.Raised.{IsRaisedWhereAsked}
 use Rattle.chpw_desks.specs.ServiceRuns.{RunsTo, gives_moment, new_passes}
 use Rattle.chpw_start.specs.Rules.{AreRulesOf}
 use Rattle.chpw_desks.specs.Staff.{AreStaff, ServiceWorker}
-use Rattle.chpw_desks.specs.declared.journals.JournalLength.{JournalLength}
 use Rattle.chpw_start.specs.declared.raising.RaiseReport.{RaiseReport}
 use Rattle.chpw_start.specs.declared.rules.Rules.{Rules}
 
 -- as many new workers, with words of this key, serve at one desk after the other, from a first one with this table, these passes
 -- and these rules on
-pub record IsServedByNewWorkers (R L : Type 0) (journal : JournalLength) (options : ServeOptions) (key : List ℕ) (count : ℕ)
+pub record IsServedByNewWorkers (R L : Type 0) (has_kdc : Bool) (options : ServeOptions) (key : List ℕ) (count : ℕ)
     (opening : Held) (passes : List PassView) (rules : Rules) : Type 0 where
   pub workers : List (ServiceWorker R L)
   pub are_new : AreStaff key 0 workers
   pub counted : length workers ≡ count
   pub left : Held
-  pub run : RunsTo journal options opening passes rules workers left
+  pub run : RunsTo has_kdc options opening passes rules workers left
 
 -- before that the count of iterations is raised at the first desk, if that is asked for
-pub record IsServedFrom (R L : Type 0) (journal : JournalLength) (options : ServeOptions) (key : List ℕ) (opening : Held)
+pub record IsServedFrom (R L : Type 0) (options : ServeOptions) (key : List ℕ) (opening : Held)
     (rules : Rules) (before : Moment) : Type 0 where
   pub after : Moment
   pub passes : List PassView
   pub told : Option RaiseReport
   pub raised : IsRaisedWhereAsked gives_moment opening.state before after (new_passes options.workers) passes options.raise told
-  pub served : IsServedByNewWorkers R L journal options key options.workers opening passes rules
+  pub served : IsServedByNewWorkers R L (is_some options.kdc) options key options.workers opening passes rules
 
 -- there is a configuration that a text sets, by whose rules messages are answered, and with whose table, restored from what the
 -- journal's file gave, the first desk opens
@@ -47,8 +46,6 @@ pub record IsWholeRun (R L : Type 0) (options : ServeOptions) : Type 0 where
   pub given : Option (List ℕ)
   pub found : Journal File
   pub opening : IsOpening gives_moment config given (moment_after 0) started found
-  pub journal : JournalLength
-  pub follower : journal.has_follower ≡ is_some options.follower
   pub seed : List ℕ
   pub since : Moment
-  pub served : IsServedFrom R L journal options (key_of seed) found.table rules since
+  pub served : IsServedFrom R L options (key_of seed) found.table rules since

@@ -2,9 +2,10 @@
 #![tactic(auto)]
 
 mod control_socket;
-mod followed;
+mod kdc;
 mod late_fault;
 pub mod laws;
+mod readings;
 mod running;
 mod service_manager;
 mod serving;

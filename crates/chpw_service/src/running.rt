@@ -1,5 +1,5 @@
 //! The service's threads: the reactor, and the one that serves at the desks.
-ghost use Rattle.std.specs.Prelude.{◌≡◌, ◌⊎◌, IfErr, IfOk, IfSome, IsSome, true, IsSomeAnd, None, Ok, OnOk, OnErr, length};
+ghost use Rattle.std.specs.Prelude.{◌≡◌, ◌⊎◌, IfErr, IfOk, IfSome, IsSome, true, IsSomeAnd, None, Ok, OnOk, OnErr, length, is_some};
 ghost use Rattle.chpw_changelog.specs.Pens.{opening_state, opening_table};
 ghost use Rattle.chpw_reload.specs.ReloadRuns.{IsServiceRun};
 ghost use Rattle.chpw_start.specs.Faults.{IsLate};
@@ -10,11 +10,11 @@ ghost use Rattle.chpw_logging.specs.declared.logging.LogLines.{LogLines};
 ghost use Rattle.rand_chacha.specs.ChaCha.{key_of};
 ghost use Rattle.chpw_table.specs.Agreement.{Held};
 
-use crate::followed::{ControlTerms, SocketFollower};
+use crate::kdc::{ControlTerms, SocketKdc};
 use crate::late_fault::LateFault;
 use chpw_book::DeskName;
 use chpw_desks::{Opened, ServiceContext, ServiceWorker, make_staff, serve_histories};
-use chpw_reactor::{Follower, Pool, PoolOptions, StatusReporter};
+use chpw_reactor::{KdcTerms, Pool, PoolOptions, StatusReporter};
 use chpw_sockets::PoolFault;
 use chpw_start::{Rules, ServeFault};
 use chpw_table::Table;
@@ -53,13 +53,21 @@ pub(crate) fn serve_from<
     terms: PoolOptions,
 ) -> Result<(), ServeFault<'a>>
     requires passes { length first.passes.items ≡ hall.now.workers }
-    ensures served { OnOk result (IsServedByNewWorkers R (LogLines R) hall.now.journal hall.now.options.now (key_of terms.seed)
+    ensures served { OnOk result (IsServedByNewWorkers R (LogLines R) (is_some hall.now.kdc.socket) hall.now.options.now (key_of terms.seed)
         hall.now.workers (opening_table D.root) first.passes.items rules) }
     ensures fault { IfErr result IsLate }
 {
-    let followed = SocketFollower::of(rt, time, hall.log, &hall.journal, hall.follower, control);
+    let kdc = SocketKdc::of(
+        rt,
+        time,
+        hall.log,
+        &hall.journal,
+        hall.kdc,
+        hall.patterns,
+        control,
+    );
     let mut first = Some(first);
-    let ended = serve_with_staff(rt, time, listener, hall, followed, rules, &mut first, terms);
+    let ended = serve_with_staff(rt, time, listener, hall, kdc, rules, &mut first, terms);
     match first {
         None => {}
         Some(Opened { desk, passes }) => {
@@ -88,19 +96,19 @@ fn serve_with_staff<
         + AllocGlobal
         + Sync,
     T: Clock + Sync,
-    F: Follower + StatusReporter + Send + Drop,
+    F: KdcTerms + StatusReporter + Send + Drop,
 >(
     rt: &'h R,
     time: &'t T,
     listener: &TcpListener,
     hall: &'h ServiceContext<'l, R>,
-    followed: F,
+    kdc: F,
     rules: Rules,
     first: &mut Option<Opened<D>>,
     terms: PoolOptions,
 ) -> Result<(), ServeFault<'a>>
     requires passes { IfSome first.old (λ opened. length opened.passes.items ≡ hall.now.workers) }
-    ensures served { OnOk result (IfSome first.old (λ opened. IsServedByNewWorkers R (LogLines R) hall.now.journal hall.now.options.now
+    ensures served { OnOk result (IfSome first.old (λ opened. IsServedByNewWorkers R (LogLines R) (is_some hall.now.kdc.socket) hall.now.options.now
         (key_of terms.seed) hall.now.workers (opening_table D.root) opened.passes.items rules)) }
     ensures fault { IfErr result IsLate }
 {
@@ -111,7 +119,7 @@ fn serve_with_staff<
             time,
             listener,
             hall,
-            followed,
+            kdc,
             rules,
             workers,
             first,
@@ -138,13 +146,13 @@ fn serve_all<
         + AllocGlobal
         + Sync,
     T: Clock + Sync,
-    F: Follower + StatusReporter + Send + Drop,
+    F: KdcTerms + StatusReporter + Send + Drop,
 >(
     rt: &'h R,
     time: &'t T,
     listener: &TcpListener,
     hall: &'h ServiceContext<'l, R>,
-    followed: F,
+    kdc: F,
     rules: Rules,
     workers: Vec<ServiceWorker<'h, 'l, 't, R, T>>,
     first: &mut Option<Opened<D>>,
@@ -152,7 +160,7 @@ fn serve_all<
 ) -> Result<(), ServeFault<'a>>
     requires passes { IfSome first.old (λ opened. length opened.passes.items ≡ hall.now.workers) }
     requires workers { length workers.items ≡ hall.now.workers }
-    ensures served { OnOk result (IfSome first.old (λ opened. (table : Held) × RunsTo hall.now.journal hall.now.options.now
+    ensures served { OnOk result (IfSome first.old (λ opened. (table : Held) × RunsTo (is_some hall.now.kdc.socket) hall.now.options.now
         (opening_table D.root) opened.passes.items rules workers.entry.items table)) }
     ensures fault { IfErr result IsLate }
 {
@@ -161,12 +169,12 @@ fn serve_all<
         rt,
         move |scope| -> Result<Option<Table>, LateFault>
             requires { IfSome first.now (λ opened. length opened.passes.items ≡ hall.now.workers) × (length workers.items ≡ hall.now.workers) }
-            ensures { OnOk result (IfSome first.entry.now (λ opened. (table : Held) × RunsTo hall.entry.now.journal
+            ensures { OnOk result (IfSome first.entry.now (λ opened. (table : Held) × RunsTo (is_some hall.entry.now.kdc.socket)
                 hall.entry.now.options.now (opening_table D.root) opened.passes.items rules workers.entry.items table)) }
         {
             let engine = &hall.engine;
             if scope
-                .spawn(move || engine.react(rt, listener, connections, followed))
+                .spawn(move || engine.react(rt, listener, connections, kdc))
                 .is_err()
             {
                 return Err(LateFault::Memory);
@@ -218,8 +226,8 @@ fn serve_or_desert<
     ensures taken { first.new ≡ None }
     ensures none { first.old ≡ None → result ≡ Ok None }
     ensures served { IfSome first.old (λ opened. IfOk result (λ table. IsSomeAnd table
-        (RunsTo hall.now.journal hall.now.options.now (opening_table D.root) opened.passes.items rules workers.entry.items))) }
-    ensures left { OnOk result (IfSome first.old (λ opened. (table : Held) × RunsTo hall.now.journal hall.now.options.now
+        (RunsTo (is_some hall.now.kdc.socket) hall.now.options.now (opening_table D.root) opened.passes.items rules workers.entry.items))) }
+    ensures left { OnOk result (IfSome first.old (λ opened. (table : Held) × RunsTo (is_some hall.now.kdc.socket) hall.now.options.now
         (opening_table D.root) opened.passes.items rules workers.entry.items table)) }
     ensures histories { IsSome first.old → IfOk result (λ table. IsSomeAnd table (IsServiceRun (opening_state D.root))) }
 {

@@ -14,22 +14,24 @@ ghost use Rattle.chpw_logging.specs.declared.logging.LogLines.{LogLines};
 ghost use Rattle.rand_chacha.specs.ChaCha.{key_of};
 
 use crate::control_socket::{control_socket, take_away};
-use crate::followed::ControlTerms;
+use crate::kdc::ControlTerms;
 use crate::running::{serve_fault_of, serve_from};
 use crate::service_manager::{notify_ready, notify_stopping};
 use chpw_book::{Desk, DeskName, Pass};
 use chpw_desks::{
-    FollowerTerms, JournalLength, Opened, Opening, ServiceContext, first_opening, journal_length,
+    JournalLength, KdcPlace, Opened, Opening, ServiceContext, first_opening, journal_length,
     start_desk,
 };
 use chpw_invocation::{ConnectionLimit, ServeOptions};
 use chpw_journal::{FileSink, Journal};
+use chpw_kdc::KdcDialog;
 use chpw_logging::{Log, Notice, log_of, time_of};
-use chpw_reactor::{Engine, PoolOptions};
+use chpw_reactor::{Engine, PoolOptions, dialog_with};
+use chpw_rules::NamePatterns;
 use chpw_serve::{Clock as _, Messages as _};
 use chpw_sockets::DatagramSocket;
 use chpw_start::{
-    Configuration, Rules, ServeFault, configuration_of, is_shared, open_table, own_ids,
+    Configuration, Rules, ServeFault, configuration_of, is_shared, kdc_names, open_table, own_ids,
     raise_where_asked, read_seed, refuse_exposed, rules_of, standing_at,
 };
 use chpw_transfers::AcceptLimit;
@@ -89,6 +91,7 @@ pub fn serve_by<
     ensures fault { IfErr result (IsOfService options.entry) }
 {
     let Configuration { config, text } = configuration_of(rt, options.config)?;
+    let names = kdc_names(rt.alloc(), &text)?;
     let seed = read_seed(rt, options.seed)?;
     refuse_exposed(rt, &options)?;
     let log = log_of(rt, rt.alloc(), &options)?;
@@ -102,8 +105,7 @@ pub fn serve_by<
         found: _,
         cut_at,
     } = open_table(rt, rt.alloc(), config, options.journal, &mut clock)?;
-    let has_follower = options.follower.is_some();
-    let journal = journal_length(rt.alloc(), has_follower, options.journal, &mut sink)?;
+    let journal = journal_length(rt.alloc(), options.journal, &mut sink)?;
     if let Some(kept) = cut_at {
         log.tell(Notice::TailCut(options.journal, kept));
     }
@@ -111,12 +113,15 @@ pub fn serve_by<
     let listener = control_socket(rt, options.control)?;
     let since = clock.now();
     log.tell_start(since, &table);
+    let kdc = options.kdc.map(|_| dialog_with(rt, &table));
     let opening = first_opening(table, sink, options.workers);
     let start = Start {
         options: &options,
         terms: terms_of(&options, seed),
         log: &log,
         journal,
+        names: &names,
+        kdc,
     };
     let control = ControlTerms {
         listener,
@@ -146,6 +151,8 @@ struct Start<'l, R> {
     terms: PoolOptions,
     log: &'l Log<'l, R>,
     journal: JournalLength,
+    names: &'l NamePatterns,
+    kdc: Option<KdcDialog>,
 }
 
 // Serves what is opened: at the first desk the count is raised if that is asked for, and then the service listens at
@@ -177,7 +184,7 @@ fn serve_opened<
 ) -> Result<(), ServeFault<'a>>
     requires name { IsNamed opening.unnamed D.name D.parts D.book D.root D.workers }
     requires workers { workers_of opening.unnamed ≡ start.options.now.workers }
-    ensures served { OnOk result (IsServedFrom R (LogLines R) start.entry.journal start.entry.options.now (key_of start.entry.terms.seed)
+    ensures served { OnOk result (IsServedFrom R (LogLines R) start.entry.options.now (key_of start.entry.terms.seed)
         (table_of opening.unnamed) rules clock.old) }
     ensures fault { IfErr result IsLate }
 {
@@ -216,10 +223,10 @@ fn raise_and_listen<
     clock: &mut C,
 ) -> Result<(TcpListener, ServiceContext<'l, R>), ServeFault<'a>>
     ensures workers { IfOk result (λ r. r.1.workers ≡ start.entry.options.now.workers) }
-    ensures journal { IfOk result (λ r. r.1.journal ≡ start.entry.journal) }
     ensures options { IfOk result (λ r. r.1.options.now ≡ start.entry.options.now) }
-    ensures follower { IfOk result (λ r. (r.1.follower.socket ≡ start.entry.options.now.follower)
-        × (r.1.follower.wait ≡ start.entry.options.now.follower_wait)) }
+    ensures kdc { IfOk result (λ r. (r.1.kdc.socket ≡ start.entry.options.now.kdc)
+        × (r.1.kdc.wait ≡ start.entry.options.now.kdc_wait)) }
+    ensures names { IfOk result (λ r. r.1.patterns ≡ start.entry.names) }
     ensures raised { OnOk result ((told : Option RaiseReport) × IsRaisedWhereAsked C.gives (opening_state D.root)
         clock.old clock.new passes.old passes.new start.entry.options.now.raise told) }
     ensures passes { length passes.new ≡ length passes.old }
@@ -242,10 +249,10 @@ fn listening<
     realm: &[u8],
 ) -> Result<(TcpListener, ServiceContext<'l, R>), ServeFault<'a>>
     ensures workers { IfOk result (λ r. r.1.workers ≡ start.entry.options.now.workers) }
-    ensures journal { IfOk result (λ r. r.1.journal ≡ start.entry.journal) }
     ensures options { IfOk result (λ r. r.1.options.now ≡ start.entry.options.now) }
-    ensures follower { IfOk result (λ r. (r.1.follower.socket ≡ start.entry.options.now.follower)
-        × (r.1.follower.wait ≡ start.entry.options.now.follower_wait)) }
+    ensures kdc { IfOk result (λ r. (r.1.kdc.socket ≡ start.entry.options.now.kdc)
+        × (r.1.kdc.wait ≡ start.entry.options.now.kdc_wait)) }
+    ensures names { IfOk result (λ r. r.1.patterns ≡ start.entry.names) }
     ensures fault { IfErr result IsLate }
 {
     let Start {
@@ -253,19 +260,22 @@ fn listening<
         terms,
         log,
         journal,
+        names,
+        kdc,
     } = start;
     let listener = listen(rt, options.port)?;
     let datagrams = datagrams_of(rt, options, realm)?;
-    let engine = engine_of(rt, rt.alloc(), options.workers, &terms, datagrams)?;
+    let engine = engine_of(rt, rt.alloc(), options.workers, &terms, datagrams, kdc)?;
     let hall = ServiceContext {
         engine,
         workers: options.workers,
         log,
         journal,
-        follower: FollowerTerms {
-            socket: options.follower,
-            wait: options.follower_wait,
+        kdc: KdcPlace {
+            socket: options.kdc,
+            wait: options.kdc_wait,
         },
+        patterns: names,
         options,
     };
     match println!(rt; "listening on 127.0.0.1:{}", options.port) {
@@ -342,12 +352,20 @@ fn engine_of<'a, R: Net>(
     workers: u8,
     terms: &PoolOptions,
     datagrams: Option<DatagramSocket>,
+    kdc: Option<KdcDialog>,
 ) -> Result<Engine, ServeFault<'a>>
     requires some_workers { 1 ≤ workers }
     ensures workers { IfOk result (λ engine. workers_at engine ≡ workers) }
     ensures fault { IfErr result IsLate }
 {
-    match Engine::of(rt, alloc, terms.bounds(), usize::from(workers), datagrams) {
+    match Engine::of(
+        rt,
+        alloc,
+        terms.bounds(),
+        usize::from(workers),
+        datagrams,
+        kdc,
+    ) {
         Err(fault) => Err(serve_fault_of(fault)),
         Ok(engine) => Ok(engine),
     }

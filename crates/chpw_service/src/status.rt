@@ -2,28 +2,14 @@
 ghost use Rattle.std.specs.Prelude.{◌≡◌, ◌++◌, ◌∷◌, ◌⊎◌, []};
 ghost use Rattle.chpw_control.specs.Answers.{lines_text, ok_line};
 ghost use Rattle.chpw_control.specs.Statuses.{AreTold, IsTold, status_lines};
-ghost use Rattle.chpw_service.specs.Status.{IsStatusOf, follower_state, journal_state};
+ghost use Rattle.chpw_service.specs.Status.{IsStatusOf, kdc_state, journal_state};
 
-use chpw_control::{FollowerState, JournalState, Status, Time, status_answer};
+use crate::readings::{KdcReadings, Readings};
+use chpw_control::{JournalState, KdcState, Status, status_answer};
 use chpw_logging::Facts;
 use chpw_orders::answer_or_empty;
-use chpw_table::Moment;
 use chpw_transfers::ConnectionCounts;
 use std::alloc::Global;
-
-/// What is read of a service for its status, beside its counters and its connections.
-#[derive(Clone, Copy, Drop)]
-pub(crate) struct Readings {
-    /// When the service started.
-    pub since: Time,
-    /// The moment of the status.
-    pub moment: Moment,
-    pub workers: u8,
-    pub journal_bytes: u64,
-    /// Whether an append to the journal has failed.
-    pub has_failed: bool,
-    pub has_follower: bool,
-}
 
 /// The status of a service of this version.
 pub(crate) fn status_of<'a>(
@@ -31,9 +17,11 @@ pub(crate) fn status_of<'a>(
     readings: &Readings,
     facts: &Facts,
     counts: &ConnectionCounts,
+    refused: Option<&'a [u8]>,
 ) -> Status<'a>
     requires since { IsTold readings.now.since }
     ensures value { IsStatusOf version.now readings.now facts.now counts.now result }
+    ensures refused { result.kdc_refused ≡ refused.entry }
     ensures told { AreTold result }
 {
     Status {
@@ -59,7 +47,10 @@ pub(crate) fn status_of<'a>(
         journal_bytes: readings.journal_bytes,
         journal: journal_state(readings.has_failed),
         log_lost: facts.lost,
-        follower: follower_state(readings.has_follower, counts.is_behind),
+        kdc: kdc_state(readings.kdc),
+        kdc_since: readings.kdc.map(|kdc| kdc.since),
+        kdc_behind: readings.kdc.map_or(0, |kdc| kdc.behind),
+        kdc_refused: refused,
     }
 }
 
@@ -81,14 +72,12 @@ fn journal_state(has_failed: bool) -> JournalState
     }
 }
 
-fn follower_state(has_follower: bool, is_behind: bool) -> FollowerState
-    ensures value { result ≡ follower_state has_follower is_behind }
+fn kdc_state(kdc: Option<KdcReadings>) -> KdcState
+    ensures value { result ≡ kdc_state kdc }
 {
-    if !has_follower {
-        FollowerState::Absent
-    } else if is_behind {
-        FollowerState::Unconfirmed
-    } else {
-        FollowerState::Confirmed
+    match kdc {
+        None => KdcState::Absent,
+        Some(kdc) if kdc.is_connected => KdcState::Connected,
+        Some(_) => KdcState::Down,
     }
 }

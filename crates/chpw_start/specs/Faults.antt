@@ -3,8 +3,10 @@ use Rattle.std.specs.Prelude.{◌≡◌, ◌≢◌, ◌⊎◌, ℕ, true, List, 
 use Rattle.std.specs.Borrow.{Bor}
 use Rattle.std.specs.Str.{IsUtf8}
 use Rattle.chpw_config.specs.Faults.{fault_text as config_text, no_toml}
+use Rattle.chpw_config.specs.Kdc.{kdc_of}
 use Rattle.chpw_config.specs.Settings.{settings_of}
 use Rattle.chpw_rules.specs.declared.config.Config.{Config as Settings}
+use Rattle.chpw_rules.specs.declared.pattern.NamePatterns.{NamePatterns}
 use Rattle.chpw_config.specs.declared.fault.ConfigFault.{ConfigFault}
 use Rattle.chpw_table.specs.Agreement.{Held}
 use Rattle.chpw_journal.specs.Restoring.{fault_text as journal_text}
@@ -40,6 +42,10 @@ line_of CannotClose = codes "cannot close"
 abbrev pub Sets : List ℕ → Result Settings ConfigFault → Type 0
 Sets bytes found = (IsUtf8 bytes × (settings_of bytes ≡ found)) ⊎ (¬ (IsUtf8 bytes) × (found ≡ Err no_toml))
 
+-- which names of the KDC's these bytes say are the service's, or the first fault of their table
+abbrev pub SetsNames : List ℕ → Result NamePatterns ConfigFault → Type 0
+SetsNames bytes found = (IsUtf8 bytes × (kdc_of bytes ≡ found)) ⊎ (¬ (IsUtf8 bytes) × (found ≡ Err no_toml))
+
 -- the fault of the file at a path: it can't be read
 abbrev pub IsUnread : List ℕ → ServeFault → Type 0
 IsUnread path (CannotRead file) = file.now ≡ path
@@ -51,6 +57,12 @@ abbrev pub IsOfBytes : List ℕ → ServeFault → Type 0
 IsOfBytes bytes (Config fault) = Sets bytes (Err fault)
 IsOfBytes bytes Memory = Unit {0}
 IsOfBytes bytes fault = ⊥
+
+-- the fault of what these bytes say of the KDC's names: its first
+abbrev pub IsOfNames : List ℕ → ServeFault → Type 0
+IsOfNames bytes (Config fault) = SetsNames bytes (Err fault)
+IsOfNames bytes Memory = Unit {0}
+IsOfNames bytes fault = ⊥
 
 -- the fault of the configuration: it can't be read, or its bytes have this first fault
 abbrev pub IsOfSettings : List ℕ → ServeFault → Type 0
@@ -107,6 +119,7 @@ restore_fault restore.Memory = Memory
 restore_fault (restore.BadRecord number) = Journal (restore.BadRecord number)
 restore_fault (restore.WrongVersion number) = Journal (restore.WrongVersion number)
 restore_fault (restore.UnknownPrincipal number) = Journal (restore.UnknownPrincipal number)
+restore_fault (restore.TooMany number) = Journal (restore.TooMany number)
 restore_fault restore.CannotRead = Journal restore.CannotRead
 
 abbrev pub open_line : List ℕ → OpenFault → List ℕ

@@ -4,13 +4,13 @@ ghost use Rattle.std.specs.IoError.{error_kind};
 ghost use Rattle.chpw_start.specs.declared.fault.ServeFault.TheVariants.{Memory};
 ghost use Rattle.std.specs.Io.KnownBytes.{Consumes};
 ghost use Rattle.chpw_rules.specs.Fitting.{config_fits};
-ghost use Rattle.chpw_start.specs.Faults.{IsOfBytes, IsOfSettings, IsUnread, Sets};
+ghost use Rattle.chpw_start.specs.Faults.{IsOfBytes, IsOfNames, IsOfSettings, IsUnread, Sets, SetsNames};
 
 use crate::bounded::read_at_most;
 use crate::fault::ServeFault;
 use crate::line_output::{Kind, kind_of};
-use chpw_config::{ConfigError, ConfigFault, read_config};
-use chpw_rules::Config;
+use chpw_config::{ConfigError, ConfigFault, read_config, read_kdc};
+use chpw_rules::{Config, NamePatterns};
 use std::alloc::Global;
 use std::fs::{File, Files};
 use std::io::{ErrorKind, Read};
@@ -117,6 +117,22 @@ pub fn settings<'a>(alloc: Global, bytes: &[u8]) -> Result<Config, ServeFault<'a
     };
     match read_config(alloc, text) {
         Ok(config) => Ok(config),
+        Err(ConfigError::Fault(fault)) => Err(ServeFault::Config(fault)),
+        Err(ConfigError::Memory) => Err(ServeFault::Memory),
+    }
+}
+
+/// Which of the KDC's names are the service's, as the table `kdc` of a configuration's bytes says, or the first fault of that
+/// table.
+pub fn kdc_names<'a>(alloc: Global, bytes: &[u8]) -> Result<NamePatterns, ServeFault<'a>>
+    ensures value { IfOk result (λ patterns. SetsNames bytes.now (Ok patterns)) }
+    ensures fault { IfErr result (IsOfNames bytes.now) }
+{
+    let Ok(text) = str::from_utf8(bytes) else {
+        return Err(ServeFault::Config(ConfigFault::not_toml()));
+    };
+    match read_kdc(alloc, text) {
+        Ok(patterns) => Ok(patterns),
         Err(ConfigError::Fault(fault)) => Err(ServeFault::Config(fault)),
         Err(ConfigError::Memory) => Err(ServeFault::Memory),
     }

@@ -18,8 +18,8 @@ mod table;
 pub use fault::ServeFault;
 pub use file_ids::keep_apart;
 pub use files::{
-    Configuration, LONGEST_CONFIGURATION, configuration_of, configuration_text, open_file,
-    read_configuration, read_seed, read_settings, settings, unread_fault,
+    Configuration, LONGEST_CONFIGURATION, configuration_of, configuration_text, kdc_names,
+    open_file, read_configuration, read_seed, read_settings, settings, unread_fault,
 };
 pub use line_output::{Kind, LineOutput, is_standard_error};
 pub use ownership::{Exposure, Ids, Standing, is_shared, own_ids, standing_at};

@@ -1,7 +1,7 @@
 //! The command `client`, with each of its options, against a service.
 use chpw_invocation::{
     ClientOptions, ConnectionLimit, PasswordSource, ServeOptions, USUAL_BUFFERS, USUAL_CLIENTS,
-    USUAL_FOLLOWER_WAIT, USUAL_IDLE,
+    USUAL_IDLE, USUAL_KDC_WAIT,
 };
 use chpw_program::{Ending, ask};
 use chpw_service::serve;
@@ -228,8 +228,8 @@ fn serving<'a>(port: u16, connections: u32, log: &'a str) -> ServeOptions<'a> {
         buffers: USUAL_BUFFERS,
         raise: None,
         log: Some(log),
-        follower: None,
-        follower_wait: USUAL_FOLLOWER_WAIT,
+        kdc: None,
+        kdc_wait: USUAL_KDC_WAIT,
         control: None,
         udp: false,
         rfc3244_only: false,

@@ -10,7 +10,7 @@ use std::rt::Env;
 
 /// Command lines without the program's name, and what they ask for; of one that asks for no command, a word
 /// of clap's text.
-const LINES: [(&str, &str); 66] = [
+const LINES: [(&str, &str); 74] = [
     ("drill", "drill"),
     ("drill --config c", "unexpected"),
     ("check --config c", "check c"),
@@ -199,6 +199,17 @@ const LINES: [(&str, &str); 66] = [
         "import --keytab k --realm EXAMPLE.COM --iterations 5",
         "import k EXAMPLE.COM iterations 5",
     ),
+    ("import --kdc s", "import kdc s none iterations 4096"),
+    (
+        "import --config c --kdc s --iterations 5",
+        "import kdc s c iterations 5",
+    ),
+    ("import", "--kdc"),
+    ("import --keytab k", "--realm"),
+    ("import --realm R", "--keytab"),
+    ("import --kdc s --keytab k --realm R", "cannot"),
+    ("import --kdc s --realm R", "cannot"),
+    ("import --keytab k --realm R --config c", "cannot"),
     (
         "key --realm EXAMPLE.COM --name alice --password-file f --kvno 4294967295",
         "key EXAMPLE.COM alice f iterations 4096 kvno 4294967295",
@@ -268,6 +279,14 @@ fn show(text: &mut String, asked: Invocation<'_>) -> Result<(), AllocError> {
                 text,
                 "import {} {} iterations {}",
                 it.keytab, it.realm, it.iterations
+            )
+        }
+        Invocation::ImportKdc(it) => {
+            let config = it.config.unwrap_or("none");
+            write!(
+                text,
+                "import kdc {} {config} iterations {}",
+                it.socket, it.iterations
             )
         }
         Invocation::Key(it) => {

@@ -21,8 +21,9 @@ fn add_pieces(alloc: Global, journal: &mut Vec<u8>, pieces: &str) -> Result<(), 
 }
 
 /// Adds a piece: `nothing`; `NAME KVNO`, the record of a change, or `raise COUNT`, that of a raise, followed by ` kind
-/// K` or ` length L` if that is another; `NAME KVNO to KVNO`, a record for each version; `first N of` before a record,
-/// of which only N bytes are there; `bytes DIGITS`, these bytes.
+/// K` or ` length L` if that is another; `NAME KVNO to KVNO`, a record for each version; `adopted COUNT`, one for each of
+/// so many principals, `p0` and so on, whose key of kvno 1 is adopted; `first N of` before a record, of which only N bytes
+/// are there; `bytes DIGITS`, these bytes.
 fn add_piece(alloc: Global, journal: &mut Vec<u8>, piece: &str) -> Result<(), Refusal> {
     if let Some((first, last)) = piece.split_once(" to ") {
         return add_records(alloc, journal, first, last);
@@ -32,6 +33,7 @@ fn add_piece(alloc: Global, journal: &mut Vec<u8>, piece: &str) -> Result<(), Re
         None => Err(Refusal::NoSuchCase),
         Some(("first", rest)) => add_front(alloc, journal, rest),
         Some(("bytes", digits)) => add_bytes(alloc, journal, digits),
+        Some(("adopted", count)) => add_adopted(alloc, journal, number(count)?),
         Some((what, rest)) => add_record(alloc, journal, what, rest),
     }
 }
@@ -70,6 +72,15 @@ fn add_records(
     };
     for kvno in number(first)?..=number(last)? {
         add_plain_record(alloc, journal, name, kvno)?;
+    }
+    Ok(())
+}
+
+/// Adds a record for each of so many principals whose key is adopted.
+fn add_adopted(alloc: Global, journal: &mut Vec<u8>, count: u32) -> Result<(), Refusal> {
+    for place in 0..count {
+        let name = format!(in alloc; "p{place}")?;
+        add_record(alloc, journal, name.as_str(), "1 kind 4")?;
     }
     Ok(())
 }

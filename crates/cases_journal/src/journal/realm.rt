@@ -1,5 +1,6 @@
 //! The realm of the cases: alice and bob/admin, with a key of kvno 1 each.
 use crate::journal::refusal::Refusal;
+use chpw_printing::put_name;
 use chpw_rules::Name;
 use chpw_table::Table;
 use std::alloc::Global;
@@ -8,12 +9,17 @@ use support_realm::name;
 /// The iteration count of the configuration.
 const ITERATIONS: u32 = 4096;
 
-/// Adds both principals and the newest versions of their keys in a table, and its iteration count if it is not the
-/// configuration's.
+/// The most principals that are told by name.
+const FEW: usize = 10;
+
+/// Adds the principals in a table with the newest versions of their keys, or their number if they are many, and its
+/// iteration count if it is not the configuration's.
 pub fn show_versions(alloc: Global, text: &mut String, table: &Table) -> Result<(), Refusal> {
-    let alice = kvno(alloc, table, "alice")?;
-    let bob = kvno(alloc, table, "bob/admin")?;
-    write!(text, "alice {alice} bob/admin {bob}")?;
+    match table.principals() {
+        0 => text.push_str("nobody")?,
+        1..=FEW => show_each(alloc, text, table)?,
+        many => write!(text, "{many} principals")?,
+    }
     let count = table.count();
     if count != ITERATIONS {
         write!(text, " count {count}")?;
@@ -21,11 +27,18 @@ pub fn show_versions(alloc: Global, text: &mut String, table: &Table) -> Result<
     Ok(())
 }
 
-fn kvno(alloc: Global, table: &Table, text: &str) -> Result<u32, Refusal> {
-    match table.lookup(&name(alloc, text)?) {
-        Some(shown) => Ok(shown.kvno),
-        None => Err(Refusal::NoSuchCase),
+fn show_each(alloc: Global, text: &mut String, table: &Table) -> Result<(), Refusal> {
+    for place in 0..u32::MAX {
+        let Some((name, shown)) = table.row_at(place) else {
+            break;
+        };
+        let between = if place == 0 { "" } else { " " };
+        let mut printed = Vec::new(alloc);
+        put_name(&mut printed, name)?;
+        let printed = String::from_utf8(printed).map_err(|_| Refusal::NoSuchCase)?;
+        write!(text, "{between}{printed} {}", shown.kvno)?;
     }
+    Ok(())
 }
 
 /// A table of the realm, before any change.

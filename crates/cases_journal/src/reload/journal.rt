@@ -1,11 +1,12 @@
 //! A journal's bytes, put together from pieces.
-use chpw_record::{KeyRow, base_bytes, raise_bytes, record_bytes};
+use chpw_record::{KeyKind, KeyRow, key_bytes, raise_bytes};
 use chpw_rules::Name;
 use std::alloc::Global;
 use support_cases::Fault;
 
 /// The journal with these pieces: `nothing`; `NAME KVNO`, the record of a change, its keys' bytes of that number;
-/// `base NAME KVNO`, that of a base; `raise COUNT`, that of a raise.
+/// `base NAME KVNO`, `adopt NAME KVNO` and `lift NAME KVNO`, that of a base, of an adopted key and of a lifted one; `remove
+/// NAME`, that of a removed name; `raise COUNT`, that of a raise.
 pub fn journal_of(alloc: Global, pieces: &str) -> Result<Vec<u8>, Fault> {
     let mut journal = Vec::new(alloc);
     match add_pieces(alloc, &mut journal, pieces) {
@@ -32,25 +33,33 @@ fn add_piece(alloc: Global, journal: &mut Vec<u8>, piece: &str) -> Result<(), Fa
                 .extend_from_slice(&raise_bytes(number(count)?))
                 .map_err(Fault::from)
         }
-        Some(("base", words)) => add_key(alloc, journal, true, words),
-        Some(_) => add_key(alloc, journal, false, piece),
+        Some(("base", words)) => add_key(alloc, journal, KeyKind::Base, words),
+        Some(("adopt", words)) => add_key(alloc, journal, KeyKind::Adopt, words),
+        Some(("lift", words)) => add_key(alloc, journal, KeyKind::Lift, words),
+        Some(("remove", name)) => add_of(alloc, journal, KeyKind::Remove, name, 1),
+        Some(_) => add_key(alloc, journal, KeyKind::Change, piece),
     }
 }
 
-/// Adds a base or a change with `NAME KVNO`.
-fn add_key(alloc: Global, journal: &mut Vec<u8>, is_base: bool, words: &str) -> Result<(), Fault> {
-    let Some((name, kvno)) = words.split_once(' ') else {
-        return Err(Fault::NoSuchCase);
-    };
+/// Adds the record of this kind with `NAME KVNO`.
+fn add_key(alloc: Global, journal: &mut Vec<u8>, kind: KeyKind, words: &str) -> Result<(), Fault> {
+    match words.split_once(' ') {
+        Some((name, kvno)) => add_of(alloc, journal, kind, name, number(kvno)?),
+        None => Err(Fault::NoSuchCase),
+    }
+}
+
+fn add_of(
+    alloc: Global,
+    journal: &mut Vec<u8>,
+    kind: KeyKind,
+    name: &str,
+    kvno: u32,
+) -> Result<(), Fault> {
     let Some(name) = Name::parse(alloc, name)? else {
         return Err(Fault::NoSuchCase);
     };
-    let key = key(number(kvno)?);
-    let record = if is_base {
-        base_bytes(alloc, &name, &key)?
-    } else {
-        record_bytes(alloc, &name, &key)?
-    };
+    let record = key_bytes(alloc, kind, &name, &key(kvno))?;
     journal.extend_from_slice(&record).map_err(Fault::from)
 }
 

@@ -5,7 +5,7 @@ ghost use Rattle.std.specs.Option.{ForSome};
 ghost use Rattle.chpw_control.specs.Statuses.{AreTold, IsTold};
 
 use crate::control::words::{bytes, escaped_text, number};
-use chpw_control::{FollowerState, JournalState, Status, Time, status_answer};
+use chpw_control::{JournalState, KdcState, Status, Time, status_answer};
 use std::alloc::Global;
 use std::str;
 use support_cases::Fault;
@@ -15,36 +15,56 @@ const FIRST: i64 = -62_167_219_200;
 
 const LAST: i64 = 253_402_300_799;
 
-/// The words of a status that are no numbers.
+/// The words of a status that are neither numbers nor texts.
 #[derive(Clone, Copy, Drop)]
-struct Words<'a> {
-    version: &'a str,
+struct Words {
     since: Time,
     quiet_until: Option<Time>,
     journal: JournalState,
-    follower: FollowerState,
+    kdc: KdcState,
+    kdc_since: Option<Time>,
 }
 
-/// The answer to VERSION SINCE QUIET JOURNAL FOLLOWER PRINCIPALS ..
+/// The answer to VERSION SINCE QUIET JOURNAL KDC KDC-SINCE KDC-REFUSED PRINCIPALS ..
 pub fn status_text(alloc: Global, values: &[&str]) -> Result<String, Fault> {
-    let [version, since, quiet, journal, follower, rest @ ..] = values else {
+    let [
+        version,
+        since,
+        quiet,
+        journal,
+        kdc,
+        kdc_since,
+        refused,
+        rest @ ..,
+    ] = values
+    else {
         return Err(Fault::NoSuchCase);
     };
     let version = bytes(alloc, version)?;
+    let refused = refused_words(alloc, refused)?;
     let words = Words {
-        version: str::from_utf8(&version).unwrap_or("(no text)"),
         since: time(since)?,
-        quiet_until: quiet_time(quiet)?,
+        quiet_until: time_if_any(quiet)?,
         journal: journal_state(journal)?,
-        follower: follower_state(follower)?,
+        kdc: kdc_state(kdc)?,
+        kdc_since: time_if_any(kdc_since)?,
     };
     let counts = numbers(alloc, rest)?;
-    answer(alloc, &words, &counts)
+    let version = str::from_utf8(&version).unwrap_or("(no text)");
+    let refused = refused.as_ref().map(|words| words.as_slice());
+    answer(alloc, version, refused, &words, &counts)
 }
 
-fn answer(alloc: Global, words: &Words<'_>, counts: &[u64]) -> Result<String, Fault>
+fn answer<'a>(
+    alloc: Global,
+    version: &'a str,
+    refused: Option<&'a [u8]>,
+    words: &Words,
+    counts: &[u64],
+) -> Result<String, Fault>
     requires since { IsTold words.now.since }
     requires quiet { ForSome words.now.quiet_until IsTold }
+    requires kdc { ForSome words.now.kdc_since IsTold }
 {
     let [
         principals,
@@ -71,11 +91,11 @@ fn answer(alloc: Global, words: &Words<'_>, counts: &[u64]) -> Result<String, Fa
     else {
         return Err(Fault::NoSuchCase);
     };
-    let [workers, busy, queue, journal_bytes, log_lost] = rest else {
+    let [workers, busy, queue, journal_bytes, log_lost, kdc_behind] = rest else {
         return Err(Fault::NoSuchCase);
     };
     let status = Status {
-        version: words.version,
+        version,
         since: words.since,
         quiet_until: words.quiet_until,
         principals: *principals,
@@ -97,7 +117,10 @@ fn answer(alloc: Global, words: &Words<'_>, counts: &[u64]) -> Result<String, Fa
         journal_bytes: *journal_bytes,
         journal: words.journal,
         log_lost: *log_lost,
-        follower: words.follower,
+        kdc: words.kdc,
+        kdc_since: words.kdc_since,
+        kdc_behind: *kdc_behind,
+        kdc_refused: refused,
     };
     escaped_text(alloc, status_answer(alloc, &status)?.as_slice())
 }
@@ -135,8 +158,8 @@ fn time_of(seconds: i64, micros: u32) -> Result<Time, Fault>
     Ok(Time { seconds, micros })
 }
 
-fn quiet_time(word: &str) -> Result<Option<Time>, Fault>
-    ensures told { IfOk result (λ quiet. ForSome quiet IsTold) }
+fn time_if_any(word: &str) -> Result<Option<Time>, Fault>
+    ensures told { IfOk result (λ time. ForSome time IsTold) }
 {
     if word == "-" {
         return Ok(None);
@@ -152,11 +175,19 @@ fn journal_state(word: &str) -> Result<JournalState, Fault> {
     }
 }
 
-fn follower_state(word: &str) -> Result<FollowerState, Fault> {
+fn kdc_state(word: &str) -> Result<KdcState, Fault> {
     match word {
-        "Absent" => Ok(FollowerState::Absent),
-        "Confirmed" => Ok(FollowerState::Confirmed),
-        "Unconfirmed" => Ok(FollowerState::Unconfirmed),
+        "Absent" => Ok(KdcState::Absent),
+        "Connected" => Ok(KdcState::Connected),
+        "Down" => Ok(KdcState::Down),
         _ => Err(Fault::NoSuchCase),
     }
+}
+
+// `-`, or the words in hexadecimal
+fn refused_words(alloc: Global, word: &str) -> Result<Option<Vec<u8>>, Fault> {
+    if word == "-" {
+        return Ok(None);
+    }
+    Ok(Some(bytes(alloc, word)?))
 }

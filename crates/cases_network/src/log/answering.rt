@@ -3,9 +3,9 @@
 ghost use Rattle.std.specs.Prelude.{◌≡◌, ◌<◌, true};
 ghost use Rattle.chpw_table.specs.Times.{IsMoment};
 
-use crate::log::events;
 use crate::log::making::opened_request;
 use crate::log::words::{error_of, kind_of, maybe_number, number, octets, text_of, verdict_of};
+use crate::log::{events, updates};
 use chpw_log::{Asked, Held, HeldCounts, Line, LineLimits, MessageEvent, write_held, write_line};
 use chpw_table::{LAST_SECOND, Moment};
 use krb_protocol::Refusal;
@@ -27,6 +27,7 @@ pub fn answer(alloc: Global, case: &str) -> Result<String, Fault> {
         ["held", rest @ ..] => return held_line(alloc, rest),
         ["limit", rest @ ..] => return limited_lines(alloc, rest),
         ["event", rest @ ..] => return events::event_line(alloc, rest),
+        ["update", rest @ ..] => return updates::update_line(alloc, rest),
         _ => {}
     }
     let [kind, seconds, micros, worker, peer, rest @ ..] = words.as_slice() else {

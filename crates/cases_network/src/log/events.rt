@@ -86,7 +86,7 @@ fn counted_event(kind: &str, values: &[&str]) -> Result<ServiceEvent, Fault>
     }
 }
 
-fn moment(seconds: &str, micros: &str) -> Result<Moment, Fault>
+pub(crate) fn moment(seconds: &str, micros: &str) -> Result<Moment, Fault>
     ensures told { IfOk result IsWholeMoment }
 {
     let moment = Moment {

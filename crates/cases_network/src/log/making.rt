@@ -37,8 +37,8 @@ fn body(alloc: Global, target: &str) -> Result<Body, Fault> {
     }
 }
 
-// REALM:PART.PART, in hexadecimal; a name without components has no `:`.
-fn principal(alloc: Global, text: &str) -> Result<Target, Fault> {
+/// REALM:PART.PART, in hexadecimal; a name without components has no `:`.
+pub fn principal(alloc: Global, text: &str) -> Result<Target, Fault> {
     let mut parts = Vec::new(alloc);
     let realm = match text.split_once(':') {
         None => text,

@@ -38,6 +38,7 @@ impl Observer for Noting {
         let said = match &entry.event {
             Event::Ask { verdict, .. } => verdict.text(),
             Event::Raise { verdict, .. } => verdict.text(),
+            Event::Update { update, verdict } => verdict.text(update),
         };
         let [_, _, _, host] = peer;
         let _ = write!(self.passed, "{said} at {second} by {host}, kvno {kvno}; ");

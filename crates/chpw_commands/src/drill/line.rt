@@ -1,17 +1,19 @@
 //! The lines of a drill script.
-ghost use Rattle.std.specs.Prelude.{◌≡◌, map, IfOk, IfSome, option_map};
+ghost use Rattle.std.specs.Prelude.{◌≡◌, ◌<◌, ◌^◌, map, IfOk, IfSome, option_map, pos, true};
 ghost use Rattle.std.specs.Str.{is_utf8};
+ghost use Rattle.chpw_table.specs.Updates.{update_fits};
 ghost use Rattle.chpw_commands.specs.Words.{keep_if, words_of};
-ghost use Rattle.chpw_commands.specs.Lines.{realm_of, quiet_of, open_of, fail_of, raise_of, show_of, line_from, line_of};
+ghost use Rattle.chpw_commands.specs.Lines.{realm_of, quiet_of, open_of, fail_of, raise_of, adopt_of, adopted_of};
+ghost use Rattle.chpw_commands.specs.Lines.{key_from, lift_of, remove_of, show_of, line_from, line_of};
 ghost use Rattle.chpw_commands.specs.Following.{FitsLine};
 
 use crate::drill::asking::{Asked, SECONDS, asked_from};
 use crate::drill::setup::{policy, principal, rule};
-use crate::drill::words::number;
+use crate::drill::words::{CountedKey, counted_key, number};
 use chpw_rules::{
-    ENTRY_COUNTS, ITERATION_COUNTS, Items, Name, Policy, PrincipalRow, REALM_LENGTHS, Rule,
+    ENTRY_COUNTS, ITERATION_COUNTS, Items, KVNOS, Name, Policy, PrincipalRow, REALM_LENGTHS, Rule,
 };
-use chpw_table::Moment;
+use chpw_table::{KdcUpdate, KeyRow, Moment};
 use std::alloc::{AllocError, Global};
 
 /// The most bytes of a line.
@@ -36,6 +38,8 @@ pub enum Line {
     Ask(Asked),
     /// `raise NOW COUNT`: the iteration count of new keys, 1 to 16,777,216.
     Raise { now: Moment, count: u32 },
+    /// `adopt NOW NAME KVNO COUNT:KEY`, `lift NOW NAME KVNO`, `remove NOW NAME`: what the KDC says of a principal.
+    Update { now: Moment, update: KdcUpdate },
     /// `show NAME`, and the name as it was written.
     Show { name: Name, text: Items<u8> },
 }
@@ -96,6 +100,113 @@ fn raise(words: &[&str]) -> Option<Line>
     Some(Line::Raise { now, count })
 }
 
+// Both keys of the byte, under this version.
+fn key_from(kvno: u32, key: &CountedKey) -> KeyRow
+    ensures value { result ≡ key_from kvno key.now }
+{
+    KeyRow {
+        kvno,
+        count: key.count,
+        aes128: [key.byte; 16],
+        aes256: [key.byte; 32],
+    }
+}
+
+fn adopt(alloc: Global, words: &[&str]) -> Result<Option<Line>, AllocError>
+    ensures value { IfOk result (λ found. found ≡ adopt_of (map (λ w. w.now) words.now)) }
+    ensures fits { IfOk result (λ found. IfSome found FitsLine) }
+{
+    let [now, words @ ..] = words else {
+        return Ok(None);
+    };
+    let Some(seconds) = number(now, SECONDS) else {
+        return Ok(None);
+    };
+    let Some(update) = adopted(alloc, words)? else {
+        return Ok(None);
+    };
+    Ok(Some(Line::Update {
+        now: at(seconds),
+        update,
+    }))
+}
+
+// NAME KVNO COUNT:KEY
+fn adopted(alloc: Global, words: &[&str]) -> Result<Option<KdcUpdate>, AllocError>
+    ensures value { IfOk result (λ found. found ≡ adopted_of (map (λ w. w.now) words.now)) }
+    ensures fits { IfOk result (λ found. IfSome found (λ update. update_fits update ≡ true)) }
+{
+    let [name, kvno, key] = words else {
+        return Ok(None);
+    };
+    let Some(name) = Name::parse(alloc, name)? else {
+        return Ok(None);
+    };
+    let Some(kvno) = number(kvno, KVNOS) else {
+        return Ok(None);
+    };
+    let Some(key) = counted_key(key) else {
+        return Ok(None);
+    };
+    let key = key_from(kvno as u32, &key);
+    Ok(Some(KdcUpdate::Adopt { name, key }))
+}
+
+fn lift(alloc: Global, words: &[&str]) -> Result<Option<Line>, AllocError>
+    ensures value { IfOk result (λ found. found ≡ lift_of (map (λ w. w.now) words.now)) }
+    ensures fits { IfOk result (λ found. IfSome found FitsLine) }
+{
+    let [now, name, kvno] = words else {
+        return Ok(None);
+    };
+    let Some(seconds) = number(now, SECONDS) else {
+        return Ok(None);
+    };
+    let Some(name) = Name::parse(alloc, name)? else {
+        return Ok(None);
+    };
+    let Some(kvno) = number(kvno, KVNOS) else {
+        return Ok(None);
+    };
+    Ok(Some(Line::Update {
+        now: at(seconds),
+        update: KdcUpdate::Lift {
+            name,
+            kvno: kvno as u32,
+        },
+    }))
+}
+
+fn remove(alloc: Global, words: &[&str]) -> Result<Option<Line>, AllocError>
+    ensures value { IfOk result (λ found. found ≡ remove_of (map (λ w. w.now) words.now)) }
+    ensures fits { IfOk result (λ found. IfSome found FitsLine) }
+{
+    let [now, name] = words else {
+        return Ok(None);
+    };
+    let Some(seconds) = number(now, SECONDS) else {
+        return Ok(None);
+    };
+    let Some(name) = Name::parse(alloc, name)? else {
+        return Ok(None);
+    };
+    Ok(Some(Line::Update {
+        now: at(seconds),
+        update: KdcUpdate::Remove { name },
+    }))
+}
+
+// The moment of this second.
+fn at(seconds: usize) -> Moment
+    requires range { seconds < 2 ^ 60 }
+    ensures value { result ≡ record { seconds = pos seconds; micros = 0 } }
+{
+    Moment {
+        seconds: seconds as i64,
+        micros: 0,
+    }
+}
+
 fn show(alloc: Global, words: &[&str]) -> Result<Option<Line>, AllocError>
     ensures value { IfOk result (λ found. found ≡ show_of (map (λ w. w.now) words.now)) }
     ensures fits { IfOk result (λ found. IfSome found FitsLine) }
@@ -126,6 +237,9 @@ fn line_from(alloc: Global, realm: &[u8], words: &[&str]) -> Result<Option<Line>
         "fail" => Ok(fail(words)),
         "ask" => Ok(asked_from(alloc, realm, words)?.map(Line::Ask)),
         "raise" => Ok(raise(words)),
+        "adopt" => adopt(alloc, words),
+        "lift" => lift(alloc, words),
+        "remove" => remove(alloc, words),
         "show" => show(alloc, words),
         _ => Ok(None),
     }

@@ -1,13 +1,13 @@
-//! What `ask`, `raise` and `show` print.
+//! What `ask`, `raise`, the updates and `show` print.
 ghost use Rattle.std.specs.Prelude.{◌≡◌, ◌++◌, IfOk, OnOk, option_copied, option_map, string_bytes};
 ghost use Rattle.std.specs.List.{flat_map};
 ghost use Rattle.chpw_commands.specs.Printed.{error_text, reply_text, count_text, row_text, rows_text, shown_text, response_text};
 ghost use Rattle.chpw_commands.specs.declared.drill.printed.Response.TheVariants.{Need};
 
-use chpw_table::{Counts, KeyRow, RaiseVerdict, Verdict};
+use chpw_table::{Counts, KdcUpdate, KeyRow, RaiseVerdict, UpdateVerdict, Verdict};
 use std::alloc::{AllocError, Global};
 
-/// The answer to a request, or to a raise.
+/// The answer to a request, to a raise or to an update.
 #[derive(Drop)]
 pub enum Response {
     /// The verdict.
@@ -16,6 +16,11 @@ pub enum Response {
     Need(Counts),
     /// The verdict on a raise.
     Told(RaiseVerdict),
+    /// An update, and the verdict on it.
+    Updated {
+        update: KdcUpdate,
+        verdict: UpdateVerdict,
+    },
     /// The table has decided as many events as allowed.
     Full,
 }
@@ -31,6 +36,9 @@ impl Response {
             }
             Response::Need(counts) => need_line(alloc, counts.as_slice()),
             Response::Told(verdict) => reply_line(alloc, verdict.code(), None, verdict.text()),
+            Response::Updated { update, verdict } => {
+                reply_line(alloc, verdict.code(update), None, verdict.text(update))
+            }
             Response::Full => String::from_str(alloc, "full\n"),
         }
     }

@@ -3,14 +3,16 @@ ghost use Rattle.std.specs.Prelude.{◌≡◌, IfOk, true, ◌&&◌, not};
 ghost use Rattle.chpw_rules.specs.Fitting.{config_fits};
 ghost use Rattle.chpw_rules.specs.Limits.{is_in, iteration_counts};
 ghost use Rattle.chpw_table.specs.Times.{IsMoment};
-ghost use Rattle.chpw_commands.specs.Stages.{Machine, opened_with, response_to, machine_after, response_to_raise, machine_raised};
+ghost use Rattle.chpw_table.specs.Updates.{update_fits};
+ghost use Rattle.chpw_commands.specs.Stages.{Machine, opened_with, response_to, machine_after, response_to_raise};
+ghost use Rattle.chpw_commands.specs.Stages.{machine_raised, response_to_update, machine_updated};
 ghost use Rattle.chpw_commands.specs.Following.{Runs, refusal_of};
 
 use crate::drill::asking::Asked;
 use crate::drill::printed::Response;
 use crate::drill::sink::RequestSink;
 use chpw_rules::{Config, Items};
-use chpw_table::{DecideFault, Moment, Table};
+use chpw_table::{DecideFault, KdcUpdate, Moment, Table, UpdateFault};
 use std::alloc::{AllocError, Global};
 
 /// The table, and what the lines set beside it.
@@ -21,6 +23,21 @@ pub struct Drill {
     pub realm: Items<u8>,
     /// Whether the next append fails.
     pub fails: bool,
+}
+
+/// Why a line's turn isn't taken.
+#[derive(Clone, Copy, Drop)]
+pub enum TurnFault {
+    /// It would add a principal to the 10,000 that there are.
+    TooMany,
+    /// A growth was refused.
+    Memory,
+}
+
+impl From<AllocError> for TurnFault {
+    fn from(_error: AllocError) -> TurnFault {
+        TurnFault::Memory
+    }
 }
 
 /// The machine that a configuration opens with.
@@ -74,6 +91,33 @@ impl Drill {
                 Response::Told(raise.verdict)
             }
             Err(_) => Response::Full,
+        }
+    }
+
+    /// The answer to an update from the KDC, and one step unless the table is full. A pending failure is over once it met
+    /// an append.
+    pub fn update(&mut self, now: Moment, update: KdcUpdate) -> Result<Response, TurnFault>
+        requires moment { IsMoment now }
+        requires fits { update_fits update ≡ true }
+        ensures response { IfOk result (λ r. (m : Machine) → Runs self.old m
+            → r ≡ response_to_update m update) }
+        ensures step { IfOk result (λ r. (m : Machine) → Runs self.old m
+            → Runs self.new (machine_updated m now update)) }
+    {
+        let mut sink = RequestSink::new(self.fails);
+        match self.table.update(now, update, &mut sink) {
+            Ok(outcome) => {
+                self.fails = still_fails(self.fails, outcome.io_failed);
+                Ok(Response::Updated {
+                    update: outcome.update,
+                    verdict: outcome.verdict,
+                })
+            }
+            Err(refused) => match refused.fault {
+                UpdateFault::Full => Ok(Response::Full),
+                UpdateFault::TooMany => Err(TurnFault::TooMany),
+                UpdateFault::Memory => Err(TurnFault::Memory),
+            },
         }
     }
 }

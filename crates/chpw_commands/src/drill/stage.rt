@@ -11,7 +11,7 @@ ghost use Rattle.chpw_commands.specs.Following.{Runs, Follows, held_realm, IsTur
 
 use crate::drill::line::{Line, parse_line};
 use crate::drill::printed::shown_line;
-use crate::drill::running::{Drill, open_drill};
+use crate::drill::running::{Drill, TurnFault, open_drill};
 use chpw_rules::{Config, Items, PRINCIPAL_COUNTS, Policy, PrincipalRow, RULE_COUNTS, Rule, Rules};
 use std::alloc::{AllocError, Global};
 
@@ -197,7 +197,7 @@ fn open(
 }
 
 // Then the machine runs.
-fn turn_running(alloc: Global, drill: Drill, line: Line) -> Result<Option<Turn>, AllocError>
+fn turn_running(alloc: Global, drill: Drill, line: Line) -> Result<Option<Turn>, TurnFault>
     requires moment { FitsLine line }
     ensures value { IfOk result (λ found. (m : Machine) → Runs drill m
         → IsTurn found (turn_running m line)) }
@@ -210,6 +210,7 @@ fn turn_running(alloc: Global, drill: Drill, line: Line) -> Result<Option<Turn>,
         }
         Line::Ask(asked) => drill.respond(asked)?.line(alloc)?.into_bytes(),
         Line::Raise { now, count } => drill.raise(now, count).line(alloc)?.into_bytes(),
+        Line::Update { now, update } => drill.update(now, update)?.line(alloc)?.into_bytes(),
         Line::Show { name, text } => {
             shown_line(alloc, text.as_slice(), drill.table.keys_of(&name))?
         }
@@ -221,7 +222,7 @@ fn turn_running(alloc: Global, drill: Drill, line: Line) -> Result<Option<Turn>,
     }))
 }
 
-fn turn_line(alloc: Global, stage: Stage, line: Line) -> Result<Option<Turn>, AllocError>
+fn turn_line(alloc: Global, stage: Stage, line: Line) -> Result<Option<Turn>, TurnFault>
     requires moment { FitsLine line }
     ensures value { IfOk result (λ found. (s : StageModel) → Follows stage s
         → IsTurn found (turn_line s line)) }
@@ -229,13 +230,13 @@ fn turn_line(alloc: Global, stage: Stage, line: Line) -> Result<Option<Turn>, Al
     match stage {
         Stage::Start => Ok(turn_first(alloc, line)),
         Stage::Named(realm) => Ok(turn_named(alloc, realm, line)),
-        Stage::Listed(config) => turn_listed(alloc, config, line),
+        Stage::Listed(config) => Ok(turn_listed(alloc, config, line)?),
         Stage::Running(drill) => turn_running(alloc, drill, line),
     }
 }
 
 /// The turn of a line; none where it is bad. An empty line is skipped.
-pub fn take_turn(alloc: Global, stage: Stage, line: &[u8]) -> Result<Option<Turn>, AllocError>
+pub fn take_turn(alloc: Global, stage: Stage, line: &[u8]) -> Result<Option<Turn>, TurnFault>
     ensures value { IfOk result (λ found. (s : StageModel) → Follows stage s
         → IsTurn found (turn s line.now)) }
 {

@@ -1,8 +1,9 @@
 //! The words of a drill script, and the numbers, keys and names that they spell.
-ghost use Rattle.std.specs.Prelude.{◌≡◌, ◌<◌, ◌≤◌, ◌^◌, ◌&&◌, map, IfOk, IfSome, nat_le};
+ghost use Rattle.std.specs.Prelude.{◌≡◌, ◌<◌, ◌≤◌, ◌^◌, ◌&&◌, map, IfOk, IfSome, nat_le, true};
 ghost use Rattle.std.specs.Char.{is_ascii_digit};
 ghost use Rattle.std.specs.Option.{option_map};
 ghost use Rattle.std.specs.List.{list_all};
+ghost use Rattle.chpw_rules.specs.Limits.{is_in, iteration_counts};
 ghost use Rattle.chpw_commands.specs.Words.{keep_if, split_first, split_last, value_from, is_number, number_in, key_byte, counted_key, named_in, each_of};
 
 use chpw_rules::{ITERATION_COUNTS, Items, Limits, Name, REALM_LENGTHS};
@@ -86,9 +87,10 @@ fn key_byte(word: &str) -> Option<u8>
     }
 }
 
-// COUNT:KEY
-fn counted_key(word: &str) -> Option<CountedKey>
+/// COUNT:KEY
+pub fn counted_key(word: &str) -> Option<CountedKey>
     ensures value { result ≡ counted_key word.now }
+    ensures count { IfSome result (λ key. is_in iteration_counts key.count ≡ true) }
 {
     let (count, key) = split_first(word, ':')?;
     let count = number(count, ITERATION_COUNTS)? as u32;

@@ -99,7 +99,7 @@ fn agree_until_changed(rt: &impl Abort, history: &[Entry; 3], receipts: &mut [Re
 fn be_a_replay(rt: &impl Abort, event: &mut Event) {
     match event {
         Event::Ask { verdict, .. } => *verdict = Verdict::Replay,
-        Event::Raise { .. } => panic!(rt; "a raise"),
+        Event::Raise { .. } | Event::Update { .. } => panic!(rt; "no request"),
     }
 }
 

@@ -97,7 +97,7 @@ fn is_raise(entry: &Entry, count: u32, verdict: RaiseVerdict) -> bool {
             count: asked,
             verdict: said,
         } => *asked == count && *said == verdict,
-        Event::Ask { .. } => false,
+        Event::Ask { .. } | Event::Update { .. } => false,
     }
 }
 
@@ -105,6 +105,6 @@ fn is_raise(entry: &Entry, count: u32, verdict: RaiseVerdict) -> bool {
 fn is_change(entry: &Entry) -> bool {
     match &entry.event {
         Event::Ask { verdict, .. } => *verdict == Verdict::Done,
-        Event::Raise { .. } => false,
+        Event::Raise { .. } | Event::Update { .. } => false,
     }
 }

@@ -70,6 +70,7 @@ fn count_behind(rt: &impl Abort, history: &[Entry], opening: u32) -> u32 {
                 count: asked,
                 verdict,
             } => assert!(rt; *verdict == RaiseVerdict::NotHigher && *asked <= count),
+            Event::Update { .. } => panic!(rt; "no worker hears of the KDC"),
         }
     }
     count

@@ -1,6 +1,8 @@
 use super::realm::{change, name_of, table};
 use chpw_decider::{Alone, Decider};
-use chpw_table::{DecideFault, Moment, Opened, Verdict};
+use chpw_table::{
+    DecideFault, Event, KdcUpdate, Moment, Opened, UpdateFault, UpdateVerdict, Verdict,
+};
 use std::alloc::Global;
 use std::process::Abort;
 use support_realm::Tally;
@@ -40,4 +42,36 @@ fn derived_on_the_way(rt: HostRuntime) {
     assert!(rt; is_changed(&mut alone, opened, b"New-pass2"));
     assert!(rt; alone.receipts().len() == 1 && !alone.table().is_full());
     assert!(rt; kvno(&rt, rt.alloc(), &mut alone) == 2);
+}
+
+#[test]
+fn lifted_by_the_kdc(rt: HostRuntime) {
+    let table = table(&rt, rt.alloc(), 1);
+    let mut alone = Alone::new(rt.alloc(), table, Tally::new());
+    let lifted = lift(&rt, rt.alloc(), &mut alone, 5);
+    assert!(rt; matches!(lifted, Ok(UpdateVerdict::Taken)));
+    assert!(rt; alone.made_kvno() == Some(5) && kvno(&rt, rt.alloc(), &mut alone) == 5);
+    let [receipt] = alone.receipts() else {
+        panic!(rt; "one receipt")
+    };
+    assert!(rt; receipt.position == 0 && matches!(receipt.entry.event, Event::Update { .. }));
+    let full = lift(&rt, rt.alloc(), &mut alone, 6);
+    assert!(rt; matches!(full, Err(UpdateFault::Full)));
+}
+
+// The KDC has alice's key under this version.
+fn lift(
+    rt: &impl Abort,
+    alloc: Global,
+    alone: &mut Alone<Tally>,
+    kvno: u32,
+) -> Result<UpdateVerdict, UpdateFault> {
+    let name = name_of(rt, alloc, "alice");
+    let update = KdcUpdate::Lift { name, kvno };
+    let fits = update.fits();
+    assert!(rt; fits);
+    match alone.update(NOW, update) {
+        Ok(verdict) => Ok(verdict),
+        Err(refused) => Err(refused.fault),
+    }
 }

@@ -19,8 +19,8 @@ returns-clause-value c =
     let f = row (codes "iterations") (decimal s.iterations) in
     let until_b = further old c.put_version.new.text.items c.put_since.new.text.items (a ∷ [])
     (b ∷ []) c.in_ok-put_version.ensures.value c.in_ok-put_since.ensures.value in
-    let until_d = further old c.put_since.new.text.items c.put_quiet.new.text.items (a ∷ b ∷ []) (d ∷ []) until_b c.in_ok-put_quiet.ensures.value in
-    let until_e = further old c.put_quiet.new.text.items c.put_count.new.text.items (a ∷ b ∷ d ∷ []) (e ∷ []) until_d c.in_ok-put_count.ensures.value in
+    let until_d = further old c.put_since.new.text.items c.put_moment.new.text.items (a ∷ b ∷ []) (d ∷ []) until_b c.in_ok-put_moment.ensures.value in
+    let until_e = further old c.put_moment.new.text.items c.put_count.new.text.items (a ∷ b ∷ d ∷ []) (e ∷ []) until_d c.in_ok-put_count.ensures.value in
     at_last c.put_count-2.result old c.put_count.new.text.items c.put_count-2.new.text.items (a ∷ b ∷ d ∷ e ∷ []) (f ∷ []) until_e c.put_count-2.ensures.value
 
 pub returns-clause-lines : goal.returns-clause-lines
@@ -36,6 +36,6 @@ returns-clause-lines c =
     (codes "-")) ∷ row (codes "principals") (decimal s.principals) ∷ row (codes "iterations") (decimal s.iterations)
     ∷ []) refl c.in_ok-put_since.ensures.plain (and_line (codes "quiet-until")
     (option_map_or text_of s.quiet_until (codes "-")) (row (codes "principals") (decimal s.principals)
-    ∷ row (codes "iterations") (decimal s.iterations) ∷ []) refl c.in_ok-put_quiet.ensures.plain (and_line
+    ∷ row (codes "iterations") (decimal s.iterations) ∷ []) refl c.in_ok-put_moment.ensures.plain (and_line
     (codes "principals") (decimal s.principals) (row (codes "iterations") (decimal s.iterations) ∷ []) refl
     c.in_ok-put_count.ensures.plain (and_line (codes "iterations") (decimal s.iterations) ([]) refl last refl)))))

@@ -1,3 +1,4 @@
+use Rattle.std.specs.Prelude.{is_some}
 use Rattle.std.proofs.Common.{[], ◌≡◌, IfSome, length}
 use Rattle.chpw_changelog.specs.Pens.{opening_table}
 use Rattle.chpw_book.specs.Starting.{ledger_name, ledger_parts, list_book, list_root, workers_of}
@@ -16,7 +17,7 @@ ghosts-serve_history-D-LogName g a = record { book = list_book a.opening.unnamed
 
 abbrev pub invariant-loop : goal.invariant-loop
 invariant-loop g l =
-    IsRun l.hall.journal l.hall.options.now (opening_table g.D.LogName.root) l.fn.first.passes.items l.fn.rules l.fn.workers.items
+    IsRun (is_some l.hall.kdc.socket) l.hall.options.now (opening_table g.D.LogName.root) l.fn.first.passes.items l.fn.rules l.fn.workers.items
     (between l.served.table l.rules l.staff.items)
     × IfSome l.served.due (IsDueBy l.hall.options.now l.rules.text.items)
     × (length l.staff.items ≡ l.hall.workers)

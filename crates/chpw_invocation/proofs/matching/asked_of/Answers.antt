@@ -26,13 +26,14 @@ returns-in-import-clause-none c = λ suited none.
     let is =
     named_as c.args.matches.now c.in_ok-name.name.now (codes "import") (rows_of (found_of c.in_ok-name.options.now))
     c.in_ok-name.ensures.name c.in_ok-name.ensures.rows c.in-import.is in
-    subst IsOwnReason (sym is) (NoRealm, inr (inr (inr (inr (inl refl, refl, c.import_of.ensures.none (subst IsSuited is suited) none)))))
+    let own = c.import_of.ensures.none (subst IsSuited is suited) none in
+    subst IsOwnReason (sym is) (own.0, inr (inr (inr (inr (inl (refl, own.1))))))
 
 pub returns-in-key-clause-none : goal.returns-in-key-clause-none
 returns-in-key-clause-none c = λ suited none.
     let is = named_as c.args.matches.now c.in_ok-name.name.now (codes "key")
     (rows_of (found_of c.in_ok-name.options.now)) c.in_ok-name.ensures.name c.in_ok-name.ensures.rows c.in-key.is in
-    subst IsOwnReason (sym is) (NoRealm, inr (inr (inr (inr (inr refl, refl, c.key_of.ensures.none (subst IsSuited is suited) none)))))
+    subst IsOwnReason (sym is) (NoRealm, inr (inr (inr (inr (inr (refl, refl, c.key_of.ensures.none (subst IsSuited is suited) none))))))
 
 pub returns-in-serve-clause-none : goal.returns-in-serve-clause-none
 returns-in-serve-clause-none c = λ suited none.

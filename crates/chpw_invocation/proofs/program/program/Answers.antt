@@ -11,8 +11,8 @@ returns c =
     (IfOk-both c.check.result _ specs_of.IsLocal c.check.ensures.shape c.check.ensures.local) in
     let p3 = c.with_command-program-3.ensures.shape _ specs_of.table p2
     (IfOk-both c.table.result _ specs_of.IsLocal c.table.ensures.shape c.table.ensures.local) in
-    let p4 = c.with_command-program-4.ensures.shape _ specs_of.import_keytab p3 (IfOk-both c.import_keytab.result _
-    specs_of.IsLocal c.import_keytab.ensures.shape c.import_keytab.ensures.local) in
+    let p4 = c.with_command-program-4.ensures.shape _ specs_of.import p3 (IfOk-both c.import.result _
+    specs_of.IsLocal c.import.ensures.shape c.import.ensures.local) in
     let p5 = c.with_command-program-5.ensures.shape _ specs_of.key p4 (IfOk-both c.key.result _ specs_of.IsLocal c.key.ensures.shape c.key.ensures.local) in
     let p6 = c.with_command-program-6.ensures.shape _ specs_of.serve p5
     (IfOk-both c.serve.result _ specs_of.IsLocal c.serve.ensures.shape c.serve.ensures.local) in

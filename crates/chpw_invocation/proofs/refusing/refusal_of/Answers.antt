@@ -1,7 +1,7 @@
 use Rattle.std.proofs.Common.{codes}
 use Rattle.clap.specs.Words.{found_of, rows_of, subcommand_rows_of}
 use Rattle.chpw_invocation.proofs.NeedLemmas.{named_as}
-use Rattle.chpw_invocation.proofs.OwnLemmas.{client_refused, control_refused}
+use Rattle.chpw_invocation.proofs.OwnLemmas.{client_refused, control_refused, import_refused}
 use Rattle.chpw_invocation.proofs.refusing.refusal_of.Goals as goal
 
 pub returns-in-client : goal.returns-in-client
@@ -18,4 +18,12 @@ returns-in-control c = record {
       (named_as c.args.matches.now c.in-Some.name.now (codes "control")
       (rows_of (found_of c.in-Some.options.now)) c.in-Some.ensures.name c.in-Some.ensures.rows c.in-control.is)
       c.control_refusal.ensures.why;
+}
+
+pub returns-in-import : goal.returns-in-import
+returns-in-import c = record {
+  why = λ suited. import_refused (subcommand_rows_of c.args.matches.now) (rows_of (found_of c.in-Some.options.now)) c.refusal_of_import.result
+      (named_as c.args.matches.now c.in-Some.name.now (codes "import")
+      (rows_of (found_of c.in-Some.options.now)) c.in-Some.ensures.name c.in-Some.ensures.rows c.in-import.is)
+      c.refusal_of_import.ensures.why;
 }

@@ -8,7 +8,7 @@ pub returns-clause-value : goal.returns-clause-value
 returns-clause-value c =
     let old = c.args.text.now.items in
     let mark = c.args.mark in
-    let words = codes "not confirmed by the follower: the journal up to byte " in
+    let words = codes "not confirmed by the KDC: change " in
     let front : c.extend_from_slice.new.self.items ≡ old ++ words = c.in_ok-extend_from_slice.ensures.items in
     let back : c.put_number.new.text.items ≡ c.extend_from_slice.new.self.items ++ decimal mark = c.in_ok-put_number.ensures.value in
     back ∙ ap (λ (xs : List ℕ). xs ++ decimal mark) front ∙ mark_joined old (decimal mark)
@@ -17,5 +17,5 @@ pub returns-clause-printed : goal.returns-clause-printed
 returns-clause-printed c =
     let mark = c.args.mark in
     let small : mark < 2 ^ 64 = omega arith in
-    both_printed (codes "not confirmed by the follower: the journal up to byte ") (decimal mark) refl
+    both_printed (codes "not confirmed by the KDC: change ") (decimal mark) refl
     (graphic_printed (decimal mark) (decimal_graphic mark small))

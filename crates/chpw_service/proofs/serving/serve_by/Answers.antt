@@ -1,4 +1,4 @@
-use Rattle.std.proofs.Common.{inl, inr, subst, sym, ◌∙◌}
+use Rattle.std.proofs.Common.{inl, inr, subst, sym}
 use Rattle.std.proofs.lemmas.Result.{err_from_is_err_and, on_ok_weaker}
 use Rattle.chpw_table.specs.declared.times.Moment.{Moment}
 use Rattle.chpw_book.specs.Starting.{table_of}
@@ -41,8 +41,11 @@ returns-clause-run g c =
     let opening = subst (λ (before : Moment). IsOpening gives_moment config opened.0 before c.open_table.new.clock found)
     c.new-clock.ensures.start opened.1 in
     on_ok_weaker c.serve_opened-ended.result
-    (λ served. whole_run options config c.in-Ok.rules opened.0 c.open_table.new.clock c.now-since.new.self found c.in_ok-journal.journal
+    (λ served. whole_run options config c.in-Ok.rules opened.0 c.open_table.new.clock c.now-since.new.self found
     c.terms_of.result.seed (table_of c.first_opening-opening.result.unnamed) rules opening
-    (c.in_ok-journal.ensures.follower ∙ c.is_some-has_follower.ensures)
     c.first_opening-opening.ensures.table served)
     c.serve_opened-ended.ensures.served
+
+-- memory may be refused for the rules
+pub returns-in_default-clause-fault : goal.returns-in_default-clause-fault
+returns-in_default-clause-fault g c = inl (inl tt)

@@ -1,4 +1,4 @@
-use Rattle.std.proofs.Common.{OnOk, ◌≡◌, ◌∙◌, ◌++◌, ℕ, ap, drop, length, subst, sym, take, arith}
+use Rattle.std.proofs.Common.{OnOk, is_some, ◌≡◌, List, ◌∙◌, ◌++◌, ℕ, ap, drop, length, subst, sym, take, arith}
 use lib.Seq.{take-append_seam}
 use Rattle.std.proofs.lemmas.Grind.{common_steps}
 use Rattle.std.proofs.lemmas.List.FromFn.{length-map-range_with_len}
@@ -10,6 +10,11 @@ use Rattle.chpw_book.specs.Starting.{table_of, workers_of}
 use Rattle.chpw_desks.specs.ServiceRuns.{new_passes}
 use Rattle.chpw_service.specs.WholeRuns.{IsServedByNewWorkers}
 use Rattle.chpw_logging.specs.declared.logging.LogLines.{LogLines}
+use Rattle.chpw_changelog.specs.Pens.{opening_state}
+use Rattle.chpw_book.specs.Passes.{PassView}
+use Rattle.chpw_workers.specs.Desks.{AreInOrder}
+use Rattle.chpw_desks.specs.ServiceRuns.{gives_moment}
+use Rattle.chpw_service.proofs.RaisedLemmas.{raised_in_order}
 use Rattle.chpw_service.proofs.WholeRunLemmas.{served_from}
 use Rattle.chpw_service.proofs.serving.serve_opened.Goals as goal
 
@@ -30,11 +35,25 @@ returns-in-Ok-raise_and_listen-clause-served g c =
     let long : c.in-Ok.field-0.passes.len ≡ length passes = grind (arith, common_steps) in
     let kept : take c.in-Ok.field-0.passes.len (passes ++ rest) ≡ passes =
     subst (λ (n : ℕ). take n (passes ++ rest) ≡ passes) (sym long) (take-append_seam passes rest) in
-    let came = subst (λ ps. OnOk c.serve_from.result (IsServedByNewWorkers g.row.R.Denot (LogLines g.row.R.Denot) hall.journal hall.options.now
+    let came = subst (λ ps. OnOk c.serve_from.result (IsServedByNewWorkers g.row.R.Denot (LogLines g.row.R.Denot) (is_some hall.kdc.socket) hall.options.now
     (key_of start.terms.seed) hall.workers (opening_table g.D.LogName.root) ps c.args.rules)) kept c.serve_from.ensures.served in
     on_ok_weaker c.serve_from.result
-    (λ served. served_from start.options.now (key_of start.terms.seed) c.args.rules start.journal hall.journal hall.options.now hall.workers
+    (λ served. served_from start.options.now (key_of start.terms.seed) c.args.rules (is_some hall.kdc.socket) hall.options.now hall.workers
     (table_of c.args.opening.unnamed) (opening_table g.D.LogName.root) passes _ c.args.clock.now _ ready.raised.0
-    ready.journal ready.options ready.workers c.in-Ok.ensures.opening
+    (ap is_some ready.kdc.0) ready.options ready.workers c.in-Ok.ensures.opening
     (c.deref_mut.ensures.value ∙ (c.in-Ok.ensures.passes ∙ ap new_passes c.requires.workers)) ready.raised.1 served)
     came
+
+-- a raise leaves the passes in their order
+pub invariant_of-first : goal.invariant_of-first
+invariant_of-first g c =
+    let passes = c.raise_and_listen.new.passes in
+    let rest = drop (length passes) c.in-Ok.field-0.passes.items in
+    let long : c.in-Ok.field-0.passes.len ≡ length passes = grind (arith, common_steps) in
+    let kept : take c.in-Ok.field-0.passes.len (passes ++ rest) ≡ passes =
+    subst (λ (n : ℕ). take n (passes ++ rest) ≡ passes) (sym long) (take-append_seam passes rest) in
+    let ready = c.in-Ok-raise_and_listen.ensures in
+    let before = subst (λ (ps : List PassView). AreInOrder g.D.DeskName.workers ps) (sym c.deref_mut.ensures.value) c.in-Ok.field-0.in_order in
+    let after = raised_in_order gives_moment (opening_state g.D.LogName.root) c.args.clock.now _ _ passes c.args.start.options.now.raise
+    ready.raised.0 g.D.DeskName.workers ready.raised.1 before in
+    record { in_order = subst (λ (ps : List PassView). AreInOrder g.D.DeskName.workers ps) (sym kept) after }

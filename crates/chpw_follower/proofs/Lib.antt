@@ -1,4 +1,0 @@
-pub mod LineLemmas
-pub mod PieceLemmas
-pub mod RunLemmas
-pub mod TruthLemmas

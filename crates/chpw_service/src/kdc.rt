@@ -1,0 +1,252 @@
+//! The service's side of the agent at the KDC's database, and of its control socket.
+ghost use Rattle.std.specs.Prelude.{◌≡◌, ◌||◌, ◌⊎◌, [], is_some, None};
+ghost use Rattle.chpw_control.specs.Statuses.{IsTold};
+ghost use Rattle.chpw_service.specs.Status.{IsStatusAnswer};
+
+use crate::readings::{KdcReadings, Readings};
+use crate::status::{answer_with, status_of};
+use chpw_connections::Unconfirmed;
+use chpw_control::Time;
+use chpw_desks::{JournalLength, KdcPlace};
+use chpw_invocation::VERSION;
+use chpw_kdc::{IsOurs, KdcDialog, Notice as KdcNotice, ProtocolFault, Refusal};
+use chpw_logging::{Log, Notice, is_first, time_of};
+use chpw_printing::put_name;
+use chpw_reactor::{KdcTerms, StatusReporter};
+use chpw_rules::{Name, NamePatterns};
+use chpw_serve::Clock as _;
+use chpw_transfers::ConnectionCounts;
+use chpw_workers::MachineClock;
+use mio::net::{UnixListener, UnixStream};
+use std::alloc::{AllocError, Global};
+use std::net::{Net, TcpListener, TcpStream};
+use std::sync::Wait;
+use std::time::Clock;
+
+/// The service's side of its control socket.
+#[derive(Drop)]
+pub(crate) struct ControlTerms {
+    /// The socket, until the reactor has it; none without one.
+    pub listener: Option<UnixListener>,
+    /// When the service started.
+    pub since: Time,
+    pub workers: u8,
+    ghost told: { IsTold since },
+}
+
+/// The agent at a socket, if there is one, and the control socket. Each change that the agent doesn't confirm has a line of its
+/// own in the log, and a notice on standard error once until it confirms one again.
+#[derive(Drop)]
+pub(crate) struct SocketKdc<'l, R, T: Clock> {
+    rt: &'l R,
+    alloc: Global,
+    place: KdcPlace<'l>,
+    patterns: &'l NamePatterns,
+    log: &'l Log<'l, R>,
+    clock: MachineClock<'l, T>,
+    /// Whether it was reported that a change isn't confirmed.
+    is_late_told: bool,
+    /// Whether it was reported that there is no connection.
+    is_down_told: bool,
+    /// Since when there is a connection, or none.
+    changed: Time,
+    journal: &'l JournalLength,
+    /// The control socket, until the reactor has it.
+    listener: Option<UnixListener>,
+    since: Time,
+    workers: u8,
+    ghost told: { IsTold since × IsTold changed },
+}
+
+impl<'l, R: AllocGlobal, T: Clock> SocketKdc<'l, R, T> {
+    /// The agent at this place, of whose names those are the service's that these patterns match.
+    pub fn of(
+        rt: &'l R,
+        time: &'l T,
+        log: &'l Log<'l, R>,
+        journal: &'l JournalLength,
+        place: KdcPlace<'l>,
+        patterns: &'l NamePatterns,
+        control: ControlTerms,
+    ) -> SocketKdc<'l, R, T>
+        ensures place { result.place ≡ place.entry }
+        ensures listener { result.listener ≡ control.listener }
+        ensures since { result.since ≡ control.since }
+        ensures workers { result.workers ≡ control.workers }
+    {
+        let ControlTerms {
+            listener,
+            since,
+            workers,
+            ..
+        } = control;
+        SocketKdc {
+            rt,
+            alloc: rt.alloc(),
+            place,
+            patterns,
+            log,
+            clock: MachineClock::new(time),
+            is_late_told: false,
+            is_down_told: false,
+            changed: since,
+            journal,
+            listener,
+            since,
+            workers,
+        }
+    }
+}
+
+impl<R, T: Clock> IsOurs for SocketKdc<'_, R, T> {
+    ghost use Rattle.chpw_rules.specs.Patterns.{is_ours as is_ours_by};
+
+    ghost ours = { λ kdc name. is_ours_by kdc.patterns.now name };
+
+    fn is_ours(&self, name: &Name) -> bool {
+        self.patterns.is_ours(name)
+    }
+}
+
+impl<R: Net<Listener = TcpListener, Stream = TcpStream> + Wait + Eprint, T: Clock> KdcTerms
+    for SocketKdc<'_, R, T> {
+    fn wait(&self) -> u64
+        ensures value { result ≡ self.now.place.wait }
+    {
+        u64::from(self.place.wait)
+    }
+
+    fn connect(&mut self) -> Option<UnixStream> {
+        UnixStream::connect(self.rt, self.place.socket?).ok()
+    }
+
+    fn connected(&mut self) {
+        self.is_down_told = false;
+        self.is_late_told = false;
+        self.changed = time_of(self.clock.now());
+    }
+
+    fn lost(&mut self, fault: Option<ProtocolFault>) {
+        let Some(socket) = self.place.socket else {
+            return;
+        };
+        if fault.is_some() {
+            self.log.tell(Notice::KdcMisspoken(socket));
+        }
+        if is_first(&mut self.is_down_told) {
+            self.changed = time_of(self.clock.now());
+            self.log.tell(Notice::KdcDown(socket));
+        }
+    }
+
+    fn tell(&mut self, notice: KdcNotice) {
+        let Some(socket) = self.place.socket else {
+            return;
+        };
+        match notice {
+            KdcNotice::Lost => self.log.tell(Notice::KdcLost(socket)),
+            KdcNotice::Refused { name, reason } => {
+                let words = words_of(self.alloc, &Refusal { name, reason });
+                self.log.tell(Notice::KdcRefused(socket, text_of(&words)));
+            }
+            KdcNotice::TooManyGone { gone, of } => {
+                self.log
+                    .tell(Notice::KdcLacks(socket, gone as u64, of as u64));
+            }
+            KdcNotice::Failed { text } => {
+                self.log
+                    .tell(Notice::KdcFailed(socket, text_of(text.as_slice())));
+            }
+        }
+    }
+
+    fn unconfirmed(&mut self, change: Unconfirmed)
+        ensures told { self.new.is_late_told ≡ (self.old.is_late_told || is_some self.old.place.socket) }
+        ensures place { self.new.place ≡ self.old.place }
+    {
+        let Unconfirmed { peer, mark } = change;
+        self.log.put_unconfirmed(self.clock.now(), peer, mark);
+        if let Some(socket) = self.place.socket {
+            if is_first(&mut self.is_late_told) {
+                self.log.tell(Notice::Unconfirmed(socket));
+            }
+        }
+    }
+}
+
+impl<R: Net<Listener = TcpListener, Stream = TcpStream> + Wait + Eprint, T: Clock> StatusReporter
+    for SocketKdc<'_, R, T> {
+    fn listener(&mut self) -> Option<UnixListener>
+        ensures given { result ≡ self.old.listener }
+        ensures none { self.new.listener ≡ None }
+    {
+        self.listener.take()
+    }
+
+    fn status(
+        &mut self,
+        alloc: Global,
+        standing: &ConnectionCounts,
+        kdc: Option<&KdcDialog>,
+    ) -> Vec<u8>
+        ensures told { (result.items ≡ [])
+            ⊎ IsStatusAnswer VERSION.now self.old.since self.old.workers standing.now result.items }
+        ensures unchanged { self.new.place ≡ self.old.place }
+    {
+        let moment = self.clock.now();
+        let facts = self.log.facts();
+        let refused = kdc.and_then(|kdc| kdc
+            .status()
+            .refusal
+            .map(|refusal| words_of(alloc, refusal)));
+        let readings = Readings {
+            since: self.since,
+            moment,
+            workers: self.workers,
+            journal_bytes: self.journal.bytes(),
+            has_failed: self.log.has_failed(),
+            kdc: readings_of(kdc, self.changed),
+        };
+        let refused = refused.as_ref().map(|words| words.as_slice());
+        answer_with(
+            alloc,
+            &status_of(VERSION, &readings, &facts, standing, refused),
+        )
+    }
+}
+
+// What is read of the KDC, if there is one.
+fn readings_of(kdc: Option<&KdcDialog>, changed: Time) -> Option<KdcReadings>
+    requires told { IsTold changed }
+{
+    let kdc = kdc?;
+    Some(KdcReadings {
+        is_connected: kdc.is_connected(),
+        since: changed,
+        behind: kdc.behind() as u64,
+    })
+}
+
+// A name that the agent refused, and why; empty if memory is refused.
+fn words_of(alloc: Global, refusal: &Refusal) -> Vec<u8> {
+    let mut words = Vec::new(alloc);
+    match put_refusal(&mut words, refusal) {
+        Ok(()) => words,
+        Err(_) => Vec::new(alloc),
+    }
+}
+
+fn put_refusal(words: &mut Vec<u8>, refusal: &Refusal) -> Result<(), AllocError> {
+    put_name(words, &refusal.name)?;
+    words.push(b' ')?;
+    words.extend_from_slice(refusal.reason.word().as_bytes())?;
+    Ok(())
+}
+
+// These bytes as a text, if they are one.
+fn text_of(bytes: &[u8]) -> &str {
+    match str::from_utf8(bytes) {
+        Ok(text) => text,
+        Err(_) => "?",
+    }
+}

@@ -1,0 +1,31 @@
+//! What is read of a service for its status.
+ghost use Rattle.chpw_control.specs.Statuses.{IsTold};
+
+use chpw_control::Time;
+use chpw_table::Moment;
+
+/// What is read of a service for its status, beside its counters and its connections.
+#[derive(Clone, Copy, Drop)]
+pub(crate) struct Readings {
+    /// When the service started.
+    pub since: Time,
+    /// The moment of the status.
+    pub moment: Moment,
+    pub workers: u8,
+    pub journal_bytes: u64,
+    /// Whether an append to the journal has failed.
+    pub has_failed: bool,
+    /// What is read of the KDC, if there is one.
+    pub kdc: Option<KdcReadings>,
+}
+
+/// What is read of the agent at the KDC's database.
+#[derive(Clone, Copy, Drop)]
+pub(crate) struct KdcReadings {
+    pub is_connected: bool,
+    /// Since when there is a connection, or none.
+    pub since: Time,
+    /// The keys that are on their way to the KDC.
+    pub behind: u64,
+    ghost told: { IsTold since },
+}
