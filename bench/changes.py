@@ -1,6 +1,6 @@
 """Changes a second in a realm of many principals, of whom the KDC has each new key at the end.
 
-MIT's kadmind, the service by itself and the service with a follower take turns, so that all see the same
+MIT's kadmind, the service by itself and the service with a KDC take turns, so that all see the same
 machine. Each client changes the password of a user of its own again and again, over a new connection each
 time, as the projects' clients do. Its requests are made before the clock starts, and its tickets are forged
 with the key of kadmin/changepw, so that the KDC has nothing to do with them. All ask in the earlier protocol,
@@ -16,11 +16,11 @@ import time
 
 import configuration
 from asking import Connection, request_now, said
-from confirmed import MOST, Confirmed
 from daemons import daemon
-from own_journal import configured
+from own_configuration import configured
 from realm import SERVICE
-from server import Server
+from served import MOST, Served
+from server import Server, private
 
 CLIENTS = 1, 16
 WORKERS = 4
@@ -28,6 +28,7 @@ WORKERS = 4
 ROUNDS, CHANGES = 3, 128
 # milliseconds: a reply that is held back so long shows in the figure
 WAIT = 2000
+WITH_KDC = "serve with a KDC"
 
 
 @dataclasses.dataclass
@@ -85,10 +86,15 @@ def kadmind(realm, folder, users, stack):
     return Target("kadmind", realm.kpasswd_port, users, key)
 
 
-def served(server, name, users, stack):
+def by_itself(realm, program, text, users, stack):
+    """The service without a KDC."""
+    folder = realm.folder / "alone"
+    folder.mkdir()
+    server = Server(program, folder, WORKERS)
+    private(server.configuration).write_text(text)
     stack.callback(server.end)
     server.start(connections=MOST)
-    return Target(name, server.port, users)
+    return Target("serve", server.port, users)
 
 
 def measure(cases, versions, rounds=ROUNDS):
@@ -98,24 +104,23 @@ def measure(cases, versions, rounds=ROUNDS):
     groups = [names[i : i + most] for i in range(0, 3 * most, most)]
     text = configured(versions, 3)
     with contextlib.ExitStack() as stack:
-        alone = realm.folder / "alone"
-        alone.mkdir()
-        server = Server(cases.program, alone, WORKERS)
-        server.configuration.touch(mode=0o600)
-        server.configuration.write_text(text)
-        targets = [served(server, "serve", groups[0], stack)]
-        files = Confirmed(realm.folder / "followed", cases.program, WAIT, WORKERS)
-        files.configure(text)
-        targets.append(served(files.server, "serve with a follower", groups[1], stack))
-        stack.enter_context(cases.following(files))
+        targets = [by_itself(realm, cases.program, text, groups[0], stack)]
+        served = Served(realm, cases.program, "served", WAIT, WORKERS)
+        served.configure(text)
+        stack.callback(served.end)
+        served.begin_agent()
+        served.start()
+        if not served.is_in_step():
+            raise RuntimeError(f"the service and the KDC aren't in step: {served.status()}")
+        targets.append(Target(WITH_KDC, served.server.port, groups[1]))
         if realm.KIND == "MIT":
-            targets.append(kadmind(realm, alone, groups[2], stack))
+            targets.append(kadmind(realm, served.folder, groups[2], stack))
         for clients, _, target in itertools.product(CLIENTS, range(rounds), targets):
             target.round(clients)
-        if files.unconfirmed():
+        if served.unconfirmed():
             raise RuntimeError("changes were answered before the KDC had them")
     for target in targets[1:]:
         for user, count in target.made.items():
-            if realm.kvno(user) != 1 + count:
+            if realm.kvno(user) != versions[user][0] + count:
                 raise RuntimeError(f"the KDC lacks a change of {user} by {target.name}")
     return targets

@@ -50,11 +50,11 @@ OF_THE_PROGRAM = "--server", "{program}"
 MEMORY = "/dev/shm"
 
 
-def followers():
+def kdcs():
     """On the disk of the temporary folder, and in memory."""
     for folder in None, MEMORY:
         for kind, name in ("mit", "MIT"), ("heimdal", "Heimdal"):
-            yield Script(("follower.py", "{program}", kind), ("{program}", kind, "100", "5", "1"),
+            yield Script(("kdc.py", "{program}", kind), ("{program}", kind, "100", "5", "1"),
                          f"time to {name}'s KDC", True, folder)
 
 
@@ -73,7 +73,7 @@ SCRIPTS = (
     Script(("reload.sh", *OF_THE_PROGRAM), (*OF_THE_PROGRAM, "--principals", "100", "--reloads", "2"), "a reload"),
     Script(("siege.sh", *OF_THE_PROGRAM), (*OF_THE_PROGRAM, *"--requests 20 --flooded 3 --silent 50 --flood 5 --seconds 2 2 6 8".split()),
            "hostile clients"),
-    *followers(),
+    *kdcs(),
 )
 
 
@@ -123,6 +123,6 @@ def by_events(lines):
 
 
 def to_the_kdc(lines):
-    """Median and 99th milliseconds from the question to the answer: follower.py."""
-    found = re.search(r"from the ask to the answer ([\d.]+) ms, ([\d.]+) ms", "\n".join(lines))
+    """Median and 99th milliseconds from the request to the answer: kdc.py."""
+    found = re.search(r"from the request to the answer ([\d.]+) ms, ([\d.]+) ms", "\n".join(lines))
     return {"median": float(found[1]), "99 of 100": float(found[2])} if found else {}

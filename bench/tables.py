@@ -74,13 +74,13 @@ def reload(lines):
     return ["Answer", "Beside", "Answers", "Median, ms", "99th, ms", "Longest, ms"], rows
 
 
-def follower(lines, where):
+def kdc(lines, where):
     """Of one kind of KDC, in one place."""
     text = "\n".join(lines)
-    kind, whole = found(r"(\w+): \d+ principals, a whole pass ([\d.]+) s", text)
-    asked, written = found(f"to the answer {THREE}", text), found(f"from the write {THREE}", text)
+    kind, listed, taken = found(r"(\w+): \d+ principals, a list of all keys ([\d.]+) s, .* after ([\d.]+) s;", text)
+    written = found(f"to the answer {THREE}", text)
     rates = [", ".join(re.findall(r"\d+", rest)) for rest in re.findall(r"clients \d+: (.*)", text)]
-    return [kind, where, whole, *map(", ".join, (asked, written)), *rates]
+    return [kind, where, listed, taken, ", ".join(written), *rates]
 
 
 def rows_of(lines, work):
@@ -104,7 +104,8 @@ MORE = {
     "siege.sh": ("Answers to honest clients, of those that asked; milliseconds, median and longest. Over UDP each request is one "
                  "datagram, which is sent once.", junk),
 }
-FOLLOWER = "follower.py"
-OF_FOLLOWERS = ("The follower", "10,000 principals. Milliseconds to the follower's answer: median, 99th, longest of 100. "
-                "Changes a second: of the service, of the service with this follower, of kadmind.",
-                ["KDC", "Database", "Whole pass, s", "From the question, ms", "From the write, ms", "1 client", "16 clients"])
+KDC = "kdc.py"
+OF_KDCS = ("The KDC", "10,000 principals: the list of all keys, and all taken by a service that has none. Milliseconds of a write, from "
+           "the request to the agent's answer: median, 99th, longest of 100. Changes a second: of the service, of the service with "
+           "this KDC, of kadmind.",
+           ["KDC", "Database", "List, s", "All taken, s", "A write, ms", "1 client", "16 clients"])

@@ -13,7 +13,7 @@ from topic import answer_lines
 COMMANDS = {b"status": "Status", b"reload": "Reload", b"reopen-log": "ReopenLog", b"stop": "Stop"}
 
 NAMES = ("principals iterations entries changes all-entries all-changes connections reading waiting answering "
-         "confirming writing ending workers busy queue journal-bytes log-lost").split()
+         "confirming writing ending workers busy queue journal-bytes log-lost kdc-behind").split()
 
 
 def octets(word):
@@ -70,12 +70,14 @@ def words(text):
     return "".join(chr(b) if 32 <= b <= 126 and b != 92 else f"\\x{b:02x}" for b in text)
 
 
-def status(version, since, quiet, journal, follower, *numbers):
+def status(version, since, quiet, journal, kdc, kdc_since, refused, *numbers):
     values = dict(zip(NAMES, numbers, strict=True))
     values |= {"version": words(octets(version)), "since": time(since), "quiet-until": time(quiet),
                "journal": {"Good": "good", "Failed": "failed"}[journal],
-               "follower": {"Absent": "none", "Confirmed": "confirmed", "Unconfirmed": "unconfirmed"}[follower]}
-    order = ["version", "since", "quiet-until"] + NAMES[:-1] + ["journal", "log-lost", "follower"]
+               "kdc": {"Absent": "none", "Connected": "connected", "Down": "down"}[kdc], "kdc-since": time(kdc_since),
+               "kdc-refused": "-" if refused == "-" else words(octets(refused))}
+    order = (["version", "since", "quiet-until"] + NAMES[:-2]
+             + ["journal", "log-lost", "kdc", "kdc-since", "kdc-behind", "kdc-refused"])
     return "".join(f"{name} {values[name]}\\n" for name in order) + "ok\\n"
 
 

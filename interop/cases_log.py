@@ -52,10 +52,13 @@ def name(octets):
     return shown(octets, PRINTED.translate(None, b"/@\\"))
 
 
+def components(parts):
+    return "/".join(name(bytes.fromhex(part)) for part in parts.split("."))
+
+
 def principal(word):
-    realm, _, parts = word.partition(":")
-    parts = [name(bytes.fromhex(part)) for part in parts.split(".")] if ":" in word else []
-    return "/".join(parts) + "@" + name(bytes.fromhex(realm))
+    realm, colon, parts = word.partition(":")
+    return (components(parts) if colon else "") + "@" + name(bytes.fromhex(realm))
 
 
 def target(client, word):
@@ -116,6 +119,18 @@ def event(seconds, micros, kind, *values):
     return " ".join([moment(seconds, micros), "service", kind] + [f"{name} {value}" for name, value in pairs])
 
 
+# what an update that is taken is called, and the texts of those that aren't
+TAKEN = {"adopt": "adopted", "lift": "lifted", "remove": "removed"}
+REFUSED = {"NotNewer": "not newer", "NoSuchPrincipal": "no such principal", "Broken": "journal failed"}
+
+
+def update(seconds, micros, verdict, kind, whose, *kvno):
+    word = TAKEN[kind] if verdict == "Taken" else f"refused {kind}"
+    what = " ".join([word, components(whose.removeprefix(":"))] + [f"kvno {number}" for number in kvno])
+    text = "" if verdict == "Taken" else f" text {REFUSED[verdict]}"
+    return f"{moment(seconds, micros)} service {what}{text}"
+
+
 def told(kind, others):
     here = sum(peer.is_loopback for _, peer in others)
     return f"({kind} {here} {len(others) - here})"
@@ -129,6 +144,8 @@ def answer(case):
         return limited(words)
     if first == "event":
         return event(*words)
+    if first == "update":
+        return update(*words)
     kind, seconds, micros, worker, peer, *rest = case.split(" ")
     client = asked = kvno = "-"
     if kind == "unopened":

@@ -15,7 +15,8 @@ from journal import RAISE
 from topic import lines_of
 
 COUNTS = range(1, 16_777_217)
-CHANGE = 1
+CHANGE, BASE, ADOPT, LIFT, REMOVE = 1, 3, 4, 5, 6
+KINDS = [CHANGE, BASE, ADOPT, LIFT, REMOVE]
 CHANGE_LENGTHS = range(60, 1091)
 RAISE_LENGTH = 5
 # what stands in a record of a change before its name
@@ -90,12 +91,32 @@ def is_record(body):
     if body[0] == RAISE:
         return len(body) == RAISE_LENGTH and number(body[1:5]) in COUNTS
     return (
-        body[0] == CHANGE
+        body[0] in KINDS
         and len(body) in CHANGE_LENGTHS
         and number(body[1:5]) >= 1
         and number(body[5:9]) in COUNTS
         and name_of(body[FRONT:]) is not None
     )
+
+
+def put_key(table, place, body):
+    kind, name = body[0], name_of(body[FRONT:])
+    if name not in table.principals and kind != ADOPT:
+        raise Refused(f"J3 at {place}")
+    keys = table.principals.get(name, [])
+    new = Key(number(body[1:5]), number(body[5:9]), body[9:25].hex(), body[25:FRONT].hex())
+    if kind == CHANGE and new.kvno != keys[0].kvno + 1:
+        raise Refused(f"J2 at {place}")
+    if kind in (ADOPT, LIFT) and keys and new.kvno <= keys[0].kvno:
+        raise Refused(f"J2 at {place}")
+    if kind == REMOVE:
+        del table.principals[name]
+    elif kind == BASE:
+        table.principals[name] = [new]
+    elif kind == LIFT:
+        table.principals[name] = [new, *keys[1:]]
+    else:
+        table.principals[name] = table.kept([new, *keys])
 
 
 def put_back(table, body):
@@ -105,14 +126,7 @@ def put_back(table, body):
     if body[0] == RAISE:
         table.count = max(table.count, number(body[1:5]))
     else:
-        name = name_of(body[FRONT:])
-        if name not in table.principals:
-            raise Refused(f"J3 at {place}")
-        keys = table.principals[name]
-        if number(body[1:5]) != keys[0].kvno + 1:
-            raise Refused(f"J2 at {place}")
-        new = Key(number(body[1:5]), number(body[5:9]), body[9:25].hex(), body[25:FRONT].hex())
-        table.principals[name] = table.kept([new, *keys])
+        put_key(table, place, body)
     table.records = place
 
 

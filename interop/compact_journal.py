@@ -7,6 +7,7 @@ two keys; each record's key is 48 bytes a2 under 4096 iterations.
 
 COUNT, DEPTH = 4096, 2
 NAMES = ["alice", "bob/admin"]
+CHANGE, BASE, ADOPT, LIFT, REMOVE = 1, 3, 4, 5, 6
 
 
 def key(kvno, byte):
@@ -23,6 +24,14 @@ def raise_record(count):
     return bytes([0, 5, 2]) + count.to_bytes(4, "big")
 
 
+def no_key():
+    return (1).to_bytes(4, "big") * 2 + bytes(48)
+
+
+def kvno(held):
+    return int.from_bytes(held[:4], "big")
+
+
 def restored(pieces):
     """The keys of each name, newest first, and the count."""
     keys, count = {name: [key(1, 0xA1)] for name in NAMES}, COUNT
@@ -32,21 +41,42 @@ def restored(pieces):
         what, figure, *kind = piece.split(" ")
         if what == "raise":
             count = max(count, int(figure))
+            continue
+        kind = int(kind[1]) if kind else CHANGE
+        new, held = key(int(figure), 0xA2), keys.get(what, [])
+        if kind == REMOVE:
+            del keys[what]
+        elif kind == BASE:
+            keys[what] = [new]
+        elif kind == LIFT:
+            keys[what] = [new, *held[1:]]
         else:
-            older = [] if kind == ["kind", "3"] else keys[what]
-            keys[what] = [key(int(figure), 0xA2), *older][:DEPTH]
+            keys[what] = [new, *held][:DEPTH]
     return keys, count
+
+
+def name_records(first, name, keys):
+    """The oldest key by a record of this kind, each newer one as a change, or as adopted where its kvno isn't the next."""
+    records, before = [], None
+    for held in reversed(keys):
+        kind = first if before is None else CHANGE if kvno(held) == kvno(before) + 1 else ADOPT
+        records.append(key_record(kind, name, held))
+        before = held
+    return records
 
 
 def answer(pieces):
     keys, count = restored(pieces)
     records = [raise_record(count)] if count > COUNT else []
     for name in sorted(NAMES):
-        if keys[name] != [key(1, 0xA1)]:
-            oldest, *newer = reversed(keys[name])
-            records += [key_record(3, name, oldest), *(key_record(1, name, it) for it in newer)]
+        if name not in keys:
+            records.append(key_record(REMOVE, name, no_key()))
+        elif keys[name] != [key(1, 0xA1)]:
+            records += name_records(BASE, name, keys[name])
+    for name in sorted(set(keys) - set(NAMES)):
+        records += name_records(ADOPT, name, keys[name])
     text = b"".join(records)
-    versions = " ".join(f"{name} {int.from_bytes(keys[name][0][:4], 'big')}" for name in NAMES)
+    versions = " ".join(f"{name} {kvno(keys[name][0])}" for name in sorted(keys)) or "nobody"
     shown = versions if count == COUNT else f"{versions} count {count}"
     return f"{text.hex() or 'nothing'}; records {len(records)} kept {len(text)} whole, {shown}"
 

@@ -1,8 +1,8 @@
 #!/usr/bin/env python3
 """Reads a journal (docs/PROTOCOL.md), and writes records of one.
 
-Prints kvno, iteration count and name of each change, the same behind `base` of each base record, and the count of each
-raise; no keys.
+Prints kvno, iteration count and name of each change, the same behind `base`, `adopt`, `lift` or `remove` of each other
+record that has them, and the count of each raise; no keys.
 """
 
 import dataclasses
@@ -24,6 +24,18 @@ class Base(Record):
     """It is the one version that the principal has."""
 
 
+class Adopt(Record):
+    """A version that the KDC has, in front of the others."""
+
+
+class Lift(Record):
+    """The version that the KDC gave to the newest key."""
+
+
+class Remove(Record):
+    """The KDC has the name no more."""
+
+
 @dataclasses.dataclass(frozen=True)
 class Raise:
     iterations: int
@@ -33,6 +45,10 @@ class Raise:
 CHANGE = 1
 RAISE = 2
 BASE = 3
+ADOPT = 4
+LIFT = 5
+REMOVE = 6
+WITH_KEYS = {CHANGE: Record, BASE: Base, ADOPT: Adopt, LIFT: Lift, REMOVE: Remove}
 
 
 def keys_record(kind, name, kvno, iterations, keys):
@@ -78,8 +94,7 @@ def record_of(body):
         return Raise(int.from_bytes(body[1:5], "big"))
     kvno = int.from_bytes(body[1:5], "big")
     iterations = int.from_bytes(body[5:9], "big")
-    made = Base if body[0] == BASE else Record
-    return made("/".join(components(body[58:])), kvno, iterations, body[9:25], body[25:57])
+    return WITH_KEYS[body[0]]("/".join(components(body[58:])), kvno, iterations, body[9:25], body[25:57])
 
 
 def main():
@@ -89,10 +104,10 @@ def main():
     for record in records:
         if isinstance(record, Raise):
             print("raise", record.iterations)
-        elif isinstance(record, Base):
-            print("base", record.kvno, record.iterations, record.name)
-        else:
+        elif type(record) is Record:
             print(record.kvno, record.iterations, record.name)
+        else:
+            print(type(record).__name__.lower(), record.kvno, record.iterations, record.name)
     print(f"torn tail: {len(torn)} bytes" if torn else "whole")
 
 

@@ -1,12 +1,11 @@
 """What the cases of an agent have in common. Expected values come from the project's own programs."""
 
-import contextlib
 import sys
 import traceback
 
 import realms
 from agent_database import database_of
-from agent_process import Agent, keys_of
+from agent_process import keys_of
 from cases import Cases
 
 FIRST = realms.FIRST
@@ -35,12 +34,6 @@ class AgentCase(Cases):
         except Exception as fault:
             traceback.print_exc(file=sys.stdout)
             self.tell(f"{case.__name__} goes to its end", repr(fault), None)
-
-    @contextlib.contextmanager
-    def talking(self, *options, **more):
-        with Agent(self.realm, *options, **more) as agent, agent.connected() as connection:
-            connection.agent = agent
-            yield connection
 
     def held(self, name):
         """What the KDC has of it: each key with its version."""

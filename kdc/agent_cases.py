@@ -8,10 +8,10 @@ from agent_socket import AgentSocket
 
 
 class AgentCases:
-    def __init__(self, realm, program, report, wrap=()):
+    def __init__(self, realm, program, report):
         entries = MitEntries if realm.KIND == "MIT" else HeimdalEntries
         self.parts = [
-            kind(realm, program, report, wrap)
+            kind(realm, program, report)
             for kind in (AgentRequests, AgentSocket, entries, AgentChanges, AgentFaults)
         ]
 

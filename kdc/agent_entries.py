@@ -8,6 +8,7 @@ import time
 from agent_case import FIRST, AgentCase
 from agent_database import HISTORY, LAST_CHANGE, LM_OWF, PASSWORD, changed
 from agent_process import Agent, hexed, putting
+from realm import REALM
 from realms import HERE
 
 NEW = "New-pass7"
@@ -25,11 +26,19 @@ class Entries(AgentCase):
         """Writes, and gives the moment before and what the entry has then."""
         # the KDC's times are whole seconds
         time.sleep(1.1)
-        now = int(time.time())
         with self.talking(**more) as line:
+            now = int(time.time())
             self.tell(f"put {name}", line.put(name, kvno, NEW), f"put {hexed(name)} {kvno}")
         self.tell("  the KDC's keys: of that version and no others", self.held(name), self.of(name, kvno, NEW))
         return now, self.fields(name)
+
+    def another_default_realm(self):
+        """The configuration's default realm isn't that of the database."""
+        name, config = self.name(), self.realm.folder / "other_default.conf"
+        old = self.realm.folder / ("mit.conf" if self.realm.KIND == "MIT" else "krb5.conf")
+        config.write_text(old.read_text().replace(f"default_realm = {REALM}", "default_realm = ELSEWHERE.EXAMPLE"))
+        _, after = self.put(name, KRB5_CONFIG=str(config))
+        self.tell("  another default realm: modified by", after["by"].partition("@")[2], REALM)
 
     def is_now(self, what, found, now):
         self.tell(f"  {what}: seconds after the change", 0 <= found - now <= 5)
@@ -42,7 +51,7 @@ class MitEntries(Entries):
     def cases(self):
         return [
             self.all_that_changes, self.without_a_policy, self.a_policy_that_is_gone, self.a_disabled_one, self.nothing_else,
-            self.another_master_key, self.log_of_changes, self.what_is_named_as_changed,
+            self.another_master_key, self.another_default_realm, self.log_of_changes, self.what_is_named_as_changed,
         ]
 
     def fields(self, name):
@@ -184,7 +193,7 @@ class MitEntries(Entries):
 class HeimdalEntries(Entries):
     def cases(self):
         return [self.all_that_changes, self.the_life_of_the_configuration, self.a_password_without_end, self.a_disabled_one,
-                self.nothing_else, self.log_of_changes]
+                self.nothing_else, self.another_default_realm, self.log_of_changes]
 
     def fields(self, name):
         found = dict(re.findall(r"^\s*([^:\n]+): ?(.*)$", self.kdc.entry(name), re.M))
@@ -244,6 +253,8 @@ class HeimdalEntries(Entries):
         self.tell("  version", after["version"], "7")
         self.tell("  types and salts", after["types"],
                   "aes256-cts-hmac-sha1-96(pw-salt)[7], aes128-cts-hmac-sha1-96(pw-salt)[7]")
+        # so that a client is told it that asks under an alias
+        self.tell("  keys whose salt is written down", self.kdc.line(name).count(f'3/"{REALM}{name}"'), 2)
         self.tell("  extensions", sorted(self.kdc.extensions(name)), [LAST_CHANGE])
 
     def the_life_of_the_configuration(self):

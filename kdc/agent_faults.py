@@ -1,8 +1,10 @@
 """Lines that are changed at random, to an agent under sanitizers; and each allocation refused in turn."""
 
 import mmap
+import pathlib
 import random
 import re
+import resource
 import struct
 import subprocess
 
@@ -12,6 +14,7 @@ from realm import REALM
 from realms import HERE
 
 LINES = 100_000
+ENDED = "the agent has ended"
 SANITIZERS = ["-fsanitize=address,undefined", "-fno-sanitize-recover=all", "-fno-omit-frame-pointer"]
 # what the projects' libraries lose at the end
 LOSSES = "leak:libkrb5\nleak:libkadm5srv\nleak:libhdb\nleak:libkdb5\nleak:db2.so\nleak:libasn1\nleak:libroken\nleak:libheimbase\n" \
@@ -22,7 +25,7 @@ REQUEST = re.compile(rb"list|list keys|get (%s)|put (%s) ([1-9][0-9]*) [0-9a-f]{
 
 class AgentFaults(AgentCase):
     def cases(self):
-        return [self.changed_lines, self.memory_of_reads, self.memory_of_puts, self.memory_of_others]
+        return [self.changed_lines, self.memory_of_reads, self.memory_of_puts, self.memory_of_others, self.memory_of_the_system]
 
     # ---- changed lines
 
@@ -104,10 +107,12 @@ class AgentFaults(AgentCase):
     # ---- allocations
 
     def memory_of_reads(self):
-        self.refused(self.refuse_reads)
+        self.refused(self.refuse_reads, False)
+        # what it says then needs no memory either
+        self.refused(self.refuse_gets, True)
 
     def memory_of_puts(self):
-        self.refused(self.refuse_puts)
+        self.refused(self.refuse_puts, False)
 
     def memory_of_others(self):
         """What is never written stays as it was."""
@@ -115,71 +120,77 @@ class AgentFaults(AgentCase):
         self.kdc.lock_down(locked)
         never = [f"krbtgt/{REALM}", "kadmin/admin", "carol/ops", locked]
         kept, known = self.state(*never), set(self.kdc.listed())
-        self.refused(lambda _: self.refuse_others(never))
+        self.refused(lambda _: self.refuse_others(never), False)
         self.tell("what is never written is as it was", self.state(*never) == kept)
         self.tell("  none is made", {it for it in set(self.kdc.listed()) - known if not it.startswith("agentfaults")}, set())
 
-    def refused(self, case):
-        """The case with each allocation refused that a request asks for: it alone, and then with all behind it."""
+    def refused(self, case, whole):
+        """The case with each allocation refused that a request asks for: it alone, or with all behind it."""
+        self.whole, self.what = whole, "and all behind it" if whole else "alone"
         preload, control = self.realm.folder / "refusing.so", self.realm.folder / "refusing"
         subprocess.run(["gcc", "-std=c11", "-D_GNU_SOURCE", "-Wall", "-Wextra", "-Werror", "-O1", "-shared", "-fPIC", "-o", preload,
                         HERE / "agent_refusing.c"], check=True)
         control.write_bytes(bytes(24))
         self.more = {"LD_PRELOAD": str(preload), "REFUSING": str(control)}
         with control.open("r+b") as file, mmap.mmap(file.fileno(), 24) as self.control:
-            for self.whole in False, True:
-                self.what = "and all behind it" if self.whole else "alone"
-                name = self.name()
-                self.begin_anew()
-                case(name)
-                self.line.connection.close()
-                self.tell("  status", self.agent.stop(), 0)
+            name = self.name()
+            self.begin_anew()
+            case(name)
+            self.line.connection.close()
+            self.tell("  status", self.agent.stop(), 0)
 
     def begin_anew(self):
         self.agent = Agent(self.realm, **self.more)
         self.agent.told("listening", 1)
         self.line = self.agent.connected()
 
-    def refusing(self, ask):
-        """What `ask` gives with each allocation refused in turn, as long as one is."""
+    def refuse(self, number, whole):
+        """That one from now on, which is counted from now on too; 0 for none."""
+        self.control[:] = struct.pack("<QQQ", number, whole, 0)
+
+    def refusing(self, ask, opens=False):
+        """What `ask` gives with each allocation refused in turn, as long as one is; ENDED where the agent ends for it, as
+        it says, and another one is started. Where it `opens`, the database is closed before."""
         for number in range(1, 100_000):
-            # what the libraries keep of the reserve would use it up
-            if self.whole and number % 10 == 0:
-                self.line.connection.close()
-                self.agent.stop()
-                self.begin_anew()
-                # as all others it begins with the database closed
-                self.control[:16] = struct.pack("<QQ", 1, 1)
+            if opens:
+                self.refuse(1, False)
                 self.line.ask(f"get {hexed('alice')}")
-            self.control[:16] = struct.pack("<QQ", number, self.whole)
+            self.refuse(number, self.whole)
             answer = ask()
-            left = struct.unpack("<Q", self.control[:8])[0]
-            self.control[:16] = bytes(16)
-            if left > 0 and (not self.whole or left > 1):
+            [asked] = struct.unpack("<Q", self.control[16:])
+            self.refuse(0, False)
+            if asked < number:
                 return
+            if answer in ("", ("", 0)):
+                self.line.connection.close()
+                answer = ENDED if self.agent.ended() == (1, ["listening", "no memory is left"]) else self.agent.ended()
+                self.begin_anew()
+            elif not opens:
+                # it has closed the database
+                self.line.ask(f"get {hexed('alice')}")
             yield answer
 
+    def refuse_gets(self, name):
+        self.refuse_one(lambda: self.line.ask(f"get {hexed(name)}"), f"has {hexed(name)} 1 {keys_of(name, 'Old-pass1')}",
+                        f"failed {hexed(name)} no memory")
+
     def refuse_reads(self, name):
-        has = f"has {hexed(name)} 1 {keys_of(name, 'Old-pass1')}"
-        wanted = self.line.listed("list keys")
-        for request, good, bad in (
-            (f"get {hexed(name)}", has, f"failed {hexed(name)} "), ("list keys", wanted, "failed - "),
-            (f"get {hexed('nobody')}", f"none {hexed('nobody')}", f"failed {hexed('nobody')} "),
-        ):
-            ask = (lambda: self.line.listed(request)) if request.startswith("list") else (lambda: self.line.ask(request))
-            found = list(self.refusing(ask))
-            failed = [it for it in found if it != good]
-            texts = [it[0] if isinstance(it, tuple) else it for it in failed]
-            wrong = [it for it in failed if isinstance(it, tuple) and it[1] != 0]
-            wrong += [it for it in texts if it is None or not it.startswith(bad)]
-            self.tell(f"{request[:9]}, each of {len(found)} allocations refused {self.what}: neither answered nor failed", wrong[:3], [])
-            self.tell("  some were refused", len(found) > 3)
-            self.tell("  then it is answered", ask() == good)
+        self.refuse_gets(name)
+        self.refuse_one(lambda: self.line.listed("list keys"), self.line.listed("list keys"), ("failed - no memory", 0))
+        self.refuse_one(lambda: self.line.ask(f"get {hexed('nobody')}"), f"none {hexed('nobody')}",
+                        f"failed {hexed('nobody')} no memory", opens=True)
+
+    def refuse_one(self, ask, good, bad, opens=False):
+        found = list(self.refusing(ask, opens))
+        wrong = [it for it in found if it not in (bad, ENDED)]
+        self.tell(f"{bad}: each of {len(found)} allocations refused {self.what}: neither that nor an end", wrong[:3], [])
+        self.tell("  some were refused", len(found) > 3)
+        self.tell("  then it is answered", ask() == good)
 
     def refuse_puts(self, name):
         """After each the entry is as before, or as after a change, in all that kadmin shows of it."""
         kvno = 1
-        wrong, count, failures, written = [], 0, 0, 0
+        wrong, count, written = [], 0, 0
         password = "Old-pass1"
         before, after = self.shape(name), None
 
@@ -190,11 +201,10 @@ class AgentFaults(AgentCase):
         while (answer := next(asking, None)) is not None:
             count += 1
             held, shape = self.held(name), self.shape(name)
-            failures += answer.startswith("failed ")
             is_new = held == self.of(name, kvno + 1, f"Put-pass{kvno + 1}")
-            written += is_new and answer.startswith("failed ")
             is_old = kvno == 1 or held == self.of(name, kvno, password)
-            if answer == f"put {hexed(name)} {kvno + 1}" and is_new or answer.startswith(f"failed {hexed(name)} ") and (is_new or is_old):
+            written += is_new
+            if answer in (ENDED, f"failed {hexed(name)} no memory") and (is_new or is_old):
                 if is_new:
                     kvno, password = kvno + 1, f"Put-pass{kvno + 1}"
             else:
@@ -204,10 +214,10 @@ class AgentFaults(AgentCase):
                 wrong.append((count, shape))
             if len(wrong) > 3:
                 break
-        self.tell(f"put, each of {count} allocations refused {self.what}: an entry that is neither", wrong, [])
+        self.tell(f"put, each of {count} allocations refused {self.what}: neither failed nor an end, or an entry that is neither",
+                  wrong, [])
         # where it was refused amid the write itself
-        self.tell("  fewer than half have failed and are written all the same", written < count / 2)
-        self.tell("  some failed, where all behind it are refused", failures > 10 or not self.whole)
+        self.tell("  fewer than half are written all the same", written < count / 2)
         self.tell("  then one is written", self.line.put(name, 30000, "Last-pass1"), f"put {hexed(name)} 30000")
         self.tell("  the KDC's keys", self.held(name), self.of(name, 30000, "Last-pass1"))
         self.tell("  login", self.logs_in(name, "Last-pass1"), [True])
@@ -220,6 +230,25 @@ class AgentFaults(AgentCase):
     def refuse_others(self, never):
         for name in [*never, "nobody"]:
             found = list(self.refusing(lambda: self.line.put(name, 9, "Bad-pass9")))
-            words = ("none", "failed") if name == "nobody" else ("refused", "failed")
-            wrong = [it for it in found if it is None or it.split()[:1] not in [[word] for word in words]]
-            self.tell(f"put {name}, each of {len(found)} allocations refused {self.what}: neither refused nor failed", wrong, [])
+            wrong = [it for it in found if it not in (ENDED, f"failed {hexed(name)} no memory")]
+            self.tell(f"put {name}, each of {len(found)} allocations refused {self.what}: neither failed nor an end", wrong[:3], [])
+
+    def memory_of_the_system(self):
+        """The system gives no more from a moment on, which is another one each time: the agent goes on, and what it has
+        begun it does."""
+        name, kvno, failures, wrong = self.name(), 1, 0, []
+        for more in range(0, 12 << 20, 1 << 19):
+            with self.talking() as line:
+                pages = int(pathlib.Path(f"/proc/{line.agent.process.pid}/statm").read_text().split()[0])
+                limit = pages * mmap.PAGESIZE + more
+                resource.prlimit(line.agent.process.pid, resource.RLIMIT_AS, (limit, limit))
+                answers = [line.put(name, kvno + 1, f"System-pass{kvno}"), line.ask(f"get {hexed('nobody')}"), line.ask("list")]
+                if answers[:2] == [f"put {hexed(name)} {kvno + 1}", f"none {hexed('nobody')}"] and answers[2].startswith("has "):
+                    kvno += 1
+                elif answers == [f"failed {it} no memory" for it in (hexed(name), hexed("nobody"), "-")]:
+                    failures += 1
+                else:
+                    wrong.append((more, answers))
+        self.tell("no memory from different moments on: neither failed nor answered", wrong, [])
+        self.tell("  times it failed, and was answered", failures > 5 and kvno > 3)
+        self.tell("  the KDC's keys", self.held(name), self.of(name, kvno, f"System-pass{kvno - 1}"))

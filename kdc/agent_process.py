@@ -2,7 +2,6 @@
 
 import contextlib
 import os
-import pathlib
 import pwd
 import signal
 import socket
@@ -13,8 +12,6 @@ import time
 from building import built
 from changepw_client import string_to_key
 from realm import REALM
-
-FOLDER = pathlib.Path(__file__).resolve().parent / "agent"
 
 
 def hexed(name):
@@ -159,6 +156,12 @@ class Connection:
         self.send(request.encode() + b"\n")
         return self.answer()
 
+    def at_last(self, request):
+        """The answer that comes once nobody else has the database locked."""
+        while (answer := self.ask(request)) and answer.startswith("failed ") and answer.endswith(" locked"):
+            pass
+        return answer
+
     def put(self, name, kvno, password):
         return self.ask(putting(name, kvno, password))
 
@@ -185,4 +188,4 @@ def program_of(realm, kind, *flags):
     """The agent, built in the realm's folder; with flags one of its own."""
     project = realm.mit if kind == "mit" else realm.heimdal
     folder = realm.folder / ("agent" + "".join(flags).replace("-", "_").replace(",", "").replace("=", ""))
-    return built(project, folder, kind, flags, where=FOLDER, name=f"kdc_{kind}")
+    return built(project, folder, kind, flags)

@@ -1,17 +1,14 @@
 /*
- * Refuses allocations of a program that is started with LD_PRELOAD. REFUSING names a file of three numbers
- * of 64 bits, which the tests change while the program runs: which allocation from now on is refused, 0 for
- * none; whether all that follow are, too; how many were asked for.
+ * Refuses allocations of an agent that is started with LD_PRELOAD. REFUSING names a file of three numbers of 64
+ * bits, which the tests change while the program runs: which allocation from now on is refused, 0 for none;
+ * whether all that follow are, too; how many were asked for.
  */
+#include <dlfcn.h>
 #include <errno.h>
 #include <fcntl.h>
 #include <stdint.h>
 #include <stdlib.h>
 #include <sys/mman.h>
-
-extern void *__libc_malloc(size_t size);
-extern void *__libc_calloc(size_t count, size_t size);
-extern void *__libc_realloc(void *old, size_t size);
 
 static volatile uint64_t *control;
 
@@ -28,19 +25,32 @@ static int is_refused(void)
     return 1;
 }
 
-void *malloc(size_t size)
+/* an agent has functions of the usual names itself, which call these */
+void *__libc_malloc(size_t size)
 {
-    return is_refused() ? NULL : __libc_malloc(size);
+    static void *(*next)(size_t);
+
+    if (next == NULL)
+        *(void **)&next = dlsym(RTLD_NEXT, "__libc_malloc");
+    return is_refused() ? NULL : next(size);
 }
 
-void *calloc(size_t count, size_t size)
+void *__libc_calloc(size_t count, size_t size)
 {
-    return is_refused() ? NULL : __libc_calloc(count, size);
+    static void *(*next)(size_t, size_t);
+
+    if (next == NULL)
+        *(void **)&next = dlsym(RTLD_NEXT, "__libc_calloc");
+    return is_refused() ? NULL : next(count, size);
 }
 
-void *realloc(void *old, size_t size)
+void *__libc_realloc(void *old, size_t size)
 {
-    return is_refused() ? NULL : __libc_realloc(old, size);
+    static void *(*next)(void *, size_t);
+
+    if (next == NULL)
+        *(void **)&next = dlsym(RTLD_NEXT, "__libc_realloc");
+    return is_refused() ? NULL : next(old, size);
 }
 
 __attribute__((constructor)) static void start(void)

@@ -5,6 +5,7 @@ import os
 import pathlib
 import pwd
 import re
+import resource
 import shutil
 import signal
 import socket
@@ -36,35 +37,36 @@ except OSError as fault:
 
 
 def bad_lines(name, highest):
-    """Lines that aren't of the form, and what is told of each."""
+    """Lines that aren't of the form."""
     good = putting(name, 2, "Bad-pass9").encode()
     put, text, kvno, first, second = good.split()
-    names, others = b"bad name", b"no such request"
-    for line in b"", b" ", b"x", b"LIST", b"lis", b"\0list", b" list", b"\xff", b"get", b"put", b"changed", b"end 0", b"\r":
-        yield line, others
-    for line in b"list ", b"list  keys", b"listkeys", b"list key", b"list\r", b"list\0", b"list keys ", b"list keys\r", b"list list":
-        yield line, b"something behind the request"
+    yield from (b"", b" ", b"x", b"LIST", b"lis", b"\0list", b" list", b"\xff", b"get", b"put", b"changed", b"end 0", b"\r")
+    yield from (b"list ", b"list  keys", b"listkeys", b"list key", b"list\r", b"list\0", b"list keys ", b"list keys\r", b"list list",
+                b"list keys keys", b"list\0keys", b"list keys\0")
     for bad in (b"", b" " + text, b"/" + text, text + b"/", text + b"//" + text, text[:-1], text.upper(), b"0x" + text,
                 b"0g", b"-" + text, b"\0", text[:3] + b"\0", b"k", b"61" * 451, b"/".join([b"61"] * 301)):
-        ending = names if bad[:2] != text[:2] or bad in (text + b"/", text + b"//" + text) else b""
-        yield b"get " + bad, ending
-        yield b" ".join([put, bad, kvno, first, second]), b"bad"
+        yield b"get " + bad
+        yield b" ".join([put, bad, kvno, first, second])
     for bad in b" ", b"\r", b"\0", b" x", b"/", b"0", b"g":
-        yield b"get " + text + bad, b""
-    for bad in (b"0", b"00", b"01", b"-1", b"+2", b"2.0", b"0x2", b"", b" 2", b"2 ", b"a", b"2a", b"%d" % (highest + 1), b"4294967296",
-                b"4294967298", b"18446744073709551618", b"9" * 60):
-        yield b" ".join([put, text, bad, first, second]), b"bad"
+        yield b"get " + text + bad
+    for bad in (b"0", b"00", b"01", b"-1", b"+2", b"2.0", b"0x2", b"", b" 2", b"2 ", b"a", b"2a", b"2\0", b"%d" % (highest + 1),
+                b"4294967296", b"4294967298", b"18446744073709551618", b"9" * 60):
+        yield b" ".join([put, text, bad, first, second])
     for bad in first[1:], first[2:], first + b"00", first.upper(), first[:-1] + b"g", b"", b" " + first, first[:-1] + b"\0", b"z" * 64:
-        yield b" ".join([put, text, kvno, bad, second]), b"bad key"
+        yield b" ".join([put, text, kvno, bad, second])
     for bad in second[1:], second[2:], second.upper(), second[:-1] + b"G", b"", b" " + second, second[:-1] + b"\r":
-        yield b" ".join([put, text, kvno, first, bad]), b"bad key"
+        yield b" ".join([put, text, kvno, first, bad])
     for bad in second + b"0", second + b"00", second + b" ", second + b" x", second + b"\r", second + b"\0":
-        yield b" ".join([put, text, kvno, first, bad]), b"something behind the request"
-    yield b"  ".join(good.split()), b"bad"
-    yield b"\t".join(good.split()), others
-    yield b" ".join([put, text, kvno, second, first]), b"bad key"
-    yield b" ".join([put, text, kvno, first]), b"bad key"
-    yield good[:-32], b"bad key"
+        yield b" ".join([put, text, kvno, first, bad])
+    for other in b"get", b"list", b"puts", b"PUT", b"", b"put\0":
+        yield b" ".join([other, text, kvno, first, second])
+    yield b"  ".join(good.split())
+    yield b"\t".join(good.split())
+    yield b" ".join([put, text, kvno, second, first])
+    yield b" ".join([put, text, kvno, first])
+    yield b" ".join([put, text, kvno])
+    yield b" ".join([put, text])
+    yield good[:-32]
 
 
 class AgentSocket(AgentCase):
@@ -82,12 +84,12 @@ class AgentSocket(AgentCase):
         lines = list(bad_lines(name, self.realm.HIGHEST_KVNO))
         wrong = []
         with Agent(self.realm) as agent:
-            for count, (bad, why) in enumerate(lines, 1):
+            for count, bad in enumerate(lines, 1):
                 with agent.connected() as line:
                     # what comes behind it isn't read any more
                     line.send(bad + b"\nlist\n")
                     answer = line.line()
-                if answer != "" or agent.told("was closed", count) != count or why.decode() not in agent.all_lines[-1]:
+                if answer != "" or agent.told("a connection was closed: a line is no request", count) != count:
                     wrong.append((bad[:60], answer, agent.all_lines[-1]))
             self.tell(f"{len(lines)} lines that aren't requests: treated otherwise", wrong, [])
             self.tell("  lines told", agent.told("was closed"), len(lines))
@@ -211,30 +213,31 @@ class AgentSocket(AgentCase):
     def what_stands_at_the_path(self):
         path = self.realm.folder / "place"
         path.write_text("mine")
-        self.fails("a file at the path", path, "something else than a socket stands there")
+        taken = "Address already in use"
+        self.fails("a file at the path", path, taken)
         self.tell("  it stays", path.read_text(), "mine")
         link = self.realm.folder / "link"
         link.symlink_to(path)
-        self.fails("a link", link, "something else than a socket stands there")
+        self.fails("a link", link, taken)
         self.tell("  it stays", link.is_symlink())
         path.unlink()
         path.mkdir()
-        self.fails("a folder", path, "something else than a socket stands there")
+        self.fails("a folder", path, taken)
         path.rmdir()
         with socket.socket(socket.AF_UNIX) as other:
             other.bind(str(path))
             other.listen()
-            self.fails("a socket that somebody listens at", path, "somebody else's socket stands there")
+            self.fails("a socket that somebody listens at", path, taken)
             self.tell("  it stays", path.is_socket())
         self.tell("  it is left behind", path.is_socket())
         packets = self.realm.folder / "packets"
         with socket.socket(socket.AF_UNIX, socket.SOCK_DGRAM) as other:
             other.bind(str(packets))
-            self.fails("a socket of another kind", packets, "somebody else's socket stands there")
+            self.fails("a socket of another kind", packets, taken)
             self.tell("  it stays", packets.is_socket())
         with Agent(self.realm, path=path) as agent:
             self.tell("one that nobody listens at is replaced", agent.ask(f"get {hexed('alice')}").split()[0], "has")
-            self.fails("another agent's", path, "somebody else's socket stands there")
+            self.fails("another agent's", path, taken)
             self.tell("  that serves on", agent.ask(f"get {hexed('alice')}").split()[0], "has")
         agent = Agent(self.realm, path=path)
         agent.told("listening", 1)
@@ -243,7 +246,7 @@ class AgentSocket(AgentCase):
         with Agent(self.realm, path=path):
             self.tell("  and the next one takes its place", path.is_socket())
         self.fails("a folder that isn't there", self.realm.folder / "none/place", "No such file or directory")
-        self.fails("a long path", self.realm.folder / ("x" * 120), "its path is too long for a socket")
+        self.fails("a long path", self.realm.folder / ("x" * 120), "File name too long")
 
     def ends(self):
         for number in signal.SIGTERM, signal.SIGINT:
@@ -320,9 +323,9 @@ class AgentSocket(AgentCase):
         program, environment = self.realm.agent()
         name = pathlib.Path(program).name
         good = ["--socket", str(self.realm.folder / "s"), "--user", "root", "--realm", REALM]
-        usage = f"usage: {name} --socket PATH --user NAME --realm REALM [--also PRINCIPAL].. [--database NAME]"
+        usage = f"usage: {name} --socket PATH --user NAME --realm REALM [--also PRINCIPAL].."
         for words in ([], good[:4], good[2:], [*good[:2], *good[4:]], [*good, "x"], [*good, "--x"], [*good, "--also"],
-                      [*good[:5], ""], [*good[:5], "R" * 256]):
+                      [*good[:5], ""]):
             done = subprocess.run([program, *words], capture_output=True, text=True, env=environment, timeout=20)
             self.tell(f"{len(words)} words: status, and usage", (done.returncode, done.stderr.splitlines()[-1]), (2, usage))
         for user in "", "nobody at all", "-1", "0":
@@ -332,13 +335,13 @@ class AgentSocket(AgentCase):
 
     def hidden_memory(self):
         """No core, and nobody but root looks into it: who owns its files in /proc tells whether others may."""
-        with Agent(self.realm) as agent:
-            text = pathlib.Path(f"/proc/{agent.process.pid}/limits").read_text()
-            self.tell("the largest core", re.search(r"Max core file size +(\d+) +(\d+)", text).groups(), ("0", "0"))
-        agent = Agent(self.realm)
+        most = resource.getrlimit(resource.RLIMIT_CORE)[1]
+        agent = Agent(self.realm, before=lambda: resource.setrlimit(resource.RLIMIT_CORE, (most, most)))
         agent.told("listening", 1)
-        agent.stop(signal.SIGQUIT)
-        self.tell("SIGQUIT: ends without a core", agent.process.returncode, -signal.SIGQUIT)
+        agent.process.send_signal(signal.SIGQUIT)
+        _, status = os.waitpid(agent.process.pid, 0)
+        self.tell("SIGQUIT: ends it, without a core", (os.WTERMSIG(status), os.WCOREDUMP(status)), (signal.SIGQUIT, False))
+        agent.ended()
         folder = pathlib.Path(tempfile.mkdtemp(prefix="agent_"))
         try:
             self.as_another_user(folder)
@@ -350,35 +353,40 @@ class AgentSocket(AgentCase):
         if not is_root():
             print("the agent's memory isn't looked into, since this isn't root")
             return
-        name, other = self.name(), self.name()
-        # so that the list takes more room than there is at the start
-        for _ in range(30):
-            self.name()
+        # so many that a list outgrows its room twice
+        names = [self.name() for _ in range(60)]
+        name, new = names[30], keys_of(names[30], "Wiped-pass2").split()
+        every = [word for it in names for word in keys_of(it, FIRST).split()]
         with self.talking() as line:
-            line.listed("list keys")
-            line.ask(f"get {hexed(name)}")
-            line.put(name, 2, "Wiped-pass2")
-            line.put(name, 2, "Wiped-pass2")
-            line.ask(f"get {hexed(name)}")
-            line.ask(f"get {hexed('alice')}")
+            for what, ask in (
+                ("list keys", lambda: line.listed("list keys")), ("get", lambda: line.ask(f"get {hexed(name)}")),
+                ("put", lambda: line.put(name, 2, "Wiped-pass2")), ("put again", lambda: line.put(name, 2, "Wiped-pass2")),
+                ("get of it", lambda: line.ask(f"get {hexed(name)}")), ("get of another", lambda: line.ask(f"get {hexed('alice')}")),
+            ):
+                ask()
+                # what was sent is wiped right after it
+                time.sleep(0.5)
+                memory = self.memory(line.agent.process.pid)
+                self.tell(f"after {what}, {len(memory) >> 20} MiB of memory: keys in hexadecimal",
+                          [word for word in (*every, *new) if word.encode() in memory][:3], [])
+                # Heimdal's library leaves some where it has decrypted them
+                own = memory if self.realm.KIND == "MIT" else self.memory(line.agent.process.pid, "/kdc_", "[stack]")
+                self.tell("  keys", [word for word in (*every, *new) if bytes.fromhex(word) in own][:3], [])
+            line.send(putting(name, 3, "Wiped-pass2").encode()[:-3])
+            time.sleep(0.2)
+            line.connection.close()
+            time.sleep(0.4)
             memory = self.memory(line.agent.process.pid)
-            line.put(name, 2, "Wiped-pass2")
-            memory += self.memory(line.agent.process.pid)
-            words = [*keys_of(name, "Wiped-pass2").split(), *keys_of(name, FIRST).split(), *keys_of(other, FIRST).split()]
-            texts = [word for word in words if word.encode() in memory]
-            self.tell(f"{len(memory) >> 20} MiB of memory: keys in hexadecimal", texts, [])
-            # Heimdal's library leaves some where it has decrypted them
-            if self.realm.KIND == "MIT":
-                self.tell("  keys", [word for word in words if bytes.fromhex(word) in memory], [])
+            self.tell("after half a request, and the connection's end: keys in hexadecimal", [it for it in new if it.encode() in memory], [])
 
-    def memory(self, process):
-        """All that it may write to: its data, heap and stack, and those of its libraries."""
+    def memory(self, process, *where):
+        """All that it may write to: its data, heap and stack, and those of its libraries; or only where that is."""
         found = b""
         with open(f"/proc/{process}/maps") as maps, open(f"/proc/{process}/mem", "rb", 0) as file:
             for line in maps:
                 place, rights, *_ = line.split()
                 start, end = (int(word, 16) for word in place.split("-"))
-                if rights.startswith("rw") and "[v" not in line:
+                if rights.startswith("rw") and "[v" not in line and (not where or any(it in line for it in where)):
                     file.seek(start)
                     found += file.read(end - start)
         return found

@@ -1,12 +1,10 @@
-"""What all tests of a follower have: a realm, the service's program, and a line for each check."""
+"""What all tests at a KDC have: a realm, the service's program, and a line for each check."""
 
 import contextlib
-import re
-import shutil
 
 import realms
-from follower import Follower
-from own_journal import OwnJournal
+from agent_process import Agent
+from daemons import comes
 from report import Report
 
 
@@ -19,13 +17,12 @@ class Passed(Report):
 
 
 class Cases:
-    """`names` is how many principals were made, so that each test has some of its own."""
+    """Each part makes principals of its own, of which `count` is the number."""
 
-    def __init__(self, realm, program, report, wrap=()):
+    def __init__(self, realm, program, report):
         self.realm = realm
         self.program = program
         self.report = report
-        self.wrap = wrap
         self.count = 0
 
     def tell(self, what, found, wanted=True):
@@ -39,58 +36,23 @@ class Cases:
             self.realm.add(name, realms.FIRST)
         return name
 
-    @contextlib.contextmanager
-    def own(self, *names, depth=3):
-        """A configuration and an empty journal, whose principals have the names."""
-        self.count += 1
-        files = OwnJournal(self.realm.folder / f"own{self.count}", self.program, names, depth)
-        try:
-            yield files
-        finally:
-            shutil.rmtree(files.folder)
+    def own_names(self):
+        """The table of a configuration by which the names that are made here are the service's, and no others."""
+        return f'\n[kdc]\ninclude = ["{type(self).__name__.lower()}*"]\n'
 
     @contextlib.contextmanager
-    def following(self, files, *options, **more):
-        """A follower that has had its first pass, and has to end well."""
-        follower = self.begin(files, *options, **more)
-        try:
-            yield follower
-        finally:
-            status = follower.stop()
-        if status != 0:
-            self.tell("the follower's status", status, 0)
-            print("\n".join(follower.all_lines), flush=True)
-        # a key of AES-128 in hexadecimal, or more
-        secret = [line for line in follower.all_lines if re.search("[0-9A-Fa-f]{32}", line)]
-        if secret:
-            self.tell("lines that may have a key in them", len(secret), 0)
+    def talking(self, *options, **more):
+        """A connection to an agent of its own."""
+        with Agent(self.realm, *options, **more) as agent, agent.connected() as connection:
+            connection.agent = agent
+            yield connection
 
-    def ends(self, follower):
-        status = follower.stop()
-        self.tell("  status", status, 0)
-        if status != 0:
-            print("\n".join(follower.all_lines), flush=True)
-
-    def begin(self, files, *options, seconds=60, **more):
-        follower = Follower(self.realm, files, *options, wrap=self.wrap, **more)
-        if follower.passes(seconds) is None:
-            follower.stop()
-            raise RuntimeError(f"no pass: {follower.all_lines[-5:]}")
-        return follower
-
-    def as_table(self, what, files, names):
-        """The KDC has the keys that the table should have, in all versions, and no others."""
-        found, wanted = self.realm.keys(names), files.keys(names)
+    def keys_are_the_tables(self, served, names, types=None):
+        """The KDC has of each name the newest keys of the service's table, and no others of these types, by default of all, once
+        both were compared."""
+        def keys():
+            return {it for it in self.realm.keys(names) if types is None or it[2] in types}
+        comes(lambda: keys() == served.newest_keys(names))
+        found, wanted = keys(), served.newest_keys(names)
         missing, other = len(wanted - found), len(found - wanted)
-        self.tell(f"{what}: {len(wanted)} keys, of them missing, and others", (missing, other), (0, 0))
-
-    def keys_are_the_tables(self, files, names):
-        """Each key that the KDC has of who was changed is the service's, and none of the service's lacks."""
-        lines = (line.split() for line in files.table("keys").splitlines())
-        table = {
-            (name.partition("@")[0].replace("\\x20", " "), int(kvno), int(etype), key)
-            for name, kvno, etype, _, key, _ in lines
-        }
-        found, wanted = self.realm.keys(names), {it for it in table if it[0] in names}
-        missing, other = len(wanted - found), len(found - wanted)
-        self.tell(f"the table's {len(wanted)} keys: missing in the KDC, and others there", (missing, other), (0, 0))
+        self.tell(f"the table's {len(wanted)} newest keys: missing in the KDC, and others there", (missing, other), (0, 0))

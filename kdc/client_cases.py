@@ -1,4 +1,4 @@
-"""Stock clients of both projects against the service with `--follower`, and the KDC at once behind it.
+"""Stock clients of both projects against the service with `--kdc`, and the KDC at once behind it.
 
 Each case is tried so many times in a row, for a user of its own. What a client's user sees of the first
 time is printed, as docs/RESULTS.md has it.
@@ -10,9 +10,9 @@ import signal
 import configuration
 from cases import Cases
 from clients import HeimdalClient, HeimdalOverUdp, MitClient
-from confirmed import Confirmed
 from logins import HeimdalPam, HeimdalPamOverUdp, MitPam, Sssd
 from realms import FIRST
+from served import Served
 
 # less than the two seconds after which Heimdal's clients ask anew
 WAIT = 1500
@@ -52,14 +52,15 @@ class ClientCases(Cases):
             for client in clients:
                 client.build([user.name for user in users])
                 stack.callback(client.end)
-            self.with_follower(clients, users, rounds)
+            self.with_agent(clients, users, rounds)
             for client in clients:
-                self.follower_hangs(client, users.pop())
-            self.follower.stop()
+                self.agent_hangs(client, users.pop())
+            self.files.end_agent()
             for client in clients:
-                self.without_follower(client, users.pop())
+                self.without_agent(client, users.pop())
+            self.files.begin_agent()
 
-    def with_follower(self, clients, users, rounds):
+    def with_agent(self, clients, users, rounds):
         for client in clients:
             for what, case in client.CASES.items():
                 self.again(client, users.pop(), what, getattr(self, case), rounds)
@@ -67,22 +68,20 @@ class ClientCases(Cases):
 
     @contextlib.contextmanager
     def serving(self, users, folder="clients", options=("--udp",)):
-        """The service and a follower; at the end the KDC's keys are the table's."""
+        """The service and an agent; at the end the KDC's keys are the table's."""
         names = [user.name for user in users]
-        self.files = Confirmed(self.realm.folder / folder, self.program, WAIT, options=options)
-        self.files.configure(configuration.configuration(self.realm.keytab(names), [(self.admin.name, "*")]))
+        self.files = Served(self.realm, self.program, folder, WAIT, options=options)
+        text = configuration.configuration(self.realm.keytab(names), [(self.admin.name, "*")])
+        self.files.configure(text + self.own_names())
+        self.files.begin_agent()
         self.files.start()
         try:
-            self.follower = self.begin(self.files)
-            try:
-                yield
-            finally:
-                self.follower.stop()
-            with self.following(self.files):
-                changed = [user.name for user in users if user.count]
-                self.keys_are_the_tables(self.files, changed)
+            self.tell("the service and the KDC are in step", self.files.is_in_step())
+            yield
+            self.tell("  at the end too", self.files.is_in_step())
+            self.keys_are_the_tables(self.files, [user.name for user in users if user.count])
         finally:
-            self.files.server.end()
+            self.files.end()
 
     def again(self, client, user, what, case, rounds):
         """So many times in a row; a miss is told as its user sees it."""
@@ -144,29 +143,29 @@ class ClientCases(Cases):
 
     # ---- once
 
-    def follower_hangs(self, client, user):
+    def agent_hangs(self, client, user):
         """The change is answered after WAIT, and the client goes by that, though it may want a ticket too."""
         former, user.password = user.password, user.next()
         before = self.files.unconfirmed()
-        self.follower.process.send_signal(signal.SIGSTOP)
+        self.files.agent.process.send_signal(signal.SIGSTOP)
         try:
             seen = client.kpasswd(user.name, former, user.password)
         finally:
-            self.follower.process.send_signal(signal.SIGCONT)
-        self.show(client, "a change, the follower hangs", seen)
+            self.files.agent.process.send_signal(signal.SIGCONT)
+        self.show(client, "a change, the agent hangs", seen)
         found = seen.is_done, self.files.unconfirmed() - before
         wanted = not client.ASKS_FOR_TICKET, 1
-        self.tell(f"{client.NAME}: a change, the follower hangs: done, lines in the log", found, wanted)
-        self.tell("  it goes on: a ticket by the new one", self.follower.ask() and self.gives_ticket(client, user))
+        self.tell(f"{client.NAME}: a change, the agent hangs: done, lines in the log", found, wanted)
+        self.tell("  it goes on: a ticket by the new one", self.files.is_in_step() and self.gives_ticket(client, user))
 
-    def without_follower(self, client, user):
-        """The change is answered at once; the KDC has it when a follower comes."""
+    def without_agent(self, client, user):
+        """The change is answered at once; the KDC has it when an agent comes."""
         self.realm.ask_for_change(user.name)
         former, user.password = user.password, user.next()
         before = self.files.unconfirmed()
         seen = client.expired(user.name, former, user.password, user.password)
-        self.show(client, f"{next(iter(client.CASES))}, no follower", seen)
+        self.show(client, f"{next(iter(client.CASES))}, no agent", seen)
         found = seen.is_done, self.files.unconfirmed() - before
-        self.tell(f"{client.NAME}: expired, no follower: a ticket, lines in the log", found, (False, 1))
-        with self.following(self.files):
+        self.tell(f"{client.NAME}: expired, no agent: a ticket, lines in the log", found, (False, 0))
+        with self.files.with_agent():
             self.tell("  one comes: a ticket by the new one", self.gives_ticket(client, user))

@@ -11,7 +11,7 @@ import socket
 import time
 
 from asking import framed, request_now, said
-from journal import read_journal
+from journal import Record, read_journal
 
 PAUSE = 0.002
 DONE = "code 0 password changed"
@@ -130,7 +130,7 @@ class Crowd:
             data = file.read()
         records, rest = read_journal(data)
         self.read += len(data) - len(rest)
-        return [record.name for record in records]
+        return [record.name for record in records if type(record) is Record]
 
     def hear(self, change, before):
         """A part of the reply, or the end; it wasn't there before that moment."""

@@ -1,11 +1,11 @@
-"""A follower that is killed at each of its steps (dying.c), and what the next one makes of it."""
+"""An agent that is killed at each of its steps (dying.c) while it writes, and what the next one finds."""
 
+import signal
 import subprocess
-import time
 
 import realms
+from agent_process import Agent, hexed, keys_of
 from cases import Cases
-from follower import Follower
 
 # steps after which it has to have answered
 MOST_STEPS = 400
@@ -24,40 +24,41 @@ class DeathCases(Cases):
     def run(self):
         library = dying_library(self.realm.folder)
         name = self.name()
-        with self.own(name) as files:
-            deaths, faults = self.steps(files, name, library)
-            self.tell(f"killed at each of {deaths} steps: not carried by the next one", faults, [])
-            self.tell("  some of the steps", deaths > 10)
-            self.as_table("  table and database", files, [name])
+        deaths, faults = self.steps(name, library)
+        self.tell(f"killed at each of {deaths} steps: entries that are neither the former nor the new one", faults, [])
+        self.tell("  some of the steps", deaths > 4)
 
-    def steps(self, files, name, library):
+    def steps(self, name, library):
         """How many steps there are from the start to the answer, and after which it goes wrong."""
-        faults = []
+        faults, kvno, password = [], 1, realms.FIRST
         for step in range(1, MOST_STEPS):
-            # one that the first pass finds, and one that is taken up behind it
-            files.append(files.change(name))
-            dying = Follower(self.realm, files, LD_PRELOAD=library, DYING_AT=str(step))
-            is_answered = self.waits(dying)
-            if is_answered:
-                files.append(files.change(name))
-                is_answered = self.waits(dying)
-            dying.stop(9)
-            follower = self.begin(files)
-            kvno = self.realm.kvno(name)
-            if not follower.ask() or kvno != files.versions[name][0][0]:
-                faults.append((step, kvno, follower.all_lines))
-            if follower.stop() != 0:
-                faults.append((step, "status"))
+            new = f"Death-pass{step}"
+            is_answered = self.dies_at(step, library, name, kvno + 1, new)
+            former = f"has {hexed(name)} {kvno} {keys_of(name, password)}"
+            wanted = f"has {hexed(name)} {kvno + 1} {keys_of(name, new)}"
+            with self.talking() as line:
+                found = line.ask(f"get {hexed(name)}")
+                if found not in (former, wanted) or is_answered and found != wanted:
+                    faults.append((step, "found", found))
+                # what was asked for is asked again
+                again = line.put(name, kvno + 1, new)
+            tickets = self.realm.kinit(name, new), self.realm.kinit(name, password)
+            if (again, tickets) != (f"put {hexed(name)} {kvno + 1}", (True, False)):
+                faults.append((step, again, tickets))
+            kvno, password = kvno + 1, new
             if is_answered:
                 return step - 1, faults
         return MOST_STEPS, faults
 
-    def waits(self, dying):
+    def dies_at(self, step, library, name, kvno, password):
         """Whether it answers; it may end before."""
-        while dying.process.poll() is None:
-            if dying.told("principals ") and dying.ask(seconds=1):
-                # it may die as it answers
-                time.sleep(0.05)
-                return dying.process.poll() is None
-            time.sleep(0.01)
-        return False
+        dying = Agent(self.realm, LD_PRELOAD=library, DYING_AT=str(step))
+        try:
+            if not dying.told("listening", 1):
+                return False
+            with dying.connected() as line:
+                return line.put(name, kvno, password) == f"put {hexed(name)} {kvno}"
+        except OSError:
+            return False
+        finally:
+            dying.stop(signal.SIGKILL)

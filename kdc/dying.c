@@ -1,14 +1,12 @@
 /*
- * A library for LD_PRELOAD: a follower ends by SIGKILL just before the N-th call by which it changes
- * something that others see, where N is DYING_AT of its environment. The programs that it runs live.
+ * A library for LD_PRELOAD: the program ends by SIGKILL just before the N-th call by which it changes
+ * something that others see, where N is DYING_AT of its environment.
  */
 #include <dlfcn.h>
-#include <errno.h>
 #include <fcntl.h>
 #include <signal.h>
 #include <stdarg.h>
 #include <stdlib.h>
-#include <string.h>
 #include <sys/socket.h>
 #include <sys/types.h>
 #include <unistd.h>
@@ -18,8 +16,7 @@ static void step(void)
     static long count;
     const char *at = getenv("DYING_AT");
 
-    if (at != NULL && strncmp(program_invocation_short_name, "follow_", 7) == 0 &&
-        ++count == atol(at))
+    if (at != NULL && ++count == atol(at))
         kill(getpid(), SIGKILL);
 }
 

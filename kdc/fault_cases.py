@@ -1,7 +1,7 @@
-"""Faults while sixteen users change their passwords: of the follower, the database and the service.
+"""Faults while sixteen users change their passwords: of the agent, the database and the service.
 
 Behind each of them the journal has each change that was answered, and the KDC the table's keys. No reply
-comes later behind its record than `--follower-wait`, `--later` and what it takes where nobody
+comes later behind its record than `--kdc-wait`, `--later` and what it takes where nobody
 listens at the socket, which is tried first. crowd.py has how that is seen.
 """
 
@@ -13,33 +13,36 @@ import signal
 import threading
 import time
 
+from agent_process import Agent
 from cases import Cases
-from confirmed import TOLD, Confirmed
 from crowd import Crowd
+from daemons import comes
 from death_cases import dying_library
-from false_followers import KINDS, FalseFollower, says_nothing
-from follower import Follower
-from journal import read_journal
+from false_agents import KINDS, FalseAgent, says_nothing
+from journal import Record, read_journal
 from kill import AHEAD
-from own_journal import configured, keys_of
+from own_configuration import configured, keys_of
 from realms import FIRST
+from served import FOUND, TOLD, Served
 
 USERS = 16
 # milliseconds, as where it isn't given
 WAIT = 2000
-# a follower that is to die lives for so long at most behind its first pass, and somebody has the database
+# an agent that is to die lives for so long at most once it listens, and somebody has the database
 LIFE = 0.5
 LOCKED = 4
 # seconds between two kills of the service
 APART = 3, 6
-# users rest for so long at most between two changes, so that each meets another follower
+# users rest for so long at most between two changes, so that each meets another agent
 REST = 2
+# the types of the service's keys
+OURS = 17, 18
 # so many times its changes are those of all cases
-CASES = 13
+CASES = 14
 # of the wait: a reply that comes before didn't wait
 MOST_AT_ONCE = 0.9
-# of the changes, with each of those that aren't followers: one in so many, and where each of them waits
-FALSE, WAITING = 2, 8
+# of the changes, with each of those that aren't agents: one in so many
+FALSE = 8
 
 
 @functools.cache
@@ -54,19 +57,19 @@ class FaultCases(Cases):
         self.later = later / 1000
         self.names = [self.name() for _ in range(USERS)]
         self.library = dying_library(self.realm.folder)
-        self.files = Confirmed(self.realm.folder / "faults", self.program, WAIT)
-        first = {name: [(1, keys_of(name, FIRST))] for name in self.names}
-        self.files.configure(configured(first, 3))
+        self.files = Served(self.realm, self.program, "faults", WAIT)
+        first = {name: (1, keys_of(name, FIRST)) for name in self.names}
+        self.files.configure(configured(first, 3) + self.own_names())
         self.files.start()
         try:
             self.crowd = Crowd(self.files, self.files.server.port, self.names)
             # until a change has been tried without a wait: seconds from its record to its reply
             self.itself = 0
             self.kills = 0
-            for case in (self.late, self.none, self.killed, self.locked, self.false, self.restarted):
+            for case in (self.late, self.none, self.killed, self.locked, self.amid, self.false, self.restarted):
                 case()
         finally:
-            self.files.server.end()
+            self.files.end()
 
     def meanwhile(self, what, fault, count):
         """The changes, while the fault goes on in a thread; the longest from a record to its reply, in seconds."""
@@ -89,67 +92,69 @@ class FaultCases(Cases):
     def nobody(self, over):
         """No fault at all."""
 
-    def is_carried(self):
-        """A follower comes: the journal is what was asked for, and the KDC has the table's keys."""
-        with self.following(self.files) as follower:
-            self.tell("  a follower's answer", follower.ask())
-            self.keys_are_the_tables(self.files, self.names)
+    def is_carried(self, types=None):
+        """An agent comes: the journal is what was asked for, and the KDC has the table's keys, and no others of these types, by
+        default of all."""
+        with self.files.with_agent():
+            self.keys_are_the_tables(self.files, self.names, types)
         records, torn = read_journal(self.files.journal.read_bytes())
         found = {name: [] for name in self.names}
         for record in records:
-            found[record.name].append((record.aes128, record.aes256))
+            if type(record) is Record:
+                found[record.name].append((record.aes128, record.aes256))
         wanted = {name: [keys_once(name, it) for it in user.asked] for name, user in self.crowd.users.items()}
         self.tell(f"  the journal's {len(records)} changes are those that were made", (found, torn) == (wanted, b""))
 
     # ---- the cases
 
     def none(self):
-        with self.following(self.files):
+        with self.files.with_agent():
             _, lines = self.meanwhile("no fault", self.nobody, self.changes)
             self.tell("  not confirmed", lines, 0)
         self.is_carried()
 
     def late(self):
-        """Nobody listens; then a follower starts."""
-        self.itself, lines = self.meanwhile("no follower", self.nobody, self.changes)
-        self.tell("  not confirmed", lines, self.changes)
+        """Nobody listens; then an agent starts."""
+        self.itself, lines = self.meanwhile("no agent", self.nobody, self.changes)
+        self.tell("  replies that waited in vain", lines, 0)
         with contextlib.ExitStack() as stack:
-            self.meanwhile("a follower starts late", lambda _: self.starts(stack), self.changes)
+            self.meanwhile("an agent starts late", lambda _: self.starts(stack), self.changes)
             _, lines = self.meanwhile("  it is there", self.nobody, USERS)
             self.tell("  not confirmed", lines, 0)
         self.is_carried()
 
     def starts(self, stack):
         time.sleep(0.3)
-        stack.enter_context(self.following(self.files))
+        stack.enter_context(self.files.with_agent())
 
     def killed(self):
-        """One follower after the other, each killed a step later than the one before (dying.c)."""
+        """One agent after the other, each killed a step later than the one before (dying.c)."""
         self.crowd.rest = REST
-        self.meanwhile("followers killed by kill -9", self.kills_followers, 2 * self.changes)
+        self.meanwhile("agents killed by kill -9", self.kills_agents, 2 * self.changes)
         self.crowd.rest = 0
-        print(f"  {self.deaths} followers", flush=True)
+        print(f"  {self.deaths} agents", flush=True)
         self.is_carried()
 
-    def kills_followers(self, over):
+    def kills_agents(self, over):
         self.deaths = 0
         while not over.is_set():
             step = str(1 + self.deaths * 3)
-            follower = Follower(self.realm, self.files, LD_PRELOAD=self.library, DYING_AT=step)
+            agent = Agent(self.realm, path=self.files.socket, LD_PRELOAD=self.library, DYING_AT=step)
             end = math.inf
-            while follower.process.poll() is None and not over.is_set() and time.monotonic() < end:
-                if end == math.inf and follower.told("principals "):
+            while agent.process.poll() is None and not over.is_set() and time.monotonic() < end:
+                if end == math.inf and agent.told("listening"):
                     end = time.monotonic() + random.uniform(0, LIFE)
                 time.sleep(0.005)
-            follower.stop(signal.SIGKILL)
+            agent.stop(signal.SIGKILL)
             self.deaths += 1
 
     def locked(self):
         """Somebody has the database for longer than a reply waits."""
-        with self.following(self.files):
+        with self.files.with_agent():
             _, lines = self.meanwhile(f"the database is locked for {LOCKED} seconds", self.locks, self.changes)
             self.tell("  some were not confirmed", lines > 0)
-            _, lines = self.meanwhile("  and free again", self.nobody, USERS)
+            self.tell("  and free again: in step", self.files.is_in_step())
+            _, lines = self.meanwhile("  changes then", self.nobody, USERS)
             self.tell("  not confirmed", lines, 0)
         self.is_carried()
 
@@ -157,30 +162,49 @@ class FaultCases(Cases):
         with self.realm.locked():
             time.sleep(LOCKED)
 
+    def amid(self):
+        """An administrator changes passwords of the same users at the KDC."""
+        with self.files.with_agent():
+            self.crowd.rest = REST
+            self.meanwhile("an administrator changes them, too", self.administers, self.changes)
+            self.crowd.rest = 0
+            print(f"  {self.administered} changes of an administrator", flush=True)
+            self.tell("  in step", self.files.is_in_step())
+        # what an administrator has set stays as kadmin made it, with Heimdal's other types
+        self.is_carried(OURS)
+
+    def administers(self, over):
+        self.administered = 0
+        while not over.wait(random.uniform(0, REST / 10)):
+            self.administered += 1
+            self.realm.set_password(random.choice(self.names), f"Kadmin-pass{self.administered}")
+
     def false(self):
-        """What listens at the socket is no follower."""
+        """What listens at the socket is no agent."""
         for answer, when in KINDS:
             what = answer.__name__.replace("_", " ")
-            count = max(USERS, self.changes // (FALSE if when == "at once" else WAITING))
-            with FalseFollower(self.files.socket, answer) as follower:
-                longest, lines = self.meanwhile(f"a follower that {what}", self.nobody, count)
-            self.tell("  it was asked, and confirmed none", (follower.asks > 0, lines), (True, count))
-            if when != "either":
-                self.tell("  some waited", longest > MOST_AT_ONCE * WAIT / 1000, when == "waits")
+            count = max(USERS, self.changes // FALSE)
+            with FalseAgent(self.files.socket, answer) as agent:
+                self.tell(f"an agent that {what} is found", comes(lambda: agent.asks > 0 or self.files.is_in_step(0), FOUND))
+                longest, lines = self.meanwhile(f"an agent that {what}", self.nobody, count)
+            self.tell("  it was asked", agent.asks > 0)
+            if when == "waits":
+                self.tell("  some waited", longest > MOST_AT_ONCE * WAIT / 1000)
+                self.tell("  all in vain", lines, count)
         self.is_carried()
 
     def restarted(self):
         """The service is killed while replies are held back, and comes again."""
         told = set(self.kill_service().splitlines())
-        self.tell("the service is killed: what it had told", told, {f"{self.files.socket}: {TOLD}"})
+        self.tell("the service is killed: it had told of replies that waited in vain", f"{self.files.socket}: {TOLD}" in told)
         self.files.start()
         self.crowd.ahead = AHEAD
-        with FalseFollower(self.files.socket, says_nothing):
+        with FalseAgent(self.files.socket, says_nothing):
             self.meanwhile("the service is killed, its replies held back", self.kills_service, 3 * USERS)
             self.tell("  some replies were lost", self.crowd.lost > 0)
         self.is_carried()
-        with self.following(self.files):
-            self.meanwhile("the service is killed, with a follower", self.kills_service, self.changes)
+        with self.files.with_agent():
+            self.meanwhile("the service is killed, with an agent", self.kills_service, self.changes)
         self.is_carried()
         print(f"  {self.kills} kills, {self.crowd.lost} replies were lost", flush=True)
 

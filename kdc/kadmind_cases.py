@@ -1,5 +1,6 @@
-"""The project's kadmind beside the follower: what users and administrators can change past the service."""
+"""The project's kadmind beside the agent: what users and administrators can change past the service."""
 
+from agent_process import hexed
 from cases import Cases
 from daemons import daemon
 from ports import free_ports
@@ -22,7 +23,10 @@ class KadmindCases(Cases):
         self.user = self.name()
         self.password = FIRST
         self.passwords = 0
-        with self.own(self.user) as self.files, self.following(self.files) as self.follower:
+        self.is_locked_down = False
+        self.folder = self.realm.folder / "kadmind"
+        self.folder.mkdir()
+        with self.talking() as self.agent:
             self.mit() if self.realm.KIND == "MIT" else self.heimdal()
 
     def new_password(self):
@@ -38,19 +42,22 @@ class KadmindCases(Cases):
         self.password = new
         return True
 
-    def follower_writes(self):
-        """The table's version goes above the database's first."""
-        while self.files.versions[self.user][0][0] < self.realm.kvno(self.user):
-            self.files.append(self.files.change(self.user))
+    def agent_writes(self):
+        """What the service asks for last is what is good."""
+        kvno = self.realm.kvno(self.user) + 1
         self.password = self.new_password()
-        self.files.append(self.files.change(self.user, self.password))
-        found = self.follower.ask(), self.realm.kinit(self.user, self.password)
-        self.tell("  the follower writes, and the password is good", found, (True, True))
+        found = self.agent.put(self.user, kvno, self.password), self.realm.kinit(self.user, self.password)
+        self.tell("  the agent writes, and the password is good", found, (f"put {hexed(self.user)} {kvno}", True))
+
+    def agent_refuses(self):
+        """The agent goes by the lock, too."""
+        found = self.agent.put(self.user, self.realm.kvno(self.user) + 1, self.new_password())
+        self.tell("  the agent refuses", found, f"refused {hexed(self.user)} lockdown")
 
     def tell_changes(self, what, ways, wanted):
         found = [self.change(by) for by in ways]
         self.tell(f"kadmind, {what}: changed by the user and others", found, wanted)
-        self.follower_writes()
+        self.agent_refuses() if self.is_locked_down else self.agent_writes()
 
     # ---- MIT
 
@@ -60,7 +67,7 @@ class KadmindCases(Cases):
 
     def mit_tries(self, what, wanted, more="", acl=ALL):
         """The user by kadmin, and by kpasswd at kadmind's port; the administrator."""
-        realm, folder = self.realm, self.files.folder
+        realm, folder = self.realm, self.folder
         (folder / "acl").write_text(acl)
         text = (realm.folder / "kdc.conf").read_text()
         text = text.replace(f"{realm.folder}/kadm5.acl", f"{folder}/acl")
@@ -83,8 +90,10 @@ class KadmindCases(Cases):
         self.mit_tries("both", [False, False, False], NO_SELF_SERVICE, without_c)
         self.mit_tries("an ACL against users", [True, True, True], acl=f"{ALL}*@{REALM} C\n")
         self.realm.kadmin("modprinc", "+lockdown_keys", self.user)
+        self.is_locked_down = True
         self.mit_tries("keys locked down", [False, True, False])
         self.realm.kadmin("modprinc", "-lockdown_keys", self.user)
+        self.is_locked_down = False
         self.realm.kadmin("addpol", "-minlife", "20000 days", "served")
         self.realm.kadmin("modprinc", "-policy", "served", self.user)
         self.mit_tries("a policy's least life", [False, False, True])
@@ -100,11 +109,11 @@ class KadmindCases(Cases):
     def heimdal_tries(self, what, wanted, acl):
         """The user, and the administrator."""
         realm = self.realm
-        (self.files.folder / "acl").write_text(acl)
+        (self.folder / "acl").write_text(acl)
         ways = [lambda new: self.by_heimdal(self.user, self.password)(new), self.by_heimdal("admin", FIRST)]
         command = [f"{realm.heimdal.folder}/usr/lib/heimdal-servers/kadmind"]
         command += [f"--config-file={realm.folder}/krb5-kadmind.conf", f"--ports={self.port}"]
-        log = self.files.folder / "kadmind.out"
+        log = self.folder / "kadmind.out"
         with daemon(command, realm.environment("-kadmind"), log, self.port):
             self.tell_changes(what, ways, wanted)
 
@@ -114,7 +123,7 @@ class KadmindCases(Cases):
         here = f"        admin_server = 127.0.0.1:{self.port}\n"
         text = (realm.folder / "krb5.conf").read_text()
         text = text.replace("        kpasswd_server", f"{here}        kpasswd_server")
-        text = text.replace(f"{realm.folder}/acl", f"{self.files.folder}/acl")
+        text = text.replace(f"{realm.folder}/acl", f"{self.folder}/acl")
         (realm.folder / "krb5-kadmind.conf").write_text(text)
         everything = f"admin@{REALM} all\n"
         self.heimdal_tries("as it is", [True, True], everything)

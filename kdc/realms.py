@@ -1,21 +1,22 @@
-"""Realms of MIT Kerberos and of Heimdal that a follower writes into: what is asked of either.
+"""Realms of MIT Kerberos and of Heimdal in whose database an agent writes: what is asked of either.
 
 A realm has `folder`, `passwords`, `keytab()`, `kvno(name)`; and
 
 - `kinit(name, password)`: whether it gives a ticket;
 - `kpasswd(name, old, new, ahead)`: what the project's client says of a change, `DONE` where it is made;
 - `keys(names)`: all keys that the database has of them, as (name, kvno, etype, key);
-- `add(name, password)`, `set_password(name, password)`: done at the KDC, past the service;
+- `add(name, password)`, `set_password(name, password)`, `remove(name)`, `rename(old, new)`: done at the KDC, past the
+  service;
+- `expire(name)`: the principal's own end was yesterday; `revive(name)`: it has none;
 - `ask_for_change(name)`: has the KDC say that the password has expired, and has to be changed;
 - `days_left(name)`: until it ends, which is in `LIFE` days after a change;
 - `locked()`: the project's own kadmin holds the database for as long as that lasts;
-- `follower(options)`: a command that follows into it, and its environment;
+- `start_kdc()`: its KDC, where it has ended (`kdc_away`);
 - `agent(program)`: the agent, or another one of it, and its environment.
 """
 
 import calendar
 import contextlib
-import os
 import pathlib
 import re
 import subprocess
@@ -27,9 +28,8 @@ sys.path.insert(0, str(HERE.parent / "interop"))
 
 import agent_process
 import configuration
-from building import built
 from heimdal_realm import HeimdalRealm, escaped
-from realm import REALM, SERVICE, Realm
+from realm import SERVICE, Realm
 
 FIRST = "Old-pass1"
 DONE = "password changed"
@@ -62,6 +62,18 @@ def holding(command, environment, log):
         process.wait(timeout=30)
 
 
+@contextlib.contextmanager
+def kdc_away(realm):
+    """The KDC has ended, and another one is started afterwards."""
+    process = realm.processes.pop(0)
+    process.terminate()
+    process.wait()
+    try:
+        yield
+    finally:
+        realm.start_kdc()
+
+
 def of_keytab(data):
     return {
         ("/".join(part.decode() for part in it.components), it.kvno, it.etype, it.key.hex())
@@ -78,11 +90,13 @@ class Mit(Realm):
 
     def __enter__(self):
         super().__enter__()
-        self.program = built(self.mit, self.folder / "built", "mit")
         for name, password in STRANGERS.items():
             self.kadmin("addprinc", "-e", ETYPES, "-pw", password, name)
         self.kadmin("addpol", "-maxlife", f"{self.LIFE} days", "usual")
         return self
+
+    def start_kdc(self):
+        self.start("krb5kdc", ["-n"], self.kdc_port)
 
     def point_clients_at(self, port):
         self.write_client_configuration(port)
@@ -100,6 +114,18 @@ class Mit(Realm):
 
     def set_password(self, name, password):
         self.kadmin("cpw", "-pw", password, name)
+
+    def remove(self, name):
+        self.kadmin("delprinc", name)
+
+    def rename(self, old, new):
+        self.kadmin("renprinc", old, new)
+
+    def expire(self, name):
+        self.kadmin("modprinc", "-expire", "yesterday", name)
+
+    def revive(self, name):
+        self.kadmin("modprinc", "-expire", "never", name)
 
     def ask_for_change(self, name):
         self.kadmin("modprinc", "-policy", "usual", "+needchange", "-pwexpire", "yesterday", name)
@@ -119,9 +145,6 @@ class Mit(Realm):
         command = [self.mit.program("kadmin.local")]
         return holding(command, self.environment(self.mit), self.folder / "lock.out")
 
-    def follower(self, options):
-        return [self.program, "--realm", REALM, *options], self.environment(self.mit)
-
     def agent(self, program=None):
         return program or agent_process.program_of(self, "mit"), self.environment(self.mit)
 
@@ -135,7 +158,6 @@ class Heimdal(HeimdalRealm):
 
     def __enter__(self):
         super().__enter__()
-        self.program = built(self.heimdal, self.folder / "built", "heimdal")
         for name, password in STRANGERS.items():
             self.kadmin("add", "--use-defaults", f"--password={password}", name)
         # of five minutes otherwise, which are over where a client's clock is five minutes ahead
@@ -163,6 +185,18 @@ class Heimdal(HeimdalRealm):
     def set_password(self, name, password):
         self.kadmin("passwd", f"--password={password}", escaped(name))
 
+    def remove(self, name):
+        self.kadmin("delete", escaped(name))
+
+    def rename(self, old, new):
+        self.kadmin("rename", escaped(old), escaped(new))
+
+    def expire(self, name):
+        self.kadmin("modify", "--expiration-time=2026-01-01", escaped(name))
+
+    def revive(self, name):
+        self.kadmin("modify", "--expiration-time=never", escaped(name))
+
     def ask_for_change(self, name):
         words = ["--attributes=requires-pw-change", "--pw-expiration-time=2026-01-01"]
         self.kadmin("modify", *words, escaped(name))
@@ -180,9 +214,6 @@ class Heimdal(HeimdalRealm):
     def locked(self):
         command = [self.heimdal.program("kadmin.heimdal"), "-l"]
         return holding(command, self.environment(), self.folder / "lock.out")
-
-    def follower(self, options):
-        return [self.program, "--realm", REALM, *options], self.environment()
 
     def agent(self, program=None):
         return program or agent_process.program_of(self, "heimdal"), self.environment()

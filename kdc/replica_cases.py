@@ -1,4 +1,4 @@
-"""A replica of the KDC's database: it gets what the follower writes at the primary."""
+"""A replica of the KDC's database: it gets what the agent writes at the primary."""
 
 import contextlib
 import re
@@ -6,6 +6,7 @@ import socket
 import subprocess
 
 import realms
+from agent_process import hexed
 from cases import Cases
 from daemons import comes, daemon
 from ports import free_ports
@@ -20,23 +21,24 @@ class ReplicaCases(Cases):
 
     def run(self):
         self.user = self.name()
-        with self.own(self.user) as self.files:
-            self.folder = self.files.folder / "replica"
-            self.folder.mkdir()
-            self.primary = (Mit if self.realm.KIND == "MIT" else Heimdal)(self)
-            if not self.primary.is_possible():
-                print("this machine's own name has no address: no replica is tried", flush=True)
-                return
-            self.primary.configure()
-            with self.primary.sending(), self.following(self.files, **self.primary.more) as self.follower:
-                self.tries()
+        self.kvno = 1
+        self.folder = self.realm.folder / "replica"
+        self.folder.mkdir()
+        self.primary = (Mit if self.realm.KIND == "MIT" else Heimdal)(self)
+        if not self.primary.is_possible():
+            print("this machine's own name has no address: no replica is tried", flush=True)
+            return
+        self.primary.configure()
+        with self.primary.sending(), self.talking(**self.primary.more) as self.agent:
+            self.tries()
 
     def is_there(self):
         return self.primary.replica_kvno(self.user) == self.realm.kvno(self.user)
 
     def write(self, password):
-        self.files.append(self.files.change(self.user, password))
-        return self.follower.ask()
+        """Whether the primary has it."""
+        self.kvno += 1
+        return self.agent.put(self.user, self.kvno, password) == f"put {hexed(self.user)} {self.kvno}"
 
     def tickets(self, password):
         """Whether kinit gives one: at the replica alone, and where the primary is named too."""
@@ -61,9 +63,9 @@ class ReplicaCases(Cases):
             with self.primary.receiving("second"):
                 self.tell("  it comes again: the change is there", comes(self.is_there))
         self.tell("  without a whole database", self.primary.whole(), whole)
-        found, wanted = self.primary.keys(self.user), self.files.keys([self.user])
+        found, wanted = self.primary.keys(self.user), self.realm.keys([self.user])
         missing, other = len(wanted - found), len(found - wanted)
-        self.tell("replica: the table's keys, missing and others", (missing, other), (0, 0))
+        self.tell("replica: the primary's keys, missing and others", (missing, other), (0, 0))
 
     def changes_arrive(self):
         for number in range(3):

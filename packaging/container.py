@@ -27,7 +27,7 @@ WantedBy=multi-user.target
 SCRIPT = r"""
 export LC_ALL=C.UTF-8 HOME=/root DEBIAN_FRONTEND=noninteractive
 cd /root
-S=boddrelyn F=boddrelyn-follow-mit J=/var/lib/boddrelyn/journal
+S=boddrelyn F=boddrelyn-agent-mit J=/var/lib/boddrelyn/journal
 check() {
     what=$1
     shift
@@ -40,8 +40,9 @@ logs_in() { printf '%s\n' "$2" | kinit "$1"; }
 pid() { systemctl show -p MainPID --value "$1"; }
 new_pid() { [ "$(pid "$1")" != "$2" ] && [ "$(pid "$1")" != 0 ]; }
 wait_for() { for _ in $(seq 100); do "$@" > /dev/null 2>&1 && return 0; sleep 0.2; done; "$@"; }
-files() { find /etc/boddrelyn /var/lib/boddrelyn /var/log/boddrelyn /run/boddrelyn /run/boddrelyn-follow -printf '%M %u:%g %p\n' | sort > /opt/try/found; diff /opt/try/files /opt/try/found; }
+files() { find /etc/boddrelyn /var/lib/boddrelyn /var/log/boddrelyn /run/boddrelyn /run/boddrelyn-agent -printf '%M %u:%g %p\n' | sort > /opt/try/found; diff /opt/try/files /opt/try/found; }
 none() { ! "$@"; }
+status() { chpw_server control --socket /run/boddrelyn/control status | grep -x "$1"; }
 
 check "install" dpkg -i /opt/try/0/*.deb
 check "the units are without a fault" sh -c "systemd-analyze verify --man=no $S.service $F.service 2>&1 | tee /dev/stderr | grep -c boddrelyn | grep -qx 0"
@@ -52,7 +53,7 @@ for it in $S $F; do
     check "$it isn't failed" is $it ActiveState inactive
 done
 sh -eu /opt/try/first > /opt/try/said 2>&1
-check "README.Debian: import and check" grep "ok: principals 2" /opt/try/said
+check "README.Debian: import and check" grep "ok: principals 0" /opt/try/said
 check "port 464 is taken: it says so" says $S "port 464: in use"
 check "port 464 is taken: it is given up" wait_for is $S Result exit-code
 systemctl stop $S; rm -f $J
@@ -63,18 +64,20 @@ check "start" systemctl start $F $S
 check "it listens" says $S "listening on 127.0.0.1:464"
 check "no process of the service's user may trace it" sh -c '[ "$(stat -c %u /proc/'"$(pid $S)"'/mem)" = 0 ]'
 for it in $S $F; do check "$it: its system calls are filtered" grep -q "Seccomp:.2" "/proc/$(pid $it)/status"; done
-check "the follower runs" says $F "principals 2, set 0, failed 0"
+check "the agent runs" says $F "listening"
+check "the service has found it" wait_for status "kdc connected"
+check "the KDC's users are the service's" wait_for sh -c "chpw_server table --config /etc/boddrelyn/realm.toml --journal $J | grep '^alice kvno 1 '"
 check "the files are those of the start by hand" files
 check "kpasswd" changed alice Old-pass1 New-pass1
 check "kinit, at once" logs_in alice New-pass1
-check "the follower copied it" says $F "alice@EXAMPLE.COM: set, kvno 2"
+check "the KDC has it" status "kdc-behind 0"
 check "reload" systemctl reload $S
 check "logrotate" logrotate --force /etc/logrotate.d/boddrelyn
 check "the log was opened again" grep log-reopened /var/log/boddrelyn/log
 cp $J /opt/try/journal; A=$(pid $S) B=$(pid $F)
 check "upgrade" dpkg -i /opt/try/1/*.deb
 check "upgrade: the service is restarted" new_pid $S $A
-check "upgrade: the follower is restarted" new_pid $F $B
+check "upgrade: the agent is restarted" new_pid $F $B
 check "upgrade: the journal stays" cmp $J /opt/try/journal
 check "upgrade: it answers" wait_for chpw_server control --socket /run/boddrelyn/control status
 A=$(pid $S); kill -9 $A
@@ -86,13 +89,13 @@ check "an end with status 0: it is started again" wait_for new_pid $S $A
 check "an end with status 0: it answers" wait_for chpw_server control --socket /run/boddrelyn/control status
 check "stop" systemctl stop $S $F
 check "stop: with status 0" is $S ExecMainStatus 0
-check "stop: the follower with status 0" is $F ExecMainStatus 0
+check "stop: the agent with status 0" is $F ExecMainStatus 0
 check "stop: not failed" is $S Result success
 check "start again" systemctl start $F $S
 check "it runs" wait_for chpw_server control --socket /run/boddrelyn/control status
 check "remove" dpkg -r $F $S
 check "remove: it is stopped" none pidof chpw_server
-check "remove: the follower is stopped" none pidof follow_mit
+check "remove: the agent is stopped" none pidof kdc_mit
 check "purge" dpkg -P $F $S
 cp /opt/try/last /opt/try/said
 check "purge: it names what goes" grep "removed: $J" /opt/try/said

@@ -5,14 +5,14 @@ import time
 
 KIND, NAME = "heimdal", "Heimdal"
 REALM = "EXAMPLE.COM"
-FOLLOWER = "boddrelyn-follow-heimdal"
+AGENT = "boddrelyn-agent-heimdal"
 USERS = {"alice": "Old-pass1", "bob": "Old-pass2"}
 CHANGED = "Success : password changed"
 # what the service says while kpasswdd has the port, over UDP alone
 SAYS = ("cannot listen",)
 # of the service, since Heimdal's clients show a reason over UDP alone
-OPTIONS = "--udp --follower-wait 1500"
-EXPORT = "kadmin -l ext_keytab --keytab=users.keytab kadmin/changepw alice bob"
+OPTIONS = "--udp --kdc-wait 1500"
+EXPORT = "kadmin -l ext_keytab --keytab=service.keytab kadmin/changepw"
 SERVERS = "/usr/lib/heimdal-servers"
 CLIENT = """\
 [libdefaults]

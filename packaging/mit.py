@@ -7,7 +7,7 @@ from root import Failed
 
 KIND, NAME = "mit", "MIT"
 REALM = "EXAMPLE.COM"
-FOLLOWER = "boddrelyn-follow-mit"
+AGENT = "boddrelyn-agent-mit"
 USERS = {"alice": "Old-pass1", "bob": "Old-pass2"}
 CHANGED = "Password changed."
 # what the service says while the KDC's own server has the port

@@ -13,7 +13,7 @@ import version
 
 HERE = pathlib.Path(__file__).resolve().parent
 TOP = HERE.parent
-NAMES = ("boddrelyn", "boddrelyn-follow-mit", "boddrelyn-follow-heimdal")
+NAMES = ("boddrelyn", "boddrelyn-agent-mit", "boddrelyn-agent-heimdal")
 MAINTAINER = "Boddrelyn maintainers <maintainers@users.noreply.boddrelyn.example>"
 UNITS = "usr/lib/systemd/system"
 # files of the package boddrelyn, from the top of the repository
@@ -30,7 +30,7 @@ DOCUMENTS = ("ADMIN.md", "PROTOCOL.md", "SECURITY.md")
 class Package:
     def __init__(self, name, number, folder):
         self.name, self.version, self.folder = name, number, folder
-        self.kind = name.removeprefix("boddrelyn-follow-") if name != "boddrelyn" else None
+        self.kind = name.removeprefix("boddrelyn-agent-") if name != "boddrelyn" else None
         self.arch = subprocess.run(["dpkg", "--print-architecture"], capture_output=True, text=True, check=True).stdout.strip()
         self.words = {"VERSION": number, "ARCH": self.arch, "MAINTAINER": MAINTAINER, "PACKAGE": name,
                       "DATE": email.utils.formatdate(version.moment(), usegmt=False).replace("-0000", "+0000")}
@@ -55,14 +55,13 @@ class Package:
 
     def fill(self, program):
         """All files but those of DEBIAN/ that speak of the others."""
-        self.program = self.folder / "usr/sbin" / (f"follow_{self.kind}" if self.kind else "chpw_server")
+        self.program = self.folder / "usr/sbin" / (f"kdc_{self.kind}" if self.kind else "chpw_server")
         # nobody may trace a program that may be run and not read, and it leaves no core (prctl(2), PR_SET_DUMPABLE)
         self.put(self.program.relative_to(self.folder), program.read_bytes(), 0o755 if self.kind else 0o711)
         self.put(f"etc/default/{self.name}", (HERE / "debian" / f"{self.name}.default").read_bytes())
         self.put(f"{UNITS}/{self.name}.service", (HERE / "units" / f"{self.name}.service").read_bytes())
         if self.kind:
-            drop_in = f"follow-{self.kind}.conf"
-            self.put(f"{UNITS}/boddrelyn.service.d/{drop_in}", (HERE / "units" / drop_in).read_bytes())
+            self.put(f"{UNITS}/boddrelyn.service.d/agent.conf", (HERE / "units/agent.conf").read_bytes())
         else:
             for source, place in FILES.items():
                 self.put(place, (TOP / source).read_bytes())
@@ -86,7 +85,7 @@ class Package:
             self.put(f"usr/share/lintian/overrides/{self.name}", overrides.encode())
 
     def fill_scripts(self):
-        first = "follow" if self.kind else "boddrelyn"
+        first = "agent" if self.kind else "boddrelyn"
         for name, parts in (("postinst", (f"{first}.postinst", "unit.postinst")), ("prerm", ("unit.prerm",)),
                             ("postrm", ("unit.postrm", f"{self.name}.postrm"))):
             self.put(f"DEBIAN/{name}", self.text(*parts).encode(), 0o755)
@@ -131,7 +130,7 @@ def depends(kind, program, libraries, scratch):
 
 
 def of_same_upstream(dependency, libraries):
-    """The follower calls what Heimdal declares in private headers: its libraries have to be of the upstream version that it was
+    """The agent calls what Heimdal declares in private headers: its libraries have to be of the upstream version that it was
     compiled with, whatever Debian's revision."""
     name = dependency.split()[0]
     for folder in libraries:

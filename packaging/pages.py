@@ -1,4 +1,4 @@
-"""The manual pages: chpw_server(8), boddrelyn.toml(5), and follow_mit(8) and follow_heimdal(8), which have one source.
+"""The manual pages: chpw_server(8), boddrelyn.toml(5), and kdc_mit(8) and kdc_heimdal(8), which have one source.
 
     python3 pages.py FOLDER
 
@@ -13,28 +13,28 @@ import time
 import version
 
 HERE = pathlib.Path(__file__).resolve().parent
-FOLLOWERS = {
-    "mit": {"KIND": "mit", "NAME": "follow_mit", "TITLE": "FOLLOW_MIT", "PROJECT": "MIT", "ARTICLE": "an"},
-    "heimdal": {"KIND": "heimdal", "NAME": "follow_heimdal", "TITLE": "FOLLOW_HEIMDAL", "PROJECT": "Heimdal",
+AGENTS = {
+    "mit": {"KIND": "mit", "NAME": "kdc_mit", "TITLE": "KDC_MIT", "PROJECT": "MIT", "ARTICLE": "an"},
+    "heimdal": {"KIND": "heimdal", "NAME": "kdc_heimdal", "TITLE": "KDC_HEIMDAL", "PROJECT": "Heimdal",
                 "ARTICLE": "a"},
 }
 # each page with the package that has it
 PACKAGES = {
     "chpw_server.8": "boddrelyn", "boddrelyn.toml.5": "boddrelyn",
-    "follow_mit.8": "boddrelyn-follow-mit", "follow_heimdal.8": "boddrelyn-follow-heimdal",
+    "kdc_mit.8": "boddrelyn-agent-mit", "kdc_heimdal.8": "boddrelyn-agent-heimdal",
 }
 
 
 def source_of(name):
-    """A page's source, and the kind of follower, or None."""
-    found = re.fullmatch(r"follow_(\w+)\.8", name)
-    return ("follow.8.in", found[1]) if found else (name, None)
+    """A page's source, and the kind of agent, or None."""
+    found = re.fullmatch(r"kdc_(\w+)\.8", name)
+    return ("agent.8.in", found[1]) if found else (name, None)
 
 
 def page(name):
     """The text of a page."""
     source, kind = source_of(name)
-    words = FOLLOWERS.get(kind, {})
+    words = AGENTS.get(kind, {})
     words = dict(words, VERSION=version.PROGRAM, DATE=time.strftime("%B %-d, %Y", time.gmtime(version.moment())))
     lines = []
     for line in (HERE / "man" / source).read_text().splitlines():

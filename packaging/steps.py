@@ -8,7 +8,7 @@ import time
 from root import Failed
 
 HERE = pathlib.Path(__file__).resolve().parent
-FOLDERS = ("/etc/boddrelyn", "/var/lib/boddrelyn", "/var/log/boddrelyn", "/run/boddrelyn", "/run/boddrelyn-follow")
+FOLDERS = ("/etc/boddrelyn", "/var/lib/boddrelyn", "/var/log/boddrelyn", "/run/boddrelyn", "/run/boddrelyn-agent")
 SERVICE, JOURNAL, LOG = "boddrelyn", "/var/lib/boddrelyn/journal", "/var/log/boddrelyn/log"
 CONFIGURATION = "/etc/boddrelyn/realm.toml"
 # seconds that a client is ahead, so that it isn't refused in the five minutes after a start
@@ -41,7 +41,7 @@ def block(heading, number=0):
 class Steps:
     def __init__(self, root, realm, kind, report):
         self.root, self.realm, self.kind, self.tell = root, realm, kind, report.tell
-        self.follower = kind.FOLLOWER
+        self.agent = kind.AGENT
 
     # ---- what is looked at
 
@@ -60,6 +60,10 @@ class Steps:
     def table(self):
         return self.root.must("chpw_server", "table", "--config", "/etc/boddrelyn/realm.toml", "--journal", JOURNAL)
 
+    def has_users(self):
+        """Whether the table gets those of the KDC."""
+        return waited(lambda: all(f"{name} kvno 1 " in self.table() for name in self.kind.USERS))
+
     def ahead(self):
         return {"LD_PRELOAD": "/opt/try/ahead.so", "KRB5_CONFIG": "/etc/krb5-ahead.conf"}
 
@@ -76,14 +80,14 @@ class Steps:
         self.tell("install: the configuration's directory is root's, and the others are the user's alone", self.files(*FOLDERS[:4]),
                   sorted(["drwxr-x--- root:boddrelyn /etc/boddrelyn", *(f"drwx------ boddrelyn:boddrelyn {it}" for it in FOLDERS[1:4])]))
         self.tell("install: nothing was started", [it for it in self.root.asked if "start" in it], [])
-        for name in (SERVICE, self.follower):
+        for name in (SERVICE, self.agent):
             link = self.root.path(f"/etc/systemd/system/multi-user.target.wants/{name}.service")
             self.tell(f"install: {name} is enabled", link.is_symlink())
             self.tell(f"install: {name} is skipped without a configuration", self.root.unit(name).start(), "skipped")
 
     def first_start(self):
         """The commands of README.Debian, while the KDC's own password server has the port, and when it has given it up."""
-        commands = block("First start").replace("EXAMPLE.COM", self.kind.REALM).replace("boddrelyn-follow-mit", self.follower)
+        commands = block("First start").replace("EXAMPLE.COM", self.kind.REALM).replace("boddrelyn-agent-mit", self.agent)
         if self.kind.EXPORT:
             commands = re.sub(r"kadmin\.local ktadd (?:.*\\\n)*.*", self.kind.EXPORT, commands)
         if self.kind.OPTIONS:
@@ -91,7 +95,7 @@ class Steps:
             file.write_text(file.read_text().replace("\nOPTIONS=\n", f"\nOPTIONS={self.kind.OPTIONS}\n"))
         start = commands.index("systemctl start")
         done = self.root.run("sh", "-eu", "-c", f"cd /root; {commands[:start]}")
-        is_good = done.returncode == 0 and "ok: principals 2," in done.stdout
+        is_good = done.returncode == 0 and "ok: principals 0," in done.stdout
         self.tell("README.Debian: import and check", is_good) or print(done.stdout)
         self.port_is_taken(commands[start:])
         self.realm.give_up_port(self.tell)
@@ -99,10 +103,11 @@ class Steps:
         done = self.root.run("sh", "-c", commands[start:])
         self.tell("start: systemctl", done.returncode, 0)
         self.tell("start: it listens", self.service().says("listening on 127.0.0.1:464"))
-        self.tell("start: the follower compares the table", self.root.unit(self.follower).says("principals 2, set 0, failed 0"))
+        self.tell("start: the agent listens", self.root.unit(self.agent).says("listening"))
+        self.tell("start: the KDC's users are the service's", self.has_users())
         self.by_unit = self.files()
         self.tell("start: a start by hand leaves the same files", self.by_hand, self.by_unit)
-        wanted = {JOURNAL, LOG, "/run/boddrelyn/control", "/run/boddrelyn-follow/socket"}
+        wanted = {JOURNAL, LOG, "/run/boddrelyn/control", "/run/boddrelyn-agent/socket"}
         private = {line.split()[2] for line in self.files() if re.match(r"[-s]rw------- boddrelyn:", line)}
         self.tell("start: journal, log and sockets are the user's alone", private, wanted)
         self.tell("start: the configuration is root's, and the service may read it", self.files(CONFIGURATION),
@@ -123,13 +128,13 @@ class Steps:
         self.realm.is_second(self.tell)
 
     def start_by_hand(self):
-        """The last command of README.Debian; the follower's unit runs, and the service is told of its socket."""
-        self.root.unit(self.follower).stop()
-        self.root.unit(self.follower).start()
-        self.root.unit(self.follower).says("principals 2")
-        command = block("A service that ran before", 1).strip() + f" --follower /run/boddrelyn-follow/socket {self.kind.OPTIONS}"
+        """The last command of README.Debian; the agent's unit runs, and the service is told of its socket."""
+        self.root.unit(self.agent).stop()
+        self.root.unit(self.agent).start()
+        self.root.unit(self.agent).says("listening")
+        command = block("A service that ran before", 1).strip() + f" --kdc /run/boddrelyn-agent/socket {self.kind.OPTIONS}"
         process = self.root.start("sh", "-c", f"umask 022; exec {command}")
-        self.tell("by hand: it runs", waited(lambda: self.status().get("journal") == "good"))
+        self.tell("by hand: it runs", waited(lambda: self.status().get("kdc") == "connected"))
         self.by_hand = self.files()
         self.tell("by hand: no process of its user may trace it", untraced(process.pid))
         stopped = self.root.run("chpw_server", "control", "--socket", "/run/boddrelyn/control", "stop")
@@ -149,9 +154,9 @@ class Steps:
         found = [re.search(rf"{it}\s+(\w+)", limits)[1] for it in ("Max open files", "Max core file size", "Max file size")]
         self.tell("limits: open files, core, file size", found, [str(self.service().limit("LimitNOFILE")), "1", "unlimited"])
         self.tell("limits: no process of its user may trace it", untraced(pid))
-        pid = self.root.unit(self.follower).process.pid
+        pid = self.root.unit(self.agent).process.pid
         status = open(f"/proc/{pid}/status", encoding="ascii").read()
-        self.tell("limits: the follower's capabilities", re.search(r"CapEff:\s+(\w+)", status)[1].lstrip("0"), "5")
+        self.tell("limits: the agent's capabilities", re.search(r"CapEff:\s+(\w+)", status)[1].lstrip("0"), "1")
 
     def changes(self):
         say = self.realm.kpasswd("alice", "Old-pass1", "short")
@@ -161,9 +166,9 @@ class Steps:
         self.tell("kinit: with the new password, at once", self.realm.kinit("alice", "New-pass1"))
         self.tell("kinit: not with the old one", self.realm.kinit("alice", "Old-pass1"), False)
         self.tell("the KDC has the new version", self.realm.kvno("alice"), 2)
-        self.tell("the follower says so", "alice@EXAMPLE.COM: set, kvno 2" in self.output(self.follower))
         status = self.status()
-        self.tell("control status", [status.get(it) for it in ("journal", "follower", "changes")], ["good", "confirmed", "1"])
+        self.tell("control status", [status.get(it) for it in ("journal", "kdc", "kdc-behind", "changes")],
+                  ["good", "connected", "0", "1"])
         self.tell("reload", self.root.run("systemctl", "reload", SERVICE).returncode, 0)
         rotated = self.root.run("logrotate", "--force", "/etc/logrotate.d/boddrelyn")
         self.tell("logrotate", rotated.returncode, 0) or print(rotated.stdout)
@@ -182,6 +187,7 @@ class Steps:
         self.tell("upgrade: the configuration becomes root's", f"boddrelyn: {CONFIGURATION} belongs to root now" in done.stdout)
         self.tell("upgrade: both are restarted, and run", [new not in pids and new for new in self.pids()], self.pids())
         self.tell("upgrade: it listens again", self.service().says("listening on 127.0.0.1:464"))
+        self.tell("upgrade: the agent is found", waited(lambda: self.status().get("kdc") == "connected"))
         self.tell("upgrade: no file changes mode or owner", self.files(), before)
         self.tell("upgrade: the journal stays", self.root.path(JOURNAL).read_bytes(), journal)
         self.tell("upgrade: changed settings stay", self.status().get("workers"), "2")
@@ -197,7 +203,7 @@ class Steps:
 
     def left_by_the_former_owner(self):
         """What the service's user could put there while the directory was its own is named, not followed, and not given away."""
-        for name in (SERVICE, self.follower):
+        for name in (SERVICE, self.agent):
             self.root.must("systemctl", "stop", name)
         self.root.must("sh", "-c", "mkdir /root/own && umask 077 && echo mine > /root/own/file && cp -p /root/own/file /root/own/other")
         kept = f"cp {CONFIGURATION} /root/own/realm.toml"
@@ -229,11 +235,11 @@ class Steps:
         self.tell("the KDC has the new version", self.realm.kvno("alice"), kvno)
 
     def pids(self):
-        return [it.process.pid for it in (self.root.unit(SERVICE), self.root.unit(self.follower)) if it.is_active()]
+        return [it.process.pid for it in (self.root.unit(SERVICE), self.root.unit(self.agent)) if it.is_active()]
 
     def taken_along(self):
         """A service that ran by hand elsewhere, as root, and changed a password: its files by README.Debian."""
-        for name in (SERVICE, self.follower):
+        for name in (SERVICE, self.agent):
             self.root.must("systemctl", "stop", name)
         (self.root.path("/root/former")).mkdir()
         self.root.must("sh", "-c", "cp /etc/boddrelyn/realm.toml /var/lib/boddrelyn/journal /root/former; "
@@ -252,18 +258,18 @@ class Steps:
         process.wait(60)
         done = self.root.run("sh", "-eu", "-c", f"cd /root/former; {block('A service that ran before')}")
         self.tell("taken along: README.Debian", done.returncode, 0)
-        self.root.must("systemctl", "start", self.follower, SERVICE)
+        self.root.must("systemctl", "start", self.agent, SERVICE)
         self.tell("taken along: it listens", self.service().says("listening on 127.0.0.1:464"))
         self.tell("taken along: the table has the change", "bob kvno 2" in self.table())
-        self.tell("taken along: the follower copies it", waited(lambda: self.realm.kvno("bob") == 2))
+        self.tell("taken along: the agent writes it", waited(lambda: self.realm.kvno("bob") == 2))
         self.tell("taken along: kinit", self.realm.kinit("bob", "Newest-pass2"))
 
     def remove(self):
         self.root.asked.clear()
         before = self.files(*FOLDERS[:3])
-        done = self.root.run("dpkg", "-r", self.follower, SERVICE)
+        done = self.root.run("dpkg", "-r", self.agent, SERVICE)
         self.tell("remove: dpkg", done.returncode, 0) or print(done.stdout)
-        stopped = [f"stop {it}.service" in self.root.asked for it in (self.follower, SERVICE)]
+        stopped = [f"stop {it}.service" in self.root.asked for it in (self.agent, SERVICE)]
         self.tell("remove: both are stopped", stopped, [True, True])
         self.tell("remove: none runs", self.pids(), [])
         self.tell("remove: the files stay", self.files(*FOLDERS[:3]), before)
@@ -271,7 +277,7 @@ class Steps:
 
     def purge(self):
         self.root.path("/var/lib/boddrelyn/saved.toml").write_text("")
-        done = self.root.run("dpkg", "-P", self.follower, SERVICE)
+        done = self.root.run("dpkg", "-P", self.agent, SERVICE)
         self.tell("purge: dpkg", done.returncode, 0) or print(done.stdout)
         named = re.findall(r"boddrelyn: removed: (\S+)", done.stdout)
         wanted = ["/etc/boddrelyn/realm.toml", JOURNAL, "/var/lib/boddrelyn/saved.toml", LOG]

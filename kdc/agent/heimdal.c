@@ -1,96 +1,42 @@
-/*
- * The database of a Heimdal KDC, opened as `kadmin -l` does it: with no password, by who may read and
- * write it. KRB5_CONFIG names the KDC's configuration.
- */
-#include <errno.h>
+/* The database of a Heimdal KDC, opened as `kadmin -l` does it. KRB5_CONFIG names the KDC's configuration. */
+#include "agent.h"
 #include <fcntl.h>
-#include <limits.h>
-#include <stdio.h>
-#include <string.h>
 #include <sys/file.h>
-#include <sys/syscall.h>
+#include <sys/socket.h>
+#include <sys/un.h>
 #include <time.h>
-#include <unistd.h>
+/* each of these needs the ones before it */
+#include <krb5.h>
+#include <hdb.h>
+#include <kadm5/admin.h>
+#include <kadm5/private.h>
 
-#include "files.h"
-#include "heimdal.h"
+const uint32_t highest_kvno = 0x7fffffff; /* kadmin prints and reads a signed number */
+static krb5_context context;
+static kadm5_server_context *server;
+static hdb_entry *entry; /* the one that was taken up */
 
-const char database_program[] = "kdc_heimdal";
-/* kadmin prints and reads a version as a signed number */
-const uint32_t database_highest_kvno = 0x7fffffff;
-
-krb5_context context;
-kadm5_server_context *server;
-const char *realm;
-hdb_entry_ex fetched;
-hdb_entry *entry;
-static int is_locked;
-
-/* ---- waiting */
-
-/*
- * In place of the C library's, for the calls of libhdb and libkadm5srv, which wait for a lock however long
- * somebody keeps it, as `kadmin -l` does from `lock` to `unlock`. The socket is to be served meanwhile, so a
- * lock that isn't had within a tenth of a second is refused.
- */
-int flock(int file, int operation)
-{
-    const struct timespec nap = {0, 5000000};
-    int tries;
-
-    for (tries = 0; syscall(SYS_flock, file, operation | LOCK_NB) < 0; tries++) {
-        if (errno != EWOULDBLOCK || (operation & LOCK_NB) != 0 || tries == 20)
-            return -1;
-        nanosleep(&nap, NULL);
+/* In place of the C library's, by which libhdb and libkadm5srv wait for a lock however long somebody keeps it,
+   as `kadmin -l` does from `lock` to `unlock`. One that isn't had within a tenth of a second is refused. */
+int flock(int file, int operation) {
+    long found = syscall(SYS_flock, file, operation | LOCK_NB);
+    for (int tries = 0; found < 0 && errno == EAGAIN && (operation & LOCK_NB) == 0 && tries < 50; tries++) {
+        usleep(2000);
+        found = syscall(SYS_flock, file, operation | LOCK_NB);
     }
-    return 0;
+    return (int)found;
 }
 
-/* ---- opening and closing */
-
 /* the database's file, by the ending that its kind has, and the log */
-static void watch_files(void)
-{
+static void watch_files(void) {
     static const char *const endings[] = {".db", ".mdb", ""};
-    char data[PATH_MAX];
-    size_t i;
-
-    for (i = 0; i < sizeof endings / sizeof *endings; i++) {
+    char data[PATH_MAX] = "";
+    for (int i = 0; i < 3 && access(data, F_OK) < 0; i++)
         snprintf(data, sizeof data, "%s%s", server->db->hdb_name, endings[i]);
-        if (access(data, F_OK) == 0)
-            break;
-    }
     files_watch(data, server->log_context.log_file);
 }
 
-long database_open(const struct options *options)
-{
-    kadm5_config_params params;
-    void *handle = NULL;
-    krb5_error_code error = krb5_init_context(&context);
-
-    if (error != 0)
-        return error;
-    realm = options->realm;
-    memset(&params, 0, sizeof params);
-    params.mask = KADM5_CONFIG_REALM;
-    params.realm = (char *)options->realm;
-    if (options->database != NULL) {
-        params.mask |= KADM5_CONFIG_DBNAME;
-        params.dbname = (char *)options->database;
-    }
-    error = krb5_set_default_realm(context, realm);
-    if (error == 0)
-        error = kadm5_s_init_with_password_ctx(context, KADM5_ADMIN_SERVICE, NULL,
-                                               KADM5_ADMIN_SERVICE, &params, 0, 0, &handle);
-    server = handle;
-    if (error == 0)
-        watch_files();
-    return error;
-}
-
-void database_close(void)
-{
+void database_close(void) {
     if (server != NULL)
         kadm5_destroy(server);
     if (context != NULL)
@@ -99,51 +45,144 @@ void database_close(void)
     context = NULL;
 }
 
-/* ---- beginning and ending */
-
-long database_begin(int is_writing)
-{
-    HDB *db = server->db;
-    krb5_error_code error = db->hdb_open(context, db, is_writing ? O_RDWR : O_RDONLY, 0);
-
-    if (error != 0 || !is_writing)
-        return error;
-    /* the lock that each writer has to have */
-    error = kadm5_log_init(server);
-    is_locked = error == 0;
-    if (error != 0)
-        db->hdb_close(context, db);
+long database_open(void) {
+    if (server != NULL && !files_are_others)
+        return 0;
+    database_close();
+    kadm5_config_params params = {.mask = KADM5_CONFIG_REALM, .realm = (char *)realm};
+    void *handle = NULL;
+    long error = krb5_init_context(&context)
+        ?: krb5_set_default_realm(context, realm)
+        ?: kadm5_s_init_with_password_ctx(context, KADM5_ADMIN_SERVICE, NULL, KADM5_ADMIN_SERVICE, &params, 0,
+                                          0, &handle);
+    server = handle;
+    if (error == 0)
+        watch_files();
     return error;
 }
 
-void database_end(void)
-{
-    if (entry == &fetched.entry)
-        /* it wipes the keys */
-        hdb_free_entry(context, &fetched);
-    entry = NULL;
-    if (is_locked)
+char *database_message(long error) {
+    static char text[LONGEST_TEXT];
+    int is_locked = error == HDB_ERR_DB_INUSE || error == HDB_ERR_CANT_LOCK_DB || error == EAGAIN;
+    const char *message = krb5_get_error_message(context, (krb5_error_code)error);
+    snprintf(text, sizeof text, "%s", is_locked ? "locked" : message);
+    krb5_free_error_message(context, message);
+    return text;
+}
+
+static krb5_error_code take_found(krb5_context same, HDB *db, hdb_entry_ex *found, void *unused) {
+    const krb5_principal_data *principal = found->entry.principal;
+    char name[LONGEST_NAME + 1] = "";
+    for (unsigned i = 0; i < principal->name.name_string.len; i++) {
+        const char *part = principal->name.name_string.val[i];
+        if (!name_add(name, part, strlen(part)))
+            return 0;
+    }
+    if (name[0] == '\0' || strcmp(principal->realm, realm) != 0)
+        return 0;
+    entry = &found->entry;
+    return (krb5_error_code)take_entry(name);
+}
+
+static long take_named(const char *name) {
+    char bytes[LONGEST_NAME], *end = bytes, *parts[MOST_COMPONENTS];
+    krb5_principal_data principal = {.name = {KRB5_NT_PRINCIPAL, {0, parts}}, .realm = (char *)realm};
+    for (size_t size; (size = name_next(&name, end)) > 0; end += size + 1) {
+        /* a component is a text here, which a byte 0 would end: another name */
+        if (memchr(end, '\0', size) != NULL)
+            return 0;
+        parts[principal.name.name_string.len++] = end;
+    }
+    hdb_entry_ex found = {0};
+    long error = server->db->hdb_fetch_kvno(context, server->db, &principal, HDB_F_GET_ANY | HDB_F_ADMIN_DATA,
+                                            0, &found);
+    if (error != 0)
+        return error == HDB_ERR_NOENTRY ? 0 : error;
+    /* what can't be read is no error of libhdb's */
+    error = found.entry.principal == NULL ? HDB_ERR_BADVERSION : take_found(context, server->db, &found, NULL);
+    /* it wipes the keys */
+    hdb_free_entry(context, &found);
+    return error;
+}
+
+long database_take(const char *name, int is_to_be_written) {
+    HDB *db = server->db;
+    long error = db->hdb_open(context, db, is_to_be_written ? O_RDWR : O_RDONLY, 0);
+    if (error != 0)
+        return error;
+    /* each writer locks the log */
+    error = is_to_be_written ? kadm5_log_init(server) : 0;
+    if (error == 0)
+        error = name != NULL ? take_named(name) : hdb_foreach(context, db, HDB_F_ADMIN_DATA, take_found, NULL);
+    if (is_to_be_written)
         kadm5_log_end(server);
-    is_locked = 0;
-    server->db->hdb_close(context, server->db);
+    db->hdb_close(context, db);
+    return error;
 }
 
-/* ---- errors */
-
-int database_is_locked(long error)
-{
-    return error == HDB_ERR_DB_INUSE || error == HDB_ERR_CANT_LOCK_DB || error == EAGAIN;
+long database_held(int with_keys, struct held *held) {
+    *held = (struct held){.kvno = entry->kvno, .is_locked_down = entry->flags.immutable};
+    if (!with_keys || held->is_locked_down)
+        return 0;
+    krb5_salt normal;
+    long error = hdb_unseal_keys(context, server->db, entry)
+        ?: krb5_get_pw_salt(context, entry->principal, &normal);
+    if (error != 0)
+        return error;
+    for (unsigned i = 0; i < entry->keys.len; i++) {
+        const Key *key = &entry->keys.val[i];
+        /* that it is the default one is said or not */
+        if (key->salt == NULL || (key->salt->type == hdb_pw_salt &&
+                                  krb5_data_cmp(&key->salt->salt, &normal.saltvalue) == 0))
+            hold_key(held, key->key.keytype, key->key.keyvalue.data, key->key.keyvalue.length);
+    }
+    krb5_free_salt(context, normal);
+    return 0;
 }
 
-void database_message(long error, char *text, size_t size)
-{
-    const char *message = context == NULL ? NULL
-                                          : krb5_get_error_message(context, (krb5_error_code)error);
+/* gives the entry these keys and no others, sealed under the master key */
+static long replace_keys(key_pair keys) {
+    krb5_salt normal;
+    long error = krb5_get_pw_salt(context, entry->principal, &normal);
+    if (error != 0)
+        return error;
+    for (unsigned i = 0; i < entry->keys.len; i++)
+        explicit_bzero(entry->keys.val[i].key.keyvalue.data, entry->keys.val[i].key.keyvalue.length);
+    free_Keys(&entry->keys);
+    for (int i = 0; error == 0 && i < 2; i++) {
+        Salt salt = {.type = hdb_pw_salt, .salt = normal.saltvalue};
+        Key key = {.key = {key_types[i], {key_sizes[i], keys[i]}}, .salt = &salt};
+        error = add_Keys(&entry->keys, &key);
+    }
+    krb5_free_salt(context, normal);
+    /* it wipes what it seals */
+    return error ?: hdb_seal_keys(context, server->db, entry);
+}
 
-    if (message == NULL)
-        snprintf(text, size, "error %ld", error);
-    else
-        snprintf(text, size, "%s", message);
-    if (message != NULL)
-        krb5_free_error_message(context, message);
+/* all that kpasswdd does where a password is changed. kadm5_chpass_principal_with_key makes the next version
+   whatever is asked for. So an entry is changed here, and written as kadm5 does it */
+long database_write(key_pair keys, uint32_t kvno) {
+    const Event change = {.time = time(NULL), .principal = server->caller};
+    if (entry->modified_by == NULL)
+        entry->modified_by = calloc(1, sizeof change);
+    free_Event(entry->modified_by);
+    /* the keys of older versions, and what else is kept of former passwords, are gone */
+    long error = replace_keys(keys)
+        ?: hdb_clear_extension(context, entry, choice_HDB_extension_data_hist_keys)
+        ?: hdb_clear_extension(context, entry, choice_HDB_extension_data_lm_owf)
+        ?: hdb_entry_clear_password(context, entry)
+        ?: hdb_entry_set_pw_change_time(context, entry, 0)
+        ?: copy_Event(&change, entry->modified_by);
+    if (error != 0)
+        return error;
+    entry->kvno = kvno;
+    entry->flags.require_pwchange = 0;
+    /* where its end is said at all */
+    if (entry->pw_end != NULL)
+        *entry->pw_end = change.time + krb5_config_get_time_default(context, NULL, 365 * 24 * 60 * 60, "kadmin",
+                                                                    "password_lifetime", NULL);
+    /* with a record in the log of changes, by which replicas are told */
+    return kadm5_log_modify(server, entry,
+                            KADM5_PRINCIPAL | KADM5_ATTRIBUTES | KADM5_MOD_NAME | KADM5_MOD_TIME |
+                                KADM5_KEY_DATA | KADM5_KVNO | KADM5_PW_EXPIRATION | KADM5_TL_DATA);
 }

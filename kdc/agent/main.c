@@ -1,125 +1,187 @@
-/* An agent at a KDC's database: README.md has what it does. */
-#include <errno.h>
-#include <getopt.h>
+/* An agent's command line, its socket, and the connection, of which there is one at a time. */
+#include "agent.h"
 #include <poll.h>
 #include <pwd.h>
 #include <signal.h>
-#include <stdarg.h>
-#include <stdio.h>
-#include <string.h>
 #include <sys/prctl.h>
-#include <sys/resource.h>
-#include <sys/signalfd.h>
-#include <unistd.h>
+#include <sys/socket.h>
+#include <sys/stat.h>
+#include <sys/un.h>
 
-#include "serve.h"
-#include "tell.h"
-#include "work.h"
+#define LOOK_EVERY 200 /* milliseconds, at the database's files */
 
-void tell(const char *format, ...)
-{
+const char *realm;
+static int listener, connection = -1;
+/* what was read of a line */
+static char input[LONGEST_LINE];
+static size_t input_length;
+static volatile sig_atomic_t signals; /* SIGTERM or SIGINT, and the alarm after it */
+
+static void take_signal(int number) {
+    /* so long the answer under way may take to be read */
+    if (signals++ == 0)
+        alarm(1);
+}
+
+void tell(const char *format, ...) {
     struct pollfd file = {STDERR_FILENO, POLLOUT, 0};
-    char line[1024];
+    char line[LONGEST_LINE];
     va_list values;
-    int length;
-
     va_start(values, format);
-    length = vsnprintf(line, sizeof line - 1, format, values);
+    vsnprintf(line, sizeof line - 1, format, values);
     va_end(values);
-    if (length < 0 || poll(&file, 1, 0) <= 0)
-        return;
-    line[strlen(line) + 1] = '\0';
-    line[strlen(line)] = '\n';
-    if (write(STDERR_FILENO, line, strlen(line)) < 0)
+    strcat(line, "\n");
+    if (poll(&file, 1, 0) == 1 && file.revents == POLLOUT && write(STDERR_FILENO, line, strlen(line)) < 0)
         return;
 }
 
-/* keys stand in no core, and nobody but root can look into the program */
-static int hide_memory(void)
-{
-    const struct rlimit none = {0, 0};
-
-    return setrlimit(RLIMIT_CORE, &none) < 0 || prctl(PR_SET_DUMPABLE, 0, 0, 0, 0) < 0 ? -1 : 0;
+/* ends the connection, and tells why if the peer is to blame */
+static void end_connection(const char *why) {
+    if (why != NULL)
+        tell("a connection was closed: %s", why);
+    close(connection);
+    connection = -1;
+    explicit_bzero(input, sizeof input);
+    input_length = 0;
+    output_wipe();
 }
 
-/* takes one option; NULL, or what is wrong with it */
-static const char *take(struct options *options, int letter, const char *value)
-{
-    switch (letter) {
-    case 's':
-        options->socket = value;
-        return NULL;
-    case 'u':
-        options->user = value;
-        return NULL;
-    case 'r':
-        options->realm = value;
-        return value[0] == '\0' || strlen(value) > LONGEST_REALM ? "no realm" : NULL;
-    case 'd':
-        options->database = value;
-        return NULL;
-    case 'a':
-        return also_add(&options->also, value);
-    default:
-        return "no such option";
+/* reads to the end of a line and answers it, unless the end is still to come; byte by byte, so that the next
+   line stays where it is until the answer was taken */
+static void read_line(void) {
+    ssize_t count;
+    while ((count = recv(connection, &input[input_length], 1, MSG_DONTWAIT)) == 1 && input[input_length] != '\n')
+        if (++input_length == sizeof input) {
+            end_connection("a line is too long");
+            return;
+        }
+    if (count < 0 && (errno == EAGAIN || errno == EINTR))
+        return;
+    if (count == 1) {
+        input[input_length] = '\0';
+        /* a byte 0 stands in no request */
+        int is_request = strlen(input) == input_length && answer(input);
+        explicit_bzero(input, sizeof input);
+        input_length = 0;
+        if (!is_request)
+            end_connection("a line is no request");
+    } else {
+        end_connection(input_length > 0 ? "a line has no end" : NULL);
     }
 }
 
-/* reads the command line; -1 where it isn't one, which is told */
-static int read_options(struct options *options, int count, char **words)
-{
-    static const struct option all[] = {{"socket", required_argument, NULL, 's'},
-                                        {"user", required_argument, NULL, 'u'},
-                                        {"realm", required_argument, NULL, 'r'},
-                                        {"also", required_argument, NULL, 'a'},
-                                        {"database", required_argument, NULL, 'd'},
-                                        {NULL, 0, NULL, 0}};
-    const char *fault = NULL;
-    int letter;
+/* sends as far as the peer takes it */
+static void send_output(void) {
+    ssize_t count = send(connection, output.bytes + output.sent, output.length - output.sent, MSG_DONTWAIT);
+    if (count > 0)
+        output.sent += (size_t)count;
+    if (output.sent == output.length)
+        output_wipe();
+    else if (count < 0 && errno != EAGAIN && errno != EINTR)
+        end_connection(NULL);
+}
 
-    opterr = 0;
-    while (fault == NULL && (letter = getopt_long(count, words, "", all, NULL)) != -1) {
-        fault = take(options, letter, optarg);
-        if (fault != NULL && optarg != NULL)
-            tell("%s: %s", optarg, fault);
+static void take_connection(uid_t user) {
+    struct ucred peer;
+    socklen_t size = sizeof peer;
+    int file = accept4(listener, NULL, NULL, SOCK_CLOEXEC);
+    if (file < 0)
+        return;
+    /* one that its peer has ended makes room */
+    if (connection >= 0 && output.length == 0)
+        read_line();
+    int is_users = getsockopt(file, SOL_SOCKET, SO_PEERCRED, &peer, &size) == 0 && peer.uid == user;
+    if (!is_users || connection >= 0) {
+        tell("a connection was closed: %s", is_users ? "there is one already" : "it is another user's");
+        close(file);
+        return;
     }
-    if (fault == NULL && optind == count && options->socket != NULL && options->user != NULL &&
-        options->realm != NULL)
+    connection = file;
+    /* what was written before isn't told */
+    files_look();
+    files_are_changed = 0;
+}
+
+static void serve(uid_t user) {
+    while (signals == 0 || (signals == 1 && output.length > 0)) {
+        short events = output.length > 0 ? POLLOUT : POLLIN;
+        struct pollfd files[] = {{listener, POLLIN, 0}, {connection, events, 0}};
+        if (poll(files, 2, LOOK_EVERY) < 0)
+            continue;
+        files_look();
+        if (connection >= 0 && output.length == 0 && files_are_changed) {
+            files_are_changed = 0;
+            say("changed\n");
+        }
+        if (files[1].revents != 0 && output.length == 0)
+            read_line();
+        if (files[0].revents != 0)
+            take_connection(user);
+        if (connection >= 0)
+            send_output();
+    }
+}
+
+/* makes the socket, which belongs to the user, and listens; whether it can */
+static int listen_at(const char *path, uid_t user) {
+    struct sockaddr_un address = {.sun_family = AF_UNIX};
+    struct stat found;
+    errno = ENAMETOOLONG;
+    if (strlen(path) >= sizeof address.sun_path)
         return 0;
-    tell("usage: %s --socket PATH --user NAME --realm REALM [--also PRINCIPAL].. [--database NAME]",
-         database_program);
-    return -1;
+    memcpy(address.sun_path, path, strlen(path));
+    listener = socket(AF_UNIX, SOCK_STREAM | SOCK_CLOEXEC | SOCK_NONBLOCK, 0);
+    /* one that nobody listens at any more; anything else stays, and makes `bind` fail */
+    if (lstat(path, &found) == 0 && S_ISSOCK(found.st_mode) &&
+        connect(listener, (void *)&address, sizeof address) < 0 && errno == ECONNREFUSED)
+        unlink(path);
+    /* it never has another mode than 600, not even for a moment */
+    umask(0177);
+    return bind(listener, (void *)&address, sizeof address) == 0 && lchown(path, user, (gid_t)-1) == 0 &&
+           listen(listener, 16) == 0;
 }
 
-int main(int count, char **words)
-{
-    static struct options options;
-    const struct passwd *user;
-    const char *fault;
-    sigset_t ends;
-    int signals;
-
-    if (read_options(&options, count, words) < 0)
+int main(int count, char **words) {
+    const char *path = NULL, *name = NULL, *fault = NULL;
+    int at;
+    for (at = 1; at + 1 < count && fault == NULL; at += 2)
+        if (strcmp(words[at], "--socket") == 0)
+            path = words[at + 1];
+        else if (strcmp(words[at], "--user") == 0)
+            name = words[at + 1];
+        else if (strcmp(words[at], "--realm") == 0)
+            realm = words[at + 1];
+        else
+            fault = strcmp(words[at], "--also") == 0 ? also_add(words[at + 1]) : "no such option";
+    if (fault != NULL)
+        tell("%s: %s", words[at - 1], fault);
+    if (fault != NULL || at != count || path == NULL || name == NULL || realm == NULL || realm[0] == '\0') {
+        tell("usage: %s --socket PATH --user NAME --realm REALM [--also PRINCIPAL]..",
+             program_invocation_short_name);
         return 2;
-    user = getpwnam(options.user);
+    }
+    const struct passwd *user = getpwnam(name);
     if (user == NULL) {
-        tell("%s: no such user", options.user);
+        tell("%s: no such user", name);
         return 1;
     }
-    sigemptyset(&ends);
-    sigaddset(&ends, SIGTERM);
-    sigaddset(&ends, SIGINT);
-    signals = sigprocmask(SIG_BLOCK, &ends, NULL) < 0 ? -1 : signalfd(-1, &ends, SFD_CLOEXEC);
-    if (hide_memory() < 0 || signals < 0) {
-        tell("%s", strerror(errno));
+    signal(SIGTERM, take_signal);
+    signal(SIGINT, take_signal);
+    signal(SIGALRM, take_signal);
+    signal(SIGPIPE, SIG_IGN);
+    /* keys go into no core, and nobody but root can look into the program */
+    if (prctl(PR_SET_DUMPABLE, 0, 0, 0, 0) < 0 || !listen_at(path, user->pw_uid)) {
+        tell("%s: %s", path, strerror(errno));
         return 1;
     }
-    fault = serve_open(options.socket, user->pw_uid);
-    if (fault != NULL) {
-        tell("%s: %s", options.socket, fault);
-        return 1;
+    long error = database_open();
+    if (error != 0) {
+        tell("the database can't be opened: %s", database_message(error));
+        database_close();
     }
-    work_open(&options);
     tell("listening");
-    return serve(&options, user->pw_uid, signals);
+    serve(user->pw_uid);
+    unlink(path);
+    database_close();
+    return 0;
 }

@@ -1,117 +1,46 @@
-#include "memory.h"
-
-#include <dlfcn.h>
+/* Want of memory, which the KDCs' libraries don't all bear: some read through a null pointer, some leave an
+   entry out. So what a request may need is there before it begins; if that isn't enough, the program ends. */
+#include "agent.h"
 #include <malloc.h>
-#include <stddef.h>
-#include <stdint.h>
-#include <string.h>
-#include <unistd.h>
 
-#include "tell.h"
+#define ENOUGH (8 << 20) /* bytes: more than a request takes, but for the answer to a list */
 
-static int is_short;
+/* the C library's own, in whose place the libraries find those below */
+void *__libc_malloc(size_t size);
+void *__libc_calloc(size_t count, size_t size);
+void *__libc_realloc(void *old, size_t size);
+void __libc_free(void *place);
 
-void memory_forget(void)
-{
-    is_short = 0;
-}
-
-int memory_is_short(void)
-{
-    return is_short;
+int memory_is_there(void) {
+    /* so that what is freed stays the program's own */
+    mallopt(M_MMAP_MAX, 0);
+    mallopt(M_TRIM_THRESHOLD, 4 * ENOUGH);
+    void *place = __libc_malloc(ENOUGH);
+    __libc_free(place);
+    return place != NULL;
 }
 
 /* the sanitizers have functions of these names of their own */
 #ifndef __SANITIZE_ADDRESS__
-
-/* bytes: more than one request and an opening of the database take */
-#define RESERVE (8 << 20)
-#define UNIT 16
-
-static _Alignas(UNIT) unsigned char reserve[RESERVE];
-static size_t used, blocks;
-
-/* the function of that name that would be called if there were none here */
-static void next(const char *name, void *function)
-{
-    *(void **)function = dlsym(RTLD_NEXT, name);
-}
-
-static int is_of_reserve(const void *place)
-{
-    return (uintptr_t)place >= (uintptr_t)reserve && (uintptr_t)place < (uintptr_t)(reserve + RESERVE);
-}
-
-/* a block of the reserve, with its size before it; nothing of it is used twice until all are free */
-static void *take(size_t size)
-{
-    size_t whole = UNIT + (size + UNIT - 1) / UNIT * UNIT;
-    unsigned char *block = reserve + used;
-
-    is_short = 1;
-    if (size > RESERVE || whole > RESERVE - used) {
+static void *checked(void *place) {
+    if (place == NULL) {
         tell("no memory is left");
         _exit(1);
     }
-    memcpy(block, &size, sizeof size);
-    used += whole;
-    blocks++;
-    return memset(block + UNIT, 0, size);
-}
-
-void *malloc(size_t size)
-{
-    static void *(*function)(size_t);
-    void *place;
-
-    if (function == NULL)
-        next("malloc", &function);
-    place = function(size);
-    return place == NULL ? take(size) : place;
-}
-
-void *calloc(size_t count, size_t size)
-{
-    static void *(*function)(size_t, size_t);
-    void *place;
-
-    if (function == NULL)
-        next("calloc", &function);
-    place = function(count, size);
-    return place == NULL && (size == 0 || count <= RESERVE / size) ? take(count * size) : place;
-}
-
-void free(void *place)
-{
-    static void (*function)(void *);
-
-    if (function == NULL)
-        next("free", &function);
-    if (!is_of_reserve(place))
-        function(place);
-    else if (--blocks == 0)
-        used = 0;
-}
-
-void *realloc(void *old, size_t size)
-{
-    static void *(*function)(void *, size_t);
-    size_t former = 0;
-    void *place;
-
-    if (function == NULL)
-        next("realloc", &function);
-    place = is_of_reserve(old) ? NULL : function(old, size);
-    if (place != NULL || (old != NULL && size == 0 && !is_of_reserve(old)))
-        return place;
-    if (is_of_reserve(old))
-        memcpy(&former, (unsigned char *)old - UNIT, sizeof former);
-    else if (old != NULL)
-        former = malloc_usable_size(old);
-    place = take(size);
-    memcpy(place, old == NULL ? place : old, former < size ? former : size);
-    free(old);
     return place;
 }
 
+void *malloc(size_t size) {
+    return checked(__libc_malloc(size));
+}
+
+void *calloc(size_t count, size_t size) {
+    return checked(__libc_calloc(count, size));
+}
+
+void *realloc(void *old, size_t size) {
+    void *place = __libc_realloc(old, size);
+    /* one of size 0 is freed */
+    return old != NULL && size == 0 ? place : checked(place);
+}
 #endif

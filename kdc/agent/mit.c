@@ -1,78 +1,40 @@
-/*
- * The database of an MIT KDC, opened as kadmin.local does it: with no password, by who may read and
- * write it. KRB5_KDC_PROFILE is that of the KDC.
- */
-#include <dlfcn.h>
-#include <errno.h>
+/* The database of an MIT KDC, opened as kadmin.local does it. KRB5_KDC_PROFILE is that of the KDC. */
+#include "agent.h"
 #include <fcntl.h>
-#include <limits.h>
-#include <stdarg.h>
-#include <stdio.h>
-#include <string.h>
-#include <time.h>
-#include <unistd.h>
+#include <kadm5/admin.h>
+#include <kdb.h>
 
-#include "files.h"
-#include "mit.h"
+#define OSA_ADB_CANTLOCK_DB 28810250L /* of adb_err.et, which no header that is installed has */
 
-/* of adb_err.et, which no header that is installed has: somebody else has the database locked */
-#define OSA_ADB_CANTLOCK_DB 28810250L
+const uint32_t highest_kvno = 65535; /* an unsigned short in the database */
+static krb5_context context;
+static void *server;
+static krb5_db_entry *entry; /* the one that was taken up */
 
-const char database_program[] = "kdc_mit";
-/* an unsigned short in the database */
-const uint32_t database_highest_kvno = 65535;
-
-krb5_context context;
-void *server;
-krb5_principal master, caller;
-char *realm;
-krb5_db_entry *entry;
-int is_fetched;
-static int is_locked;
-
-/* ---- waiting */
-
-/*
- * In place of the C library's, for libkrb5, by which libkdb5 waits for the database's lock however long
- * somebody keeps it, as kadmin.local does from `lock` to `unlock`. The socket is to be served meanwhile, so
- * a lock that isn't had within a tenth of a second is refused.
- */
-int fcntl(int file, int command, ...)
-{
-    const struct timespec nap = {0, 2000000};
-    int tries = 50, once = command, found;
-    int (*next)(int, int, ...);
+/* In place of the C library's, by which libkdb5 waits for a lock however long somebody keeps it, as
+   kadmin.local does from `lock` to `unlock`. One that isn't had within a tenth of a second is refused. */
+int fcntl(int file, int command, ...) {
+    int once = command == F_OFD_SETLKW ? F_OFD_SETLK : command == F_SETLKW ? F_SETLK : command;
     va_list values;
-    void *value;
-
-    *(void **)&next = dlsym(RTLD_NEXT, "fcntl");
     va_start(values, command);
-    value = va_arg(values, void *);
+    void *value = va_arg(values, void *);
     va_end(values);
-    if (command == F_OFD_SETLKW)
-        once = F_OFD_SETLK;
-    if (command == F_SETLKW)
-        once = F_SETLK;
-    while ((found = next(file, once, value)) < 0 && once != command &&
-           (errno == EAGAIN || errno == EACCES) && tries-- > 0)
-        nanosleep(&nap, NULL);
-    return found;
+    long found = syscall(SYS_fcntl, file, once, value);
+    for (int tries = 0; found < 0 && errno == EAGAIN && once != command && tries < 50; tries++) {
+        usleep(2000);
+        found = syscall(SYS_fcntl, file, once, value);
+    }
+    return (int)found;
 }
 
-/* ---- opening and closing */
-
 /* the database's files, by those that libkdb5 keeps open: LMDB's, or the one by which db2 locks */
-static void watch_files(void)
-{
-    char link[32], path[PATH_MAX], data[PATH_MAX], *end;
-    ssize_t length;
-    int file;
-
-    for (file = 0; file < 64; file++) {
+static void watch_files(void) {
+    char link[32], path[PATH_MAX], data[PATH_MAX];
+    for (int file = 0; file < 64; file++) {
         snprintf(link, sizeof link, "/proc/self/fd/%d", file);
-        length = readlink(link, path, sizeof path - 1);
+        ssize_t length = readlink(link, path, sizeof path - 1);
         path[length < 0 ? 0 : length] = '\0';
-        end = strrchr(path, '.');
+        const char *end = strrchr(path, '.');
         if (end != NULL && strcmp(end, ".ok") == 0) {
             snprintf(data, sizeof data, "%.*s", (int)(end - path), path);
             files_watch(data, path);
@@ -82,92 +44,158 @@ static void watch_files(void)
     }
 }
 
-static long open_server(const char *database)
-{
-    kadm5_config_params params;
-    char name[PATH_MAX], *arguments[] = {NULL, NULL};
-
-    memset(&params, 0, sizeof params);
-    params.mask = KADM5_CONFIG_REALM;
-    params.realm = realm;
-    /* as kadmin.local takes its `-d` */
-    if (database != NULL) {
-        snprintf(name, sizeof name, "dbname=%s", database);
-        arguments[0] = name;
-    }
-    return kadm5_init_with_password(context, "root/admin", NULL, KADM5_ADMIN_SERVICE, &params,
-                                    KADM5_STRUCT_VERSION, KADM5_API_VERSION_4, arguments, &server);
+void database_close(void) {
+    if (server != NULL)
+        kadm5_destroy(server);
+    krb5_free_context(context);
+    server = NULL;
+    context = NULL;
 }
 
-long database_open(const struct options *options)
-{
-    long error;
-
-    realm = (char *)options->realm;
-    /* as a server of the KDC: its profile is read too */
-    error = kadm5_init_krb5_context(&context);
-    if (error == 0)
-        error = open_server(options->database);
-    /* so that replicas are told */
-    if (error == 0)
-        error = kadm5_init_iprop(server, NULL);
-    if (error == 0)
-        error = krb5_db_setup_mkey_name(context, NULL, realm, NULL, &master);
-    if (error == 0)
-        error = krb5_build_principal(context, &caller, (unsigned)strlen(realm), realm, "root",
-                                     "admin", NULL);
+long database_open(void) {
+    if (server != NULL && !files_are_others)
+        return 0;
+    database_close();
+    kadm5_config_params params = {.mask = KADM5_CONFIG_REALM, .realm = (char *)realm};
+    /* as a server of the KDC, which reads its profile too; with iprop, so that replicas are told */
+    long error = kadm5_init_krb5_context(&context)
+        ?: kadm5_init_with_password(context, "root/admin", NULL, KADM5_ADMIN_SERVICE, &params,
+                                    KADM5_STRUCT_VERSION, KADM5_API_VERSION_4, NULL, &server)
+        ?: kadm5_init_iprop(server, NULL);
     if (error == 0)
         watch_files();
     return error;
 }
 
-void database_close(void)
-{
-    if (context == NULL)
-        return;
-    krb5_free_principal(context, master);
-    krb5_free_principal(context, caller);
-    if (server != NULL)
-        kadm5_destroy(server);
-    krb5_free_context(context);
-    master = caller = NULL;
-    server = NULL;
-    context = NULL;
-}
-
-/* ---- beginning and ending */
-
-long database_begin(int is_writing)
-{
-    long error = is_writing ? kadm5_lock(server) : 0;
-
-    is_locked = is_writing && error == 0;
-    /* LMDB's module has no lock to be held over a reading and a writing */
-    return error == KRB5_PLUGIN_OP_NOTSUPP ? 0 : error;
-}
-
-void database_end(void)
-{
-    if (is_fetched)
-        krb5_db_free_principal(context, entry);
-    entry = NULL;
-    is_fetched = 0;
-    if (is_locked)
-        kadm5_unlock(server);
-    is_locked = 0;
-}
-
-/* ---- errors */
-
-int database_is_locked(long error)
-{
-    return error == KRB5_KDB_CANTLOCK_DB || error == OSA_ADB_CANTLOCK_DB || error == EAGAIN;
-}
-
-void database_message(long error, char *text, size_t size)
-{
+char *database_message(long error) {
+    static char text[LONGEST_TEXT];
+    int is_locked = error == KRB5_KDB_CANTLOCK_DB || error == OSA_ADB_CANTLOCK_DB || error == EAGAIN;
     const char *message = krb5_get_error_message(context, (krb5_error_code)error);
-
-    snprintf(text, size, "%s", message);
+    snprintf(text, sizeof text, "%s", is_locked ? "locked" : message);
     krb5_free_error_message(context, message);
+    return text;
+}
+
+static krb5_error_code take_found(void *unused, krb5_db_entry *found) {
+    const krb5_principal_data *principal = found->princ;
+    char name[LONGEST_NAME + 1] = "";
+    for (int i = 0; i < principal->length; i++)
+        if (!name_add(name, principal->data[i].data, principal->data[i].length))
+            return 0;
+    if (name[0] == '\0' || principal->realm.length != strlen(realm) ||
+        memcmp(principal->realm.data, realm, principal->realm.length) != 0)
+        return 0;
+    entry = found;
+    return (krb5_error_code)take_entry(name);
+}
+
+static long take_named(const char *name) {
+    char bytes[LONGEST_NAME], *end = bytes;
+    krb5_data parts[MOST_COMPONENTS];
+    krb5_data in = {KV5M_DATA, (unsigned)strlen(realm), (char *)realm};
+    krb5_principal_data principal = {.realm = in, .data = parts};
+    for (size_t size; (size = name_next(&name, end)) > 0; end += size)
+        parts[principal.length++] = (krb5_data){KV5M_DATA, (unsigned)size, end};
+    krb5_db_entry *found;
+    long error = krb5_db_get_principal(context, &principal, 0, &found);
+    if (error != 0)
+        return error == KRB5_KDB_NOENTRY ? 0 : error;
+    error = take_found(NULL, found);
+    krb5_db_free_principal(context, found);
+    return error;
+}
+
+long database_take(const char *name, int is_to_be_written) {
+    long lock = krb5_db_lock(context, is_to_be_written ? KRB5_DB_LOCKMODE_EXCLUSIVE : KRB5_DB_LOCKMODE_SHARED);
+    /* LMDB's module has no lock to be held over a reading and a writing */
+    if (lock != 0 && lock != KRB5_PLUGIN_OP_NOTSUPP)
+        return lock;
+    long error = name != NULL ? take_named(name) : krb5_db_iterate(context, NULL, take_found, NULL, 0);
+    if (lock == 0)
+        krb5_db_unlock(context);
+    return error;
+}
+
+long database_held(int with_keys, struct held *held) {
+    /* libkdb5 has the newest version first */
+    *held = (struct held){.kvno = entry->n_key_data > 0 ? entry->key_data[0].key_data_kvno : 0,
+                          .is_locked_down = (entry->attributes & KRB5_KDB_LOCKDOWN_KEYS) != 0};
+    if (!with_keys || held->is_locked_down)
+        return 0;
+    krb5_keyblock *master, key;
+    krb5_keysalt salt;
+    long error = krb5_dbe_find_mkey(context, entry, &master);
+    for (int i = 0; i < entry->n_key_data && entry->key_data[i].key_data_kvno == held->kvno; i++) {
+        error = error ?: krb5_dbe_decrypt_key_data(context, master, &entry->key_data[i], &key, &salt);
+        if (error != 0)
+            return error;
+        if (salt.type == KRB5_KDB_SALTTYPE_NORMAL)
+            hold_key(held, key.enctype, key.contents, key.length);
+        /* it wipes the key */
+        krb5_free_keyblock_contents(context, &key);
+        krb5_free_data_contents(context, &salt.data);
+    }
+    return error;
+}
+
+/* gives the entry these keys and no others, and the version of the master key in use, which seals them */
+static long replace_keys(key_pair keys, int kvno) {
+    krb5_principal name = NULL;
+    krb5_actkvno_node *versions = NULL;
+    krb5_keyblock *master;
+    krb5_kvno version;
+    long error = krb5_db_setup_mkey_name(context, NULL, realm, NULL, &name)
+        ?: krb5_dbe_fetch_act_key_list(context, name, &versions)
+        ?: krb5_dbe_find_act_mkey(context, versions, &version, &master)
+        ?: krb5_dbe_update_mkvno(context, entry, version);
+    krb5_dbe_free_actkvno_list(context, versions);
+    krb5_free_principal(context, name);
+    for (int i = 0; i < entry->n_key_data; i++)
+        krb5_dbe_free_key_data_contents(context, &entry->key_data[i]);
+    free(entry->key_data);
+    entry->key_data = calloc(2, sizeof *entry->key_data);
+    entry->n_key_data = 2;
+    for (int i = 0; error == 0 && i < 2; i++) {
+        const krb5_keyblock key = {KV5M_KEYBLOCK, key_types[i], key_sizes[i], keys[i]};
+        error = krb5_dbe_encrypt_key_data(context, master, &key, NULL, kvno, &entry->key_data[i]);
+    }
+    return error;
+}
+
+/* how long a password may be used by the entry's policy; 0 where nothing is said */
+static long life_of_password(krb5_ui_4 *life) {
+    kadm5_principal_ent_rec found = {0};
+    kadm5_policy_ent_rec policy = {0};
+    long error = kadm5_get_principal(server, entry->princ, &found, KADM5_POLICY);
+    if (error == 0 && found.policy != NULL)
+        error = kadm5_get_policy(server, found.policy, &policy);
+    *life = (krb5_ui_4)policy.pw_max_life;
+    kadm5_free_policy_ent(server, &policy);
+    kadm5_free_principal_ent(server, &found);
+    return error == KADM5_UNK_POLICY ? 0 : error;
+}
+
+/* all that kadmind does where a password is changed. kadm5_setkey_principal_4 won't do: it doesn't note under
+   which master key it seals. So an entry is written by the calls below it, libkdb5's */
+long database_write(key_pair keys, uint32_t kvno) {
+    krb5_principal caller = NULL;
+    krb5_timestamp now;
+    krb5_ui_4 life;
+    long error = krb5_timeofday(context, &now)
+        ?: life_of_password(&life)
+        ?: replace_keys(keys, (int)kvno)
+        ?: krb5_dbe_update_last_pwd_change(context, entry, now)
+        ?: krb5_parse_name(context, "root/admin", &caller)
+        ?: krb5_dbe_update_mod_princ_data(context, entry, now, caller);
+    krb5_free_principal(context, caller);
+    if (error != 0)
+        return error;
+    entry->pw_expiration = life == 0 ? 0 : (krb5_timestamp)((krb5_ui_4)now + life);
+    entry->attributes &= ~KRB5_KDB_REQUIRES_PWCHANGE;
+    entry->fail_auth_count = 0;
+    /* modules other than db2's write what is named here */
+    entry->mask |= KADM5_KEY_DATA | KADM5_TL_DATA | KADM5_PW_EXPIRATION | KADM5_ATTRIBUTES |
+                   KADM5_FAIL_AUTH_COUNT;
+    /* with a record in the log of changes, by which replicas are told */
+    return krb5_db_put_principal(context, entry);
 }

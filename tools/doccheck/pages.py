@@ -1,7 +1,7 @@
 """The manual pages of packaging/man have the options, values, limits and defaults of each command's help, and no others.
 
-The help of chpw_server is read from the source, and with --program also from what the program prints; that of the followers
-from kdc/options.c; and the settings of a configuration, with their limits, from the crates that read them. In a page an
+The help of chpw_server is read from the source, and with --program also from what the program prints; that of the agents
+from kdc/agent/main.c; and the settings of a configuration, with their limits, from the crates that read them. In a page an
 option is an item `.It Fl -NAME Ar VALUE` in the section of its command, in brackets in the synopsis if it may be left out.
 Its text has the limits as the help has them, `N to N`, and ends with `The default is WORD.` if there is one.
 """
@@ -16,7 +16,7 @@ from .tree import TOP
 sys.path.insert(0, str(TOP / "packaging"))
 
 HELP = TOP / "crates/chpw_invocation/src/program.rt"
-FOLLOWER = TOP / "kdc/options.c"
+AGENT = TOP / "kdc/agent/main.c"
 SETTINGS = TOP / "crates/chpw_config/src/explanation.rt"
 LIMITS = TOP / "crates/chpw_rules/src/limits.rt"
 NOTHING = {"nowhere", "no wait", "no log"}  # how a help says that by default there is none
@@ -76,15 +76,12 @@ def of_program(program, command):
     return options
 
 
-def of_follower():
-    source = FOLLOWER.read_text()
-    usage = " ".join(re.findall(r'tell\("([^"]*)"', source))
-    options = {}
-    for bracket, name, value in re.findall(r"(\[?)(--[\w-]+)(?: ([A-Z]+))?", usage):
-        default = re.search(rf'options->{name[2:]} = "?([\w-]+)"?;', source)
-        options[name] = Option(value, not bracket, default[1] if value and default else None)
-    named = set(re.findall(r'\{"([\w-]+)", \w+_argument', source))
-    return options, named
+def of_agent():
+    """The options of its usage, and those that its command line is compared with."""
+    source = AGENT.read_text()
+    usage = " ".join(re.findall(r'tell\("(usage: [^"]*)"', source))
+    options = {name: Option(value, not bracket) for bracket, name, value in re.findall(r"(\[?)(--[\w-]+) ([A-Z]+)", usage)}
+    return options, set(re.findall(r'strcmp\(words\[at\], "(--[\w-]+)"\)', source))
 
 
 def settings():
@@ -97,6 +94,7 @@ def settings():
             of = "ENTRY_COUNTS" if held == "Entries" else re.sub(r".*\((.*)\)", r"\1", held)
             is_number = held.startswith(("Number", "Text", "Entries")) and of != "ETYPES"
             tables.setdefault(PLACES[name], {})[setting] = limits.get(of) if is_number else None
+    tables["[kdc]"] = dict.fromkeys(re.findall(r'explain_patterns\(alloc, file.get\("kdc"\), "(\w+)"', source))
     return tables
 
 
@@ -194,22 +192,12 @@ def check(tree, faults):
         server.compare(options, command, command)
         if tree.program is not None:
             server.compare(of_program(tree.program, command), command, command, False)
-    for name in ("follow_mit.8", "follow_heimdal.8"):
+    for name in ("kdc_mit.8", "kdc_heimdal.8"):
         page = Page(name, pages.page(name), faults)
-        options, named = of_follower()
-        page.same("the options of its usage", sorted(named), sorted(it[2:] for it in options))
-        for option in options.values():
-            option.ranges = None
-        compare_follower(page, options)
+        options, named = of_agent()
+        page.same("the options of its usage", sorted(named), sorted(options))
+        page.compare(options, "DESCRIPTION", None)
     check_settings(Page("boddrelyn.toml.5", pages.page("boddrelyn.toml.5"), faults))
-
-
-def compare_follower(page, options):
-    """The limits of `--every` stand in no usage: they are those that the code compares with."""
-    low, high = re.search(r"\*seconds >= (\d+) && \*seconds <= (\d+)", FOLLOWER.read_text()).groups()
-    for name, option in options.items():
-        option.ranges = {(low, high)} if name == "--every" else set()
-    page.compare(options, "DESCRIPTION", None)
 
 
 def check_settings(page):

@@ -1,0 +1,153 @@
+"""How long an agent takes to write a key, in a realm of many principals, and changes a second.
+
+    kdc.py PROGRAM mit|heimdal [PRINCIPALS [CHANGES [ROUNDS]]]
+
+makes the principals in a KDC's database, then asks the agent for all of their keys, and to write one after the other over one
+connection, as the service does. Every tenth of them is compared with what the KDC's own tools say. Then a service that knows
+none of the principals takes them all. At last changes.py has clients change passwords: at the service with a KDC and without
+one, and at MIT's kadmind. The status is 1 where the service with a KDC makes fewer changes a second than kadmind.
+"""
+
+import os
+import pathlib
+import statistics
+import subprocess
+import sys
+import time
+
+TOP = pathlib.Path(__file__).resolve().parent.parent
+sys.path.insert(0, str(TOP / "kdc"))
+
+import changes
+import realms
+from agent_process import hexed
+from cases import Cases, Passed
+from daemons import comes
+from own_configuration import configured
+from realm import REALM
+from served import Served
+
+# seconds that the principals may take to be made, and to be taken: each wants two syncs
+PATIENCE = 600
+# beside them the realm has these
+OTHERS = {"admin", *realms.STRANGERS}
+
+
+def flushes(folder, count=50):
+    """Milliseconds that the disk takes for a record that is appended and synced: the median."""
+    times = []
+    with (folder / "flushed").open("wb", buffering=0) as file:
+        for _ in range(count):
+            file.write(bytes(66))
+            begun = time.monotonic()
+            os.fsync(file.fileno())
+            times.append(1000 * (time.monotonic() - begun))
+    return statistics.median(times)
+
+
+def fed(command, lines, environment):
+    """A command that takes these lines, each without its newline."""
+    text = "".join(f"{line}\n" for line in lines)
+    subprocess.run(command, input=text, text=True, check=True, env=environment, stdout=subprocess.DEVNULL, timeout=PATIENCE)
+
+
+def make_mit(realm, names):
+    """With keys drawn at random."""
+    lines = (f"addprinc -randkey {name}" for name in names)
+    fed([realm.mit.program("kadmin.local")], lines, realm.environment(realm.mit))
+
+
+def make_heimdal(realm, names):
+    """By a dump that is merged: as the admin's entry, under other names and keys."""
+    dumped = realm.kadmin("dump", "--decrypt").splitlines()
+    [entry] = [line.split(" ") for line in dumped if line.startswith("admin@")]
+    lines = []
+    for name in names:
+        salt = (REALM + name).encode().hex()
+        parts = [f"::{etype}:{os.urandom(size).hex()}:3/{salt}" for etype, size in ((18, 32), (17, 16))]
+        lines.append(" ".join([f"{name}@{REALM}", f"1{''.join(parts)}", *entry[2:]]))
+    fed([realm.heimdal.program("kadmin.heimdal"), "-l", "merge", "/dev/stdin"], lines, realm.environment())
+
+
+def versions_of(agent, names):
+    """Of each name the version and the keys that the KDC has: of etype 17 and of etype 18."""
+    found = {}
+    for line in agent.listed("list keys"):
+        word, name, *rest = line.split()
+        if word == "has":
+            kvno, aes256, aes128 = rest
+            found[bytes.fromhex(name.replace("/", "2f")).decode()] = int(kvno), (bytes.fromhex(aes128), bytes.fromhex(aes256))
+    return {name: found[name] for name in names}
+
+
+def measure(cases, agent, versions, names, count):
+    """Milliseconds of each change from the request to its answer."""
+    times = []
+    for number in range(count):
+        name = names[number * 7919 % len(names)]
+        kvno = versions[name][0] + 1
+        keys = os.urandom(16), os.urandom(32)
+        request = f"put {hexed(name)} {kvno} {keys[1].hex()} {keys[0].hex()}"
+        begun = time.monotonic()
+        answer = agent.ask(request)
+        times.append(1000 * (time.monotonic() - begun))
+        if answer != f"put {hexed(name)} {kvno}":
+            raise RuntimeError(f"the agent answers {answer}")
+        versions[name] = kvno, keys
+        if number % 10 == 0 and cases.realm.kvno(name) != kvno:
+            raise RuntimeError(f"{name} isn't in the database")
+        time.sleep(0.02)
+    return sorted(times)
+
+
+def taken(cases, count):
+    """Seconds that a service without a principal takes to have those of the KDC."""
+    served = Served(cases.realm, cases.program, "taking", changes.WAIT)
+    served.configure(configured({}, 3))
+    try:
+        served.begin_agent()
+        begun = time.monotonic()
+        served.start()
+        if not comes(lambda: served.status().get("principals") == str(count), PATIENCE):
+            raise RuntimeError(f"the service doesn't have the KDC's principals: {served.status()}")
+        return time.monotonic() - begun
+    finally:
+        served.end()
+
+
+def rates(cases, versions, rounds):
+    """A line for each number of clients; whether kadmind is no faster."""
+    targets = changes.measure(cases, versions, rounds)
+    best = {target.name: target.best for target in targets}
+    for clients in changes.CLIENTS:
+        told = ", ".join(f"{name} {found[clients]:.0f}" for name, found in best.items())
+        print(f"{cases.realm.KIND}: changes a second, clients {clients}: {told}", flush=True)
+    with_kdc, other = best[changes.WITH_KDC], best.get("kadmind")
+    return other is None or all(with_kdc[clients] >= other[clients] for clients in changes.CLIENTS)
+
+
+def spread(times):
+    return f"{statistics.median(times):.1f} ms, {times[len(times) * 99 // 100 - 1]:.1f} ms, {times[-1]:.1f} ms"
+
+
+def main():
+    program, kind = sys.argv[1:3]
+    given = [int(word) for word in sys.argv[3:]]
+    principals, count, rounds = given + [10_000, 100, changes.ROUNDS][len(given) :]
+    names = [f"client{number:05}" for number in range(principals)]
+    with realms.KINDS[kind]({"admin": realms.FIRST}) as realm:
+        cases = Cases(realm, program, Passed())
+        (make_mit if kind == "mit" else make_heimdal)(realm, names)
+        with cases.talking() as agent:
+            begun = time.monotonic()
+            versions = versions_of(agent, names)
+            listed = time.monotonic() - begun
+            times = measure(cases, agent, versions, names[3 * max(changes.CLIENTS) :], count)
+        print(f"{realm.KIND}: {principals} principals, a list of all keys {listed:.1f} s, in step with a service without them "
+              f"after {taken(cases, principals + len(OTHERS)):.1f} s; {count} changes: median, 99th and longest from the request "
+              f"to the answer {spread(times)}; a sync of this disk takes {flushes(realm.folder):.1f} ms", flush=True)
+        sys.exit(0 if rates(cases, versions, rounds) else 1)
+
+
+if __name__ == "__main__":
+    main()
