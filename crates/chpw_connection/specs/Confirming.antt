@@ -1,4 +1,4 @@
--- Replies that wait until their changes are confirmed: until the KDC has the journal up to their mark, or for a time.
+-- Replies that wait until their changes are confirmed: up to their mark, or for a time.
 use Rattle.std.specs.Prelude.{◌≡◌, ℕ, ◌-◌, Option, Some, None, Bool, true, false, nat_le, if◌then◌else◌, MatchBool}
 use Rattle.chpw_connection.specs.Stages.{Stage, confirming, released, stage}
 use Rattle.chpw_connection.specs.Slot.{Comes}
@@ -18,7 +18,7 @@ abbrev pub is_confirmed_in : ℕ → Option Connection → Bool
 is_confirmed_in mark None = false
 is_confirmed_in mark (Some c) = is_confirmed mark (stage c)
 
--- the KDC has this many bytes of the journal: a reply that needs no more is released, and another connection stays
+-- the changes up to this mark are confirmed: a reply that waits for no more is released, and another connection stays
 abbrev pub Confirms : ℕ → ℕ → Option Connection → Option Connection → Type 0
 Confirms mark now old new = MatchBool (is_confirmed_in mark old) (Comes now released old new) (new ≡ old)
 

@@ -7,8 +7,8 @@ use Rattle.chpw_connection.specs.declared.connection.Phase.TheVariants as phase
 use Rattle.chpw_connection.specs.declared.connection.Connection.{Connection}
 
 -- It reads these bytes of its next message; this message waits for a worker; a worker answers this message; this reply,
--- after which the connection ends or not, waits until its change is confirmed, until the KDC has the journal up to this
--- mark; these bytes of its reply are left to write, after which the connection ends or not; its last reply is out; it is
+-- after which the connection ends or not, waits until the change with this
+-- mark is confirmed; these bytes of its reply are left to write, after which the connection ends or not; its last reply is out; it is
 -- gone while a worker still answers; it has ended
 pub data Stage : Type 0 where
   reading : List ℕ → Stage
@@ -21,7 +21,7 @@ pub data Stage : Type 0 where
   ended : Stage
 
 -- bytes came; its message went to a worker; the worker's reply, possibly the last, is to be written; it is to be
--- written once the KDC has the journal up to a mark; the worker has none; its change is confirmed, or no longer waited
+-- written once the change with this mark is confirmed; the worker has none; its change is confirmed, or no longer waited
 -- for; this many bytes were written; the client closed its side, and all was read; it can't go on
 pub data Event : Type 0 where
   came : List ℕ → Event

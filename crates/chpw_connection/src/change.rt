@@ -17,7 +17,7 @@ pub enum Change {
         reply: Vec<u8>,
         is_last: bool,
     },
-    /// The worker's reply is to be written once its change is confirmed: once the KDC has `mark` bytes of the journal.
+    /// The worker's reply is to be written once the change with this mark is confirmed.
     /// After the last one the connection ends.
     Deferred {
         reply: Vec<u8>,
@@ -79,7 +79,7 @@ impl Connection {
         }
     }
 
-    // The worker's reply is to be written once its change is confirmed: once the KDC has `mark` bytes of the journal.
+    // The worker's reply is to be written once the change with this mark is confirmed.
     // After the last one the connection ends.
     fn defer(&mut self, reply: Vec<u8>, is_last: bool, mark: u64, now: u64)
         ensures goes { Goes now self.old self.new (deferred reply.items is_last mark) }

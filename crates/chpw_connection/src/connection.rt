@@ -63,7 +63,7 @@ pub struct Deferred {
     pub reply: Vec<u8>,
     /// Whether the connection ends after it.
     pub is_last: bool,
-    /// The bytes of the journal after the change.
+    /// The mark of the change.
     pub mark: u64,
 }
 
@@ -222,7 +222,7 @@ impl Connection {
         }
     }
 
-    /// Whether its reply waits for no more than `mark` bytes of the journal.
+    /// Whether its reply waits for no later mark than this.
     pub fn is_confirmed(&self, mark: u64) -> bool
         ensures value { result ≡ is_confirmed_by mark (stage self.now) }
     {

@@ -18,12 +18,12 @@ use chpw_connection::Change;
 pub struct Unconfirmed {
     /// The peer: an IPv4 address, high byte first.
     pub peer: [u8; 4],
-    /// The bytes of the journal after the change.
+    /// The mark of the change: its ticket.
     pub mark: u64,
 }
 
 impl Connections {
-    /// The KDC has `mark` bytes of the journal: the replies that need no more are to be written now, and their slots
+    /// The changes up to this mark are confirmed: the replies that wait for no more are to be written now, and their slots
     /// are noted. The other connections stay unchanged.
     pub fn confirm(&mut self, mark: u64, now: u64)
         ensures confirmed { (slot : ℕ) → Confirms mark now (get (slots_of self.old) slot) (get (slots_of self.new) slot) }
@@ -91,7 +91,7 @@ impl Connections {
         self.slots.get(slot)?.overdue(wait, now)
     }
 
-    // Whether the reply in a slot waits for no more than `mark` bytes of the journal.
+    // Whether the reply in a slot waits for no later mark than this.
     fn is_confirmed(&self, slot: usize, mark: u64) -> bool
         ensures value { result ≡ is_confirmed_in mark (get (slots_of self.now) slot) }
     {

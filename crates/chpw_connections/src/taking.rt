@@ -164,8 +164,8 @@ impl Connections {
         }
     }
 
-    /// A worker's reply to the message that it took, to be written once its change is confirmed: once the KDC has
-    /// `mark` bytes of the journal (`confirm`), or the reply has waited too long (`overdue`). After the last reply the
+    /// A worker's reply to the message that it took, to be written once the change with this mark is confirmed
+    /// (`confirm`), or the reply has waited too long (`overdue`). After the last reply the
     /// connection ends. Room is made for it as `answer` does; without room it isn't sent, and the connection ends. For
     /// a connection that is gone no room is made: the reply is dropped.
     #[tactic(auto, using(crate::proofs::RoomLemmas::happens_with_room))]

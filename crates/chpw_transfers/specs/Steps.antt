@@ -95,7 +95,7 @@ pub data RunsTo (b : ConnectionLimits) (now slot : ℕ) : Slab Connection → Sl
 abbrev pub can_reply : ConnectionLimits → ℕ → Slab Connection → ℕ → Reply → Bool
 can_reply b now old slot r = has_room_besides b.bytes (for_reply now) old slot (length r.bytes.items) && is_answering_in (get old slot)
 
--- if it waits until the KDC has the journal up to a mark, not before that
+-- if it waits for a mark, not before that is confirmed
 abbrev pub reply_event : Option ℕ → Reply → Event
 reply_event None r = replied r.bytes.items r.is_last
 reply_event (Some mark) r = deferred r.bytes.items r.is_last mark
