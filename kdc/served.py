@@ -10,7 +10,7 @@ from daemons import comes
 from server import Server, private
 
 UNCONFIRMED = "not confirmed by the KDC"
-TOLD = "a change was answered before the KDC had it; more are not reported until one is confirmed"
+TOLD = "the KDC did not have a change in time; more are not reported until one is confirmed"
 DOWN = "no connection to the KDC's agent; it is tried again"
 MISSPOKEN = "the KDC's agent said what it may not; it is called again"
 # seconds in which no further line comes behind the last reply

@@ -28,7 +28,7 @@ pub ends_waiting : (count : ℕ) (s : Stage) → waits s ≡ true → after coun
 ends_waiting count (reading bytes) is = refl
 ends_waiting count (queued message) is = absurd cc
 ends_waiting count (answering m) is = absurd cc
-ends_waiting count (confirming reply last mark) is = absurd cc
+ends_waiting count (confirming reply last ticket) is = absurd cc
 ends_waiting count (writing left last) is = refl
 ends_waiting count lingering is = refl
 ends_waiting count abandoned is = absurd cc

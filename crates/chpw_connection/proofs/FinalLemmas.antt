@@ -10,7 +10,7 @@ at_end : (c : List ℕ) (h : List (List ℕ)) (r : List (List ℕ × List ℕ)) 
 at_end c h r w n (came more) = rw (append-nil c, append-nil h, append-nil r, append-nil w) refl
 at_end c h r w n taken = rw (append-nil c, append-nil h, append-nil r, append-nil w) refl
 at_end c h r w n (replied reply last) = rw (append-nil c, append-nil h, append-nil r, append-nil w) refl
-at_end c h r w n (deferred reply last mark) = rw (append-nil c, append-nil h, append-nil r, append-nil w) refl
+at_end c h r w n (deferred reply last ticket) = rw (append-nil c, append-nil h, append-nil r, append-nil w) refl
 at_end c h r w n unanswered = rw (append-nil c, append-nil h, append-nil r, append-nil w) refl
 at_end c h r w n released = rw (append-nil c, append-nil h, append-nil r, append-nil w) refl
 at_end c h r w n (wrote k) = rw (append-nil c, append-nil h, append-nil r, append-nil w) refl

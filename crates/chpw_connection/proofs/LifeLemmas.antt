@@ -20,7 +20,7 @@ IsWaiting stage = Unit {0}
 
 -- a connection that goes on counts its replies
 abbrev IsCounted : Stage → ℕ → ℕ → Type 0
-IsCounted (confirming reply last mark) count replies = last ≡ false → count ≡ replies
+IsCounted (confirming reply last ticket) count replies = last ≡ false → count ≡ replies
 IsCounted (writing left last) count replies = last ≡ false → count ≡ replies
 IsCounted lingering count replies = Unit {0}
 IsCounted abandoned count replies = Unit {0}
@@ -198,10 +198,10 @@ replies_to c h r w n m reply last o =
     rw (append-nil c, append-nil h, append-nil w) step
 
 -- what is said of a reply that isn't confirmed is said of one of which nothing is written
-waits_as : (c : List ℕ) (h : List (List ℕ)) (r : List (List ℕ × List ℕ)) (w : List ℕ) (n : ℕ) (reply : List ℕ) (last : Bool) (mark : ℕ)
+waits_as : (c : List ℕ) (h : List (List ℕ)) (r : List (List ℕ × List ℕ)) (w : List ℕ) (n : ℕ) (reply : List ℕ) (last : Bool) (ticket : ℕ)
     → Holds (made c h r w n (writing reply last))
-    → Holds (made c h r w n (confirming reply last mark))
-waits_as c h r w n reply last mark o =
+    → Holds (made c h r w n (confirming reply last ticket))
+waits_as c h r w n reply last ticket o =
     let p = o.orderly in
     record {
       orderly = record {
@@ -222,9 +222,9 @@ waits_as c h r w n reply last mark o =
       small = o.small;
     }
 
-written_as : (c : List ℕ) (h : List (List ℕ)) (r : List (List ℕ × List ℕ)) (w : List ℕ) (n : ℕ) (reply : List ℕ) (last : Bool) (mark : ℕ)
-    → Holds (made c h r w n (confirming reply last mark)) → Holds (made c h r w n (writing reply last))
-written_as c h r w n reply last mark o =
+written_as : (c : List ℕ) (h : List (List ℕ)) (r : List (List ℕ × List ℕ)) (w : List ℕ) (n : ℕ) (reply : List ℕ) (last : Bool) (ticket : ℕ)
+    → Holds (made c h r w n (confirming reply last ticket)) → Holds (made c h r w n (writing reply last))
+written_as c h r w n reply last ticket o =
     let p = o.orderly in
     record {
       orderly = record {
@@ -246,18 +246,18 @@ written_as c h r w n reply last mark o =
     }
 
 -- a worker's reply is deferred
-defers_to : (c : List ℕ) (h : List (List ℕ)) (r : List (List ℕ × List ℕ)) (w : List ℕ) (n : ℕ) (m reply : List ℕ) (last : Bool) (mark : ℕ)
+defers_to : (c : List ℕ) (h : List (List ℕ)) (r : List (List ℕ × List ℕ)) (w : List ℕ) (n : ℕ) (m reply : List ℕ) (last : Bool) (ticket : ℕ)
     → Holds (made c h r w n (answering m))
     → Holds (made (c ++ []) (h ++ []) (r ++ (m, reply) ∷ []) (w ++ [])
-    (cond (is_last_reply n last) n (n + 1)) (confirming reply (is_last_reply n last) mark))
-defers_to c h r w n m reply last mark o =
-    waits_as (c ++ []) (h ++ []) (r ++ (m, reply) ∷ []) (w ++ []) (cond (is_last_reply n last) n (n + 1)) reply (is_last_reply n last) mark
+    (cond (is_last_reply n last) n (n + 1)) (confirming reply (is_last_reply n last) ticket))
+defers_to c h r w n m reply last ticket o =
+    waits_as (c ++ []) (h ++ []) (r ++ (m, reply) ∷ []) (w ++ []) (cond (is_last_reply n last) n (n + 1)) reply (is_last_reply n last) ticket
     (replies_to c h r w n m reply last o)
 
 -- and released
-releases : (c : List ℕ) (h : List (List ℕ)) (r : List (List ℕ × List ℕ)) (w : List ℕ) (n : ℕ) (reply : List ℕ) (last : Bool) (mark : ℕ)
-    → Holds (made c h r w n (confirming reply last mark)) → Holds (made (c ++ []) (h ++ []) (r ++ []) (w ++ []) n (writing reply last))
-releases c h r w n reply last mark o = same c h r w n (writing reply last) (written_as c h r w n reply last mark o)
+releases : (c : List ℕ) (h : List (List ℕ)) (r : List (List ℕ × List ℕ)) (w : List ℕ) (n : ℕ) (reply : List ℕ) (last : Bool) (ticket : ℕ)
+    → Holds (made c h r w n (confirming reply last ticket)) → Holds (made (c ++ []) (h ++ []) (r ++ []) (w ++ []) n (writing reply last))
+releases c h r w n reply last ticket o = same c h r w n (writing reply last) (written_as c h r w n reply last ticket o)
 
 -- bytes of the reply went out
 writes : (c : List ℕ) (h : List (List ℕ)) (r : List (List ℕ × List ℕ)) (w : List ℕ) (n : ℕ) (left : List ℕ) (last : Bool) (k : ℕ)
@@ -416,7 +416,7 @@ keeps_at c h r w n (reading b) closed o = ends c h r w n (reading b) o (none_is_
 keeps_at c h r w n (reading b) failed o = ends c h r w n (reading b) o (none_is_few o.orderly.unreplied o.orderly.answered)
 keeps_at c h r w n (reading b) taken o = same c h r w n (reading b) o
 keeps_at c h r w n (reading b) (replied reply last) o = same c h r w n (reading b) o
-keeps_at c h r w n (reading b) (deferred reply last mark) o = same c h r w n (reading b) o
+keeps_at c h r w n (reading b) (deferred reply last ticket) o = same c h r w n (reading b) o
 keeps_at c h r w n (reading b) unanswered o = same c h r w n (reading b) o
 keeps_at c h r w n (reading b) released o = same c h r w n (reading b) o
 keeps_at c h r w n (reading b) (wrote k) o = same c h r w n (reading b) o
@@ -425,12 +425,12 @@ keeps_at c h r w n (queued m) failed o = ends c h r w n (queued m) o (none_is_fe
 keeps_at c h r w n (queued m) (came more) o = same c h r w n (queued m) o
 keeps_at c h r w n (queued m) closed o = same c h r w n (queued m) o
 keeps_at c h r w n (queued m) (replied reply last) o = same c h r w n (queued m) o
-keeps_at c h r w n (queued m) (deferred reply last mark) o = same c h r w n (queued m) o
+keeps_at c h r w n (queued m) (deferred reply last ticket) o = same c h r w n (queued m) o
 keeps_at c h r w n (queued m) unanswered o = same c h r w n (queued m) o
 keeps_at c h r w n (queued m) released o = same c h r w n (queued m) o
 keeps_at c h r w n (queued m) (wrote k) o = same c h r w n (queued m) o
 keeps_at c h r w n (answering m) (replied reply last) o = replies_to c h r w n m reply last o
-keeps_at c h r w n (answering m) (deferred reply last mark) o = defers_to c h r w n m reply last mark o
+keeps_at c h r w n (answering m) (deferred reply last ticket) o = defers_to c h r w n m reply last ticket o
 keeps_at c h r w n (answering m) unanswered o = lingers c h r w n m o
 keeps_at c h r w n (answering m) released o = same c h r w n (answering m) o
 keeps_at c h r w n (answering m) failed o = leaves c h r w n m o
@@ -438,23 +438,23 @@ keeps_at c h r w n (answering m) (came more) o = same c h r w n (answering m) o
 keeps_at c h r w n (answering m) closed o = same c h r w n (answering m) o
 keeps_at c h r w n (answering m) taken o = same c h r w n (answering m) o
 keeps_at c h r w n (answering m) (wrote k) o = same c h r w n (answering m) o
-keeps_at c h r w n (confirming reply last mark) released o = releases c h r w n reply last mark o
-keeps_at c h r w n (confirming reply last mark) failed o =
-    ends c h r w n (confirming reply last mark) o (none_is_few o.orderly.unreplied o.orderly.answered)
-keeps_at c h r w n (confirming reply last mark) (came more) o = same c h r w n (confirming reply last mark) o
-keeps_at c h r w n (confirming reply last mark) closed o = same c h r w n (confirming reply last mark) o
-keeps_at c h r w n (confirming reply last mark) taken o = same c h r w n (confirming reply last mark) o
-keeps_at c h r w n (confirming reply last mark) (replied reply' last') o = same c h r w n (confirming reply last mark) o
-keeps_at c h r w n (confirming reply last mark) (deferred reply' last' mark') o = same c h r w n (confirming reply last mark) o
-keeps_at c h r w n (confirming reply last mark) unanswered o = same c h r w n (confirming reply last mark) o
-keeps_at c h r w n (confirming reply last mark) (wrote k) o = same c h r w n (confirming reply last mark) o
+keeps_at c h r w n (confirming reply last ticket) released o = releases c h r w n reply last ticket o
+keeps_at c h r w n (confirming reply last ticket) failed o =
+    ends c h r w n (confirming reply last ticket) o (none_is_few o.orderly.unreplied o.orderly.answered)
+keeps_at c h r w n (confirming reply last ticket) (came more) o = same c h r w n (confirming reply last ticket) o
+keeps_at c h r w n (confirming reply last ticket) closed o = same c h r w n (confirming reply last ticket) o
+keeps_at c h r w n (confirming reply last ticket) taken o = same c h r w n (confirming reply last ticket) o
+keeps_at c h r w n (confirming reply last ticket) (replied reply' last') o = same c h r w n (confirming reply last ticket) o
+keeps_at c h r w n (confirming reply last ticket) (deferred reply' last' ticket') o = same c h r w n (confirming reply last ticket) o
+keeps_at c h r w n (confirming reply last ticket) unanswered o = same c h r w n (confirming reply last ticket) o
+keeps_at c h r w n (confirming reply last ticket) (wrote k) o = same c h r w n (confirming reply last ticket) o
 keeps_at c h r w n (writing left last) (wrote k) o = writes c h r w n left last k o
 keeps_at c h r w n (writing left last) failed o = ends c h r w n (writing left last) o (none_is_few o.orderly.unreplied o.orderly.answered)
 keeps_at c h r w n (writing left last) (came more) o = same c h r w n (writing left last) o
 keeps_at c h r w n (writing left last) closed o = same c h r w n (writing left last) o
 keeps_at c h r w n (writing left last) taken o = same c h r w n (writing left last) o
 keeps_at c h r w n (writing left last) (replied reply last') o = same c h r w n (writing left last) o
-keeps_at c h r w n (writing left last) (deferred reply last' mark) o = same c h r w n (writing left last) o
+keeps_at c h r w n (writing left last) (deferred reply last' ticket) o = same c h r w n (writing left last) o
 keeps_at c h r w n (writing left last) unanswered o = same c h r w n (writing left last) o
 keeps_at c h r w n (writing left last) released o = same c h r w n (writing left last) o
 keeps_at c h r w n lingering closed o = ends c h r w n lingering o o.orderly.answered
@@ -462,12 +462,12 @@ keeps_at c h r w n lingering failed o = ends c h r w n lingering o o.orderly.ans
 keeps_at c h r w n lingering (came more) o = same c h r w n lingering o
 keeps_at c h r w n lingering taken o = same c h r w n lingering o
 keeps_at c h r w n lingering (replied reply last) o = same c h r w n lingering o
-keeps_at c h r w n lingering (deferred reply last mark) o = same c h r w n lingering o
+keeps_at c h r w n lingering (deferred reply last ticket) o = same c h r w n lingering o
 keeps_at c h r w n lingering unanswered o = same c h r w n lingering o
 keeps_at c h r w n lingering released o = same c h r w n lingering o
 keeps_at c h r w n lingering (wrote k) o = same c h r w n lingering o
 keeps_at c h r w n abandoned (replied reply last) o = ends c h r w n abandoned o (let a = o.orderly.answered in omega arith)
-keeps_at c h r w n abandoned (deferred reply last mark) o = ends c h r w n abandoned o (let a = o.orderly.answered in omega arith)
+keeps_at c h r w n abandoned (deferred reply last ticket) o = ends c h r w n abandoned o (let a = o.orderly.answered in omega arith)
 keeps_at c h r w n abandoned unanswered o = ends c h r w n abandoned o (let a = o.orderly.answered in omega arith)
 keeps_at c h r w n abandoned released o = same c h r w n abandoned o
 keeps_at c h r w n abandoned (came more) o = same c h r w n abandoned o
@@ -479,7 +479,7 @@ keeps_at c h r w n ended (came more) o = same c h r w n ended o
 keeps_at c h r w n ended closed o = same c h r w n ended o
 keeps_at c h r w n ended taken o = same c h r w n ended o
 keeps_at c h r w n ended (replied reply last) o = same c h r w n ended o
-keeps_at c h r w n ended (deferred reply last mark) o = same c h r w n ended o
+keeps_at c h r w n ended (deferred reply last ticket) o = same c h r w n ended o
 keeps_at c h r w n ended unanswered o = same c h r w n ended o
 keeps_at c h r w n ended released o = same c h r w n ended o
 keeps_at c h r w n ended (wrote k) o = same c h r w n ended o

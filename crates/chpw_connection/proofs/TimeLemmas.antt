@@ -12,7 +12,7 @@ has_time : (b : ConnectionLimits) (s : Stage) → is_timed s ≡ true → (most 
 has_time b (reading bytes) is = (b.idle, refl)
 has_time b (queued message) is = (b.wait, refl)
 has_time b (answering m) is = absurd cc
-has_time b (confirming reply last mark) is = absurd cc
+has_time b (confirming reply last ticket) is = absurd cc
 has_time b (writing left last) is = (b.idle, refl)
 has_time b lingering is = (b.linger, refl)
 has_time b abandoned is = absurd cc
@@ -22,7 +22,7 @@ timed_ends : (count : ℕ) (s : Stage) → is_timed s ≡ true → after count s
 timed_ends count (reading bytes) is = refl
 timed_ends count (queued message) is = refl
 timed_ends count (answering m) is = absurd cc
-timed_ends count (confirming reply last mark) is = absurd cc
+timed_ends count (confirming reply last ticket) is = absurd cc
 timed_ends count (writing left last) is = refl
 timed_ends count lingering is = refl
 timed_ends count abandoned is = absurd cc
@@ -52,18 +52,18 @@ all_end_in_time b c is = ends_in_time b c is (has_time b (stage c) is).0 (has_ti
 pub all_go_on_by_their_worker : AllGoOnByTheirWorker
 all_go_on_by_their_worker count (reading bytes) is = absurd cc
 all_go_on_by_their_worker count (queued message) is = absurd cc
-all_go_on_by_their_worker count (answering m) is = ((λ reply last. inl refl), (λ reply last mark. inr (inl refl)), inl refl)
-all_go_on_by_their_worker count (confirming reply last mark) is = absurd cc
+all_go_on_by_their_worker count (answering m) is = ((λ reply last. inl refl), (λ reply last ticket. inr (inl refl)), inl refl)
+all_go_on_by_their_worker count (confirming reply last ticket) is = absurd cc
 all_go_on_by_their_worker count (writing left last) is = absurd cc
 all_go_on_by_their_worker count lingering is = absurd cc
-all_go_on_by_their_worker count abandoned is = ((λ reply last. inr (inr refl)), (λ reply last mark. inr (inr refl)), inr (inr refl))
+all_go_on_by_their_worker count abandoned is = ((λ reply last. inr (inr refl)), (λ reply last ticket. inr (inr refl)), inr (inr refl))
 all_go_on_by_their_worker count ended is = absurd cc
 
 pub all_go_on_released : AllGoOnReleased
 all_go_on_released count (reading bytes) is = absurd cc
 all_go_on_released count (queued message) is = absurd cc
 all_go_on_released count (answering m) is = absurd cc
-all_go_on_released count (confirming reply last mark) is = refl
+all_go_on_released count (confirming reply last ticket) is = refl
 all_go_on_released count (writing left last) is = absurd cc
 all_go_on_released count lingering is = absurd cc
 all_go_on_released count abandoned is = absurd cc
@@ -73,7 +73,7 @@ pub none_stays : NoneStays
 none_stays (reading bytes) = inl refl
 none_stays (queued message) = inl refl
 none_stays (answering m) = inr (inl refl)
-none_stays (confirming reply last mark) = inr (inr (inl refl))
+none_stays (confirming reply last ticket) = inr (inr (inl refl))
 none_stays (writing left last) = inl refl
 none_stays lingering = inl refl
 none_stays abandoned = inr (inl refl)

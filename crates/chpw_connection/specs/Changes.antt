@@ -6,7 +6,7 @@ use Rattle.chpw_connection.specs.declared.change.Change.TheVariants as change
 
 abbrev pub event_of : Change → Event
 event_of (change.Answered reply last) = replied reply.items last
-event_of (change.Deferred reply last mark) = deferred reply.items last mark
+event_of (change.Deferred reply last ticket) = deferred reply.items last ticket
 event_of change.Released = released
 event_of change.Unanswered = unanswered
 event_of (change.Wrote count) = wrote count
@@ -16,5 +16,5 @@ event_of change.Failed = failed
 -- a reply is held until it is out; nothing else adds any
 abbrev pub added_by : Change → ℕ
 added_by (change.Answered reply last) = length reply.items
-added_by (change.Deferred reply last mark) = length reply.items
+added_by (change.Deferred reply last ticket) = length reply.items
 added_by other = 0

@@ -31,7 +31,7 @@ handed_by stage event = []
 -- the message that is being answered, with the reply that it brings
 abbrev pub turns_by : Stage → Event → List (List ℕ × List ℕ)
 turns_by (answering message) (replied reply last) = (message, reply) ∷ []
-turns_by (answering message) (deferred reply last mark) = (message, reply) ∷ []
+turns_by (answering message) (deferred reply last ticket) = (message, reply) ∷ []
 turns_by stage event = []
 
 -- the bytes that go out
@@ -68,7 +68,7 @@ IsHeld stage rest = rest ≡ []
 
 -- what was replied and isn't written: if the connection goes on, what it writes, and a reply that isn't confirmed
 abbrev pub IsLeft : Stage → List ℕ → Type 0
-IsLeft (confirming reply last mark) rest = rest ≡ reply
+IsLeft (confirming reply last ticket) rest = rest ≡ reply
 IsLeft (writing left last) rest = rest ≡ left
 IsLeft abandoned rest = Unit {0}
 IsLeft ended rest = Unit {0}

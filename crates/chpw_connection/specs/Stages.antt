@@ -7,9 +7,9 @@ use Rattle.chpw_connection.specs.declared.connection.Phase.TheVariants as phase
 use Rattle.chpw_connection.specs.declared.connection.Connection.{Connection}
 
 -- It reads these bytes of its next message; this message waits for a worker; a worker answers this message; this reply,
--- after which the connection ends or not, waits until the change with this
--- mark is confirmed; these bytes of its reply are left to write, after which the connection ends or not; its last reply is out; it is
--- gone while a worker still answers; it has ended
+-- after which the connection ends or not, waits until the change with this ticket is confirmed; these bytes of its reply
+-- are left to write, after which the connection ends or not; its last reply is out; it is gone while a worker still answers;
+-- it has ended
 pub data Stage : Type 0 where
   reading : List ℕ → Stage
   queued : List ℕ → Stage
@@ -21,7 +21,7 @@ pub data Stage : Type 0 where
   ended : Stage
 
 -- bytes came; its message went to a worker; the worker's reply, possibly the last, is to be written; it is to be
--- written once the change with this mark is confirmed; the worker has none; its change is confirmed, or no longer waited
+-- written once the change with this ticket is confirmed; the worker has none; its change is confirmed, or no longer waited
 -- for; this many bytes were written; the client closed its side, and all was read; it can't go on
 pub data Event : Type 0 where
   came : List ℕ → Event
@@ -62,17 +62,17 @@ after count (reading bytes) failed = ended
 after count (queued message) taken = answering message
 after count (queued message) failed = ended
 after count (answering message) (replied reply last) = writing reply (is_last_reply count last)
-after count (answering message) (deferred reply last mark) = confirming reply (is_last_reply count last) mark
+after count (answering message) (deferred reply last ticket) = confirming reply (is_last_reply count last) ticket
 after count (answering message) unanswered = lingering
 after count (answering message) failed = abandoned
-after count (confirming reply last mark) released = writing reply last
-after count (confirming reply last mark) failed = ended
+after count (confirming reply last ticket) released = writing reply last
+after count (confirming reply last ticket) failed = ended
 after count (writing left last) (wrote n) = written_to (drop n left) last
 after count (writing left last) failed = ended
 after count lingering closed = ended
 after count lingering failed = ended
 after count abandoned (replied reply last) = ended
-after count abandoned (deferred reply last mark) = ended
+after count abandoned (deferred reply last ticket) = ended
 after count abandoned unanswered = ended
 after count stage event = stage
 
@@ -89,7 +89,7 @@ left_of stage = []
 -- the replies after which it goes on
 abbrev pub count_after : ℕ → Stage → Event → ℕ
 count_after count (answering message) (replied reply last) = if is_last_reply count last then count else count + 1
-count_after count (answering message) (deferred reply last mark) = if is_last_reply count last then count else count + 1
+count_after count (answering message) (deferred reply last ticket) = if is_last_reply count last then count else count + 1
 count_after count stage event = count
 
 -- since when it waits: a message for its worker from its last byte on, a reply for its confirmation from when it was
@@ -98,9 +98,9 @@ abbrev pub since_after : ℕ → ℕ → Stage → Event → ℕ
 since_after now since (reading bytes) (came more) =
     if wanted_after (bytes ++ received bytes more) == 0 then now else since
 since_after now since (answering message) (replied reply last) = now
-since_after now since (answering message) (deferred reply last mark) = now
+since_after now since (answering message) (deferred reply last ticket) = now
 since_after now since (answering message) unanswered = now
-since_after now since (confirming reply last mark) released = now
+since_after now since (confirming reply last ticket) released = now
 since_after now since (writing left last) (wrote n) = if is_over (drop n left) then now else since
 since_after now since stage event = since
 
@@ -108,7 +108,7 @@ abbrev pub stage_of : Phase → Stage
 stage_of (phase.Reading incoming) = reading incoming.received.items
 stage_of (phase.Queued message) = queued message.bytes.items
 stage_of (phase.Answering message) = answering message.value.items
-stage_of (phase.Confirming waiting) = confirming waiting.reply.items waiting.is_last waiting.mark
+stage_of (phase.Confirming waiting) = confirming waiting.reply.items waiting.is_last waiting.ticket
 stage_of (phase.Writing outgoing) = writing (drop outgoing.written outgoing.reply.items) outgoing.is_last
 stage_of phase.Lingering = lingering
 stage_of phase.Abandoned = abandoned

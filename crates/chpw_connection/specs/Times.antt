@@ -10,7 +10,7 @@ use Rattle.chpw_connection.specs.Slot.{is_with_worker}
 -- the stage is timed: no worker has its message, its reply waits for no confirmation, and it hasn't ended
 abbrev pub is_timed : Stage → Bool
 is_timed (answering message) = false
-is_timed (confirming reply last mark) = false
+is_timed (confirming reply last ticket) = false
 is_timed abandoned = false
 is_timed ended = false
 is_timed s = true
@@ -34,7 +34,7 @@ GoesOn s = (is_timed s ≡ true) ⊎ (is_confirming s ≡ true) ⊎ (s ≡ ended
 abbrev pub AllGoOnByTheirWorker : Type 0
 AllGoOnByTheirWorker = (count : ℕ) (s : Stage) → is_with_worker s ≡ true
     → ((reply : List ℕ) (last : Bool) → GoesOn (after count s (replied reply last)))
-    × ((reply : List ℕ) (last : Bool) (mark : ℕ) → GoesOn (after count s (deferred reply last mark)))
+    × ((reply : List ℕ) (last : Bool) (ticket : ℕ) → GoesOn (after count s (deferred reply last ticket)))
     × GoesOn (after count s unanswered)
 
 -- one whose reply waits for a confirmation is timed once it is released

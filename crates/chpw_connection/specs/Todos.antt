@@ -13,7 +13,7 @@ todo_at lingering = todo.Linger
 todo_at ended = todo.Close
 todo_at (queued message) = todo.Wait
 todo_at (answering message) = todo.Wait
-todo_at (confirming reply last mark) = todo.Wait
+todo_at (confirming reply last ticket) = todo.Wait
 todo_at abandoned = todo.Wait
 
 abbrev pub todo_in : Option Connection → Todo

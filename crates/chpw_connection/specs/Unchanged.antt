@@ -5,7 +5,7 @@ use Rattle.chpw_connection.specs.Lives.{Life, accepted, behind, life}
 
 -- the stage it would have if its reply waited for nothing but its client
 abbrev pub settled : Stage → Stage
-settled (confirming reply last mark) = writing reply last
+settled (confirming reply last ticket) = writing reply last
 settled s = s
 
 abbrev pub settle : Life → Life
@@ -13,21 +13,21 @@ settle l = record { came = l.came; handed = l.handed; turns = l.turns; written =
 
 -- no deferred reply, and no release
 abbrev pub is_ordinary : Event → Bool
-is_ordinary (deferred reply last mark) = false
+is_ordinary (deferred reply last ticket) = false
 is_ordinary released = false
 is_ordinary event = true
 
 -- what a service that waits for no confirmation has instead of an event: of a deferred reply the same reply, to be
 -- written now
 abbrev pub ordinary : Event → List Event
-ordinary (deferred reply last mark) = replied reply last ∷ []
+ordinary (deferred reply last ticket) = replied reply last ∷ []
 ordinary released = []
 ordinary event = event ∷ []
 
 -- what it sees of an event: while a reply waits, nothing of its connection is read or written, and only its end is seen
 abbrev pub seen : Stage → Event → List Event
-seen (confirming reply last mark) failed = failed ∷ []
-seen (confirming reply last mark) event = []
+seen (confirming reply last ticket) failed = failed ∷ []
+seen (confirming reply last ticket) event = []
 seen s event = ordinary event
 
 abbrev pub seen_all : Life → List Event → List Event

@@ -17,12 +17,12 @@ pub enum Change {
         reply: Vec<u8>,
         is_last: bool,
     },
-    /// The worker's reply is to be written once the change with this mark is confirmed.
+    /// The worker's reply is to be written once the change with this ticket is confirmed.
     /// After the last one the connection ends.
     Deferred {
         reply: Vec<u8>,
         is_last: bool,
-        mark: u64,
+        ticket: u64,
     },
     /// The change of its reply is confirmed, or no longer waited for: the reply is to be written.
     Released,
@@ -49,8 +49,8 @@ impl Connection {
             Change::Deferred {
                 reply,
                 is_last,
-                mark,
-            } => self.defer(reply, is_last, mark, now),
+                ticket,
+            } => self.defer(reply, is_last, ticket, now),
             Change::Released => self.release(now),
             Change::Unanswered => self.leave_unanswered(now),
             Change::Wrote { count } => self.wrote(alloc, count, now),
@@ -79,10 +79,10 @@ impl Connection {
         }
     }
 
-    // The worker's reply is to be written once the change with this mark is confirmed.
+    // The worker's reply is to be written once the change with this ticket is confirmed.
     // After the last one the connection ends.
-    fn defer(&mut self, reply: Vec<u8>, is_last: bool, mark: u64, now: u64)
-        ensures goes { Goes now self.old self.new (deferred reply.items is_last mark) }
+    fn defer(&mut self, reply: Vec<u8>, is_last: bool, ticket: u64, now: u64)
+        ensures goes { Goes now self.old self.new (deferred reply.items is_last ticket) }
         ensures held { held_by self.new.phase ≤ held_by self.old.phase + length reply.items }
     {
         match self.phase {
@@ -92,7 +92,7 @@ impl Connection {
                 self.phase = Phase::Confirming(Deferred {
                     reply,
                     is_last,
-                    mark,
+                    ticket,
                 });
             }
             Phase::Abandoned => self.phase = Phase::Ended,

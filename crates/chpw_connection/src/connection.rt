@@ -63,8 +63,8 @@ pub struct Deferred {
     pub reply: Vec<u8>,
     /// Whether the connection ends after it.
     pub is_last: bool,
-    /// The mark of the change.
-    pub mark: u64,
+    /// The ticket of the change.
+    pub ticket: u64,
 }
 
 /// A reply, and how many of its bytes are out.
@@ -222,23 +222,23 @@ impl Connection {
         }
     }
 
-    /// Whether its reply waits for no later mark than this.
-    pub fn is_confirmed(&self, mark: u64) -> bool
-        ensures value { result ≡ is_confirmed_by mark (stage self.now) }
+    /// Whether its reply waits for no later ticket than this.
+    pub fn is_confirmed(&self, ticket: u64) -> bool
+        ensures value { result ≡ is_confirmed_by ticket (stage self.now) }
     {
         match &self.phase {
-            Phase::Confirming(deferred) => deferred.mark <= mark,
+            Phase::Confirming(deferred) => deferred.ticket <= ticket,
             _ => false,
         }
     }
 
-    /// The mark that its reply waits for, if it has waited for `wait` milliseconds.
+    /// The ticket that its reply waits for, if it has waited for `wait` milliseconds.
     pub fn overdue(&self, wait: u64, now: u64) -> Option<u64>
         ensures value { result ≡ overdue_in wait now (Some self.now) }
     {
         match &self.phase {
             Phase::Confirming(deferred) if now.saturating_sub(self.since) >= wait => {
-                Some(deferred.mark)
+                Some(deferred.ticket)
             }
             _ => None,
         }

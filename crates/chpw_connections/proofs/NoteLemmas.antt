@@ -104,7 +104,7 @@ late_goes : (b : ConnectionLimits) (s : Stage) (waited : ℕ) → is_late_at (ti
 late_goes b (reading bytes) waited is = refl
 late_goes b (queued message) waited is = refl
 late_goes b (answering m) waited is = absurd cc
-late_goes b (confirming reply last mark) waited is = absurd cc
+late_goes b (confirming reply last ticket) waited is = absurd cc
 late_goes b (writing left last) waited is = refl
 late_goes b lingering waited is = refl
 late_goes b abandoned waited is = absurd cc

@@ -47,9 +47,9 @@ slots_below test slots (suc n) = slots_below test slots n ++ slot_if (test (get 
 abbrev pub slots_where : (Option Connection → Bool) → Slab Connection → List ℕ
 slots_where test slots = slots_below test slots slots.capacity
 
--- the first slot whose reply has waited for this long for this mark
-pub record IsFirstOverdue (wait now : ℕ) (slots : Slab Connection) (mark slot : ℕ) : Type 0 where
-  pub overdue : overdue_in wait now (get slots slot) ≡ Some mark
+-- the first slot whose reply has waited for this long for this ticket
+pub record IsFirstOverdue (wait now : ℕ) (slots : Slab Connection) (ticket slot : ℕ) : Type 0 where
+  pub overdue : overdue_in wait now (get slots slot) ≡ Some ticket
   pub first : (other : ℕ) → other < slot → overdue_in wait now (get slots other) ≡ None
 
 -- it gave way, and was ended

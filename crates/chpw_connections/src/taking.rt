@@ -164,21 +164,28 @@ impl Connections {
         }
     }
 
-    /// A worker's reply to the message that it took, to be written once the change with this mark is confirmed
-    /// (`confirm`), or the reply has waited too long (`overdue`). After the last reply the
-    /// connection ends. Room is made for it as `answer` does; without room it isn't sent, and the connection ends. For
-    /// a connection that is gone no room is made: the reply is dropped.
+    /// A worker's reply to the message that it took, to be written once the change with this ticket is confirmed
+    /// (`confirm`), or the reply has waited too long (`overdue`, `drop_overdue`). After the last reply the connection
+    /// ends. Room is made for it as `answer` does; without room it isn't sent, and the connection ends. For a connection
+    /// that is gone no room is made: the reply is dropped.
     #[tactic(auto, using(crate::proofs::RoomLemmas::happens_with_room))]
-    pub fn defer(&mut self, taken: TakenMessage, reply: Vec<u8>, is_last: bool, mark: u64, now: u64)
+    pub fn defer(
+        &mut self,
+        taken: TakenMessage,
+        reply: Vec<u8>,
+        is_last: bool,
+        ticket: u64,
+        now: u64,
+    )
         ensures happens { HappensWithRoom (for_reply now) now (slots_of self.old) (slots_of self.new) (slot_of taken)
-            (deferred reply.items is_last mark)
+            (deferred reply.items is_last ticket)
             ⊎ HappensWithRoom (for_reply now) now (slots_of self.old) (slots_of self.new) (slot_of taken) unanswered }
         ensures enough { held_in (slots_of self.old) + length reply.items ≤ (bounds_of self.old).bytes
-            → Happens now (slots_of self.old) (slots_of self.new) (slot_of taken) (deferred reply.items is_last mark) }
+            → Happens now (slots_of self.old) (slots_of self.new) (slot_of taken) (deferred reply.items is_last ticket) }
         ensures sent { has_room_besides (bounds_of self.old).bytes (for_reply now) (slots_of self.old) (slot_of taken)
             (length reply.items) ≡ true
             → is_answering_in (get (slots_of self.old) (slot_of taken)) ≡ true
-            → HappensWithRoom (for_reply now) now (slots_of self.old) (slots_of self.new) (slot_of taken) (deferred reply.items is_last mark) }
+            → HappensWithRoom (for_reply now) now (slots_of self.old) (slots_of self.new) (slot_of taken) (deferred reply.items is_last ticket) }
         ensures too_much { has_room_besides (bounds_of self.old).bytes (for_reply now) (slots_of self.old) (slot_of taken)
             (length reply.items) ≡ false
             → Happens now (slots_of self.old) (slots_of self.new) (slot_of taken) unanswered }
@@ -203,7 +210,7 @@ impl Connections {
             let change = Change::Deferred {
                 reply,
                 is_last,
-                mark,
+                ticket,
             };
             self.slots.change(self.alloc, slot, change, now);
         } else {

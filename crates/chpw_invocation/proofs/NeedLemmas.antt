@@ -12,7 +12,7 @@ use Rattle.clap.specs.declared.parser.matches.ArgMatches.{ArgMatches}
 use Rattle.clap.specs.declared.parser.matches.ArgMatches.TheViews.{out-ArgMatches, out-SubCommand}
 use Rattle.clap.specs.declared.parser.matches.SubCommand.{SubCommand}
 use Rattle.clap.specs.Walk.{Row, Text, first_of, one_of, row_text}
-use Rattle.chpw_invocation.specs.Invocations.{AimsOld, HasTakenNumber, IsGiven}
+use Rattle.chpw_invocation.specs.Invocations.{AimsOld, HasTakenNumber, IsGiven, LacksKdc}
 use Rattle.chpw_invocation.specs.Needs.{Suits}
 use Rattle.chpw_invocation.specs.Options.{flag, may_be_numbered, numbered, required}
 
@@ -78,6 +78,11 @@ matched_as m name options named rows = go (out-ArgMatches m).subcommand named ro
 pub not_aimed : (options : List Row) (given : Bool) → Suits (filled (flag (codes "old"))) options → IsGiven options (codes "old") given → given ≡ false
     → AimsOld options → ⊥
 not_aimed options given suits is none aims = true≢false (given_once (codes "old") options true given suits aims.0 is ∙ none)
+
+-- a service whose KDC has to be in reach has the flag
+pub not_required : (options : List Row) (given : Bool) → Suits (filled (flag (codes "require-kdc"))) options
+    → IsGiven options (codes "require-kdc") given → given ≡ false → LacksKdc options → ⊥
+not_required options given suits is none lacks = true≢false (given_once (codes "require-kdc") options true given suits lacks.0 is ∙ none)
 
 -- the same, of a command that is known by name
 pub named_as : (m : ArgMatches) (name target : Text) (options : List Row) → Some name ≡ subcommand_name_of m

@@ -8,13 +8,13 @@ use Rattle.clap.specs.Simple.{filled}
 use Rattle.clap.specs.Walk.{Row, Text, first_of}
 use Rattle.chpw_invocation.specs.Controls.{takes_file}
 use Rattle.chpw_invocation.specs.Invocations.{AimsOld, HasNoPassword, HasTwoPasswords, IsGiven, IsOwnReason}
-use Rattle.chpw_invocation.specs.Invocations.{IsOwnRefusal, RefusesClient, RefusesControl, RefusesImport}
+use Rattle.chpw_invocation.specs.Invocations.{IsOwnRefusal, LacksKdc, RefusesClient, RefusesControl, RefusesImport, RefusesServe}
 use Rattle.chpw_invocation.specs.Needs.{IsSuited, Meets, Suits}
 use Rattle.chpw_invocation.specs.Options.{flag}
-use Rattle.chpw_invocation.specs.Program.{client}
+use Rattle.chpw_invocation.specs.Program.{client, serve}
 use Rattle.chpw_invocation.proofs.NeedLemmas.{not_aimed}
 use Rattle.chpw_invocation.specs.declared.refusing.Refusal.{Refusal}
-use Rattle.chpw_invocation.specs.declared.refusing.Refusal.TheVariants.{OldTarget, TwoPasswords, NoPassword, NoCommand, NoFile, SpareFile}
+use Rattle.chpw_invocation.specs.declared.refusing.Refusal.TheVariants.{OldTarget, TwoPasswords, NoPassword, NoCommand, NoFile, SpareFile, NoKdc, NoLimit}
 
 -- ---- a refusal is one of the command that is named
 
@@ -45,6 +45,18 @@ of_import options refusal (inr (inr (inr (inl r)))) = absurd (differ (codes "imp
 of_import options refusal (inr (inr (inr (inr (inl r))))) = r.1
 of_import options refusal (inr (inr (inr (inr (inr r))))) = absurd (differ (codes "import") (codes "key") refl r.0)
 
+of_serve : (options : List Row) (refusal : Refusal) → IsOwnRefusal (Some (codes "serve", options)) refusal → RefusesServe options refusal
+of_serve options refusal (inl r) = absurd (differ (codes "serve") (codes "client") refl r.0)
+of_serve options refusal (inr (inl r)) = absurd (differ (codes "serve") (codes "control") refl r.0)
+of_serve options refusal (inr (inr (inl r))) = absurd (differ (codes "serve") (codes "table") refl r.0)
+of_serve options refusal (inr (inr (inr (inl r)))) = r.1
+of_serve options refusal (inr (inr (inr (inr (inl r))))) = absurd (differ (codes "serve") (codes "import") refl r.0)
+of_serve options refusal (inr (inr (inr (inr (inr r))))) = absurd (differ (codes "serve") (codes "key") refl r.0)
+
+-- the flag of a service whose KDC has to be in reach is given once
+pub flag_suits : (options : List Row) → Meets serve options → Suits (filled (flag (codes "require-kdc"))) options
+flag_suits options whole = whole.1.1.1.1.1.1.1.1.1.1.1.1.1.0
+
 pub client_refused : (asked : Option (Text × List Row)) (options : List Row) (refusal : Refusal) → asked ≡ Some (codes "client", options)
     → (Suits (filled (flag (codes "old"))) options → (r : Refusal) → RefusesClient options r → RefusesClient options refusal)
     → IsSuited asked → IsOwnReason asked → IsOwnRefusal asked refusal
@@ -66,6 +78,24 @@ import_refused asked options refusal is why reason =
     let own : IsOwnReason (Some (codes "import", options)) = subst IsOwnReason is reason in
     subst (λ (o : Option (Text × List Row)). IsOwnRefusal o refusal) (sym is)
     (inr (inr (inr (inr (inl (refl, why own.0 (of_import options own.0 own.1)))))))
+
+pub serve_refused : (asked : Option (Text × List Row)) (options : List Row) (refusal : Refusal) → asked ≡ Some (codes "serve", options)
+    → (Suits (filled (flag (codes "require-kdc"))) options → (r : Refusal) → RefusesServe options r → RefusesServe options refusal)
+    → IsSuited asked → IsOwnReason asked → IsOwnRefusal asked refusal
+serve_refused asked options refusal is why suited reason =
+    let whole : Meets serve options = subst IsSuited is suited in
+    let own : IsOwnReason (Some (codes "serve", options)) = subst IsOwnReason is reason in
+    subst (λ (o : Option (Text × List Row)). IsOwnRefusal o refusal) (sym is)
+    (inr (inr (inr (inl (refl, why (flag_suits options whole) own.0 (of_serve options own.0 own.1))))))
+
+-- ---- why `serve` is refused
+
+pub lacking : (options : List Row) → LacksKdc options → RefusesServe options NoKdc
+lacking options lacks = inl (refl, lacks)
+
+pub unlimited : (options : List Row) → ¬ (LacksKdc options) → (refusal : Refusal) → RefusesServe options refusal → RefusesServe options NoLimit
+unlimited options other refusal (inl r) = absurd (other r.1)
+unlimited options other refusal (inr r) = inr (refl, r.1, r.2)
 
 -- ---- why `client` is refused
 

@@ -13,7 +13,7 @@ use Rattle.clap.specs.declared.error.Error.{Error}
 use Rattle.chpw_invocation.specs.Controls.{file_of, takes_file, word_of}
 use Rattle.chpw_invocation.specs.Refusals.{kind_for}
 use Rattle.chpw_invocation.specs.declared.refusing.Refusal.{Refusal}
-use Rattle.chpw_invocation.specs.declared.refusing.Refusal.TheVariants.{OldTarget, TwoPasswords, NoPassword, NoCommand}
+use Rattle.chpw_invocation.specs.declared.refusing.Refusal.TheVariants.{OldTarget, TwoPasswords, NoPassword, NoCommand, NoKdc}
 use Rattle.chpw_invocation.specs.declared.refusing.Refusal.TheVariants.{NoFile, SpareFile, NoForm, NoLimit, NoRealm, SpareSource, NoSource, SpareConfig}
 use Rattle.chpw_invocation.specs.declared.invocation.ClientOptions.{ClientOptions}
 use Rattle.chpw_invocation.specs.declared.invocation.ConnectionLimit.{ConnectionLimit}
@@ -140,6 +140,7 @@ pub record AsksServe (options : List Row) (asked : ServeOptions) : Type 0 where
   pub log : option_map (λ file. file.now) asked.log ≡ first_of (codes "log") options
   pub kdc : option_map (λ socket. socket.now) asked.kdc ≡ first_of (codes "kdc") options
   pub kdc_wait : HasNumberOr 2000 1 60000 options (codes "kdc-wait") asked.kdc_wait
+  pub require_kdc : IsGiven options (codes "require-kdc") asked.require_kdc
   pub control : option_map (λ socket. socket.now) asked.control ≡ first_of (codes "control") options
   pub udp : IsGiven options (codes "udp") asked.udp
   pub rfc3244_only : IsGiven options (codes "rfc3244-only") asked.rfc3244_only
@@ -252,15 +253,25 @@ RefusesImport options refusal =
     (first_of (codes "config") options)
     ≡ Some refusal
 
--- Why words in which clap finds no fault are refused: a refused client, control or import, a table in an unknown form, a
--- service without a number of connections or `unlimited`, or a password of a realm of 0 or more than 255 bytes.
+-- the KDC has to be in reach, and there is none
+abbrev pub LacksKdc : List Row → Type 0
+LacksKdc options = IsGiven options (codes "require-kdc") true × (first_of (codes "kdc") options ≡ None)
+
+-- Why a service isn't started: it lacks its KDC; otherwise a number of connections or `unlimited`.
+abbrev pub RefusesServe : List Row → Refusal → Type 0
+RefusesServe options refusal =
+    ((refusal ≡ NoKdc) × LacksKdc options)
+    ⊎ ((refusal ≡ NoLimit) × LacksLimit options × ¬ (LacksKdc options))
+
+-- Why words in which clap finds no fault are refused: a refused client, control, import or service, a table in an unknown
+-- form, or a password of a realm of 0 or more than 255 bytes.
 abbrev pub IsOwnRefusal : Option (Text × List Row) → Refusal → Type 0
 IsOwnRefusal None refusal = ⊥
 IsOwnRefusal (Some p) refusal =
     ((p.0 ≡ codes "client") × RefusesClient p.1 refusal)
     ⊎ (((p.0 ≡ codes "control") × RefusesControl p.1 refusal)
     ⊎ (((p.0 ≡ codes "table") × (refusal ≡ NoForm) × (form_asked p.1 ≡ None))
-    ⊎ (((p.0 ≡ codes "serve") × (refusal ≡ NoLimit) × LacksLimit p.1)
+    ⊎ (((p.0 ≡ codes "serve") × RefusesServe p.1 refusal)
     ⊎ (((p.0 ≡ codes "import") × RefusesImport p.1 refusal)
     ⊎ ((p.0 ≡ codes "key") × (refusal ≡ NoRealm) × LacksRealm p.1)))))
 

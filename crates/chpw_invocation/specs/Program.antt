@@ -60,7 +60,7 @@ key = command (codes "key")
 
 -- serve --config FILE --journal FILE --seed FILE --port N --workers N --connections N [--idle SECONDS]
 -- [--clients N] [--buffers MEBIBYTES] [--raise COUNT] [--log FILE] [--kdc SOCKET] [--kdc-wait MILLISECONDS]
--- [--control SOCKET] [--udp] [--rfc3244-only] [--strict-messages] [--strict-modes]
+-- [--require-kdc] [--control SOCKET] [--udp] [--rfc3244-only] [--strict-messages] [--strict-modes]
 abbrev pub serve : Shape
 serve = command (codes "serve")
     (required (codes "config")
@@ -76,6 +76,7 @@ serve = command (codes "serve")
     ∷ optional (codes "log")
     ∷ optional (codes "kdc")
     ∷ kdc_wait
+    ∷ flag (codes "require-kdc")
     ∷ optional (codes "control")
     ∷ flag (codes "udp")
     ∷ flag (codes "rfc3244-only")

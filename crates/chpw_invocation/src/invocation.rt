@@ -121,6 +121,8 @@ pub struct ServeOptions<'a> {
     /// How many milliseconds the reply to a change waits for the KDC, 1 to [`LONGEST_KDC_WAIT`]; default
     /// [`USUAL_KDC_WAIT`].
     pub kdc_wait: u32,
+    /// Whether requests are decided only while the KDC gets each change within that time.
+    pub require_kdc: bool,
     /// The path of the control socket, if there is one.
     pub control: Option<&'a str>,
     /// Whether messages are accepted over UDP too.

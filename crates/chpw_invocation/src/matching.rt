@@ -13,7 +13,7 @@ ghost use Rattle.chpw_invocation.specs.Invocations.{HasPassword, HasRealm, HasTa
 ghost use Rattle.chpw_invocation.specs.Invocations.{HasTwoPasswords, IsGiven, IsInFile, IsOwnReason, IsRefusal};
 ghost use Rattle.chpw_invocation.specs.Invocations.{HasLimit, IsLimit, LacksGiven, LacksLimit, LacksNumber, LacksRealm};
 ghost use Rattle.chpw_invocation.specs.Invocations.{MayHaveNumber};
-ghost use Rattle.chpw_invocation.specs.Invocations.{RefusesClient, RefusesControl, RefusesImport, form_asked, form_of_name};
+ghost use Rattle.chpw_invocation.specs.Invocations.{RefusesClient, RefusesControl, RefusesImport, RefusesServe, form_asked, form_of_name};
 ghost use Rattle.chpw_invocation.specs.Controls as controls;
 ghost use Rattle.chpw_invocation.specs.Controls.{file_of, word_of};
 
@@ -25,7 +25,7 @@ use crate::invocation::{
     USUAL_KDC_WAIT, USUAL_KVNO,
 };
 use crate::program::program as new_program;
-use crate::refusing::{Refusal, import_refusal, refusal_of};
+use crate::refusing::{Refusal, import_refusal, lacks_kdc, refusal_of};
 use clap::{ArgMatches, Error};
 use std::alloc::Global;
 
@@ -168,8 +168,20 @@ fn realm_of<'a>(options: &ArgMatches<'a>) -> Option<&'a str>
     Some(realm)
 }
 
-#[tactic(auto, using(crate::proofs::NeedLemmas::required_there))]
 fn serve_of<'a>(options: &ArgMatches<'a>) -> Option<Invocation<'a>>
+    ensures asked { IfSome result (AsksFor (Some (codes "serve", rows_of (found_of options.now)))) }
+    ensures none { Meets specs_of.serve (rows_of (found_of options.now)) → result ≡ None
+        → (refusal : Refusal) × RefusesServe (rows_of (found_of options.now)) refusal }
+{
+    if lacks_kdc(options) {
+        return None;
+    }
+    service_of(options)
+}
+
+// A service whose options agree.
+#[tactic(auto, using(crate::proofs::NeedLemmas::required_there))]
+fn service_of<'a>(options: &ArgMatches<'a>) -> Option<Invocation<'a>>
     ensures asked { IfSome result (AsksFor (Some (codes "serve", rows_of (found_of options.now)))) }
     ensures none { Meets specs_of.serve (rows_of (found_of options.now)) → result ≡ None
         → LacksLimit (rows_of (found_of options.now)) }
@@ -188,6 +200,7 @@ fn serve_of<'a>(options: &ArgMatches<'a>) -> Option<Invocation<'a>>
         log: text_of(options, "log"),
         kdc: text_of(options, "kdc"),
         kdc_wait: kdc_wait_of(options)?,
+        require_kdc: is_given(options, "require-kdc"),
         control: text_of(options, "control"),
         udp: is_given(options, "udp"),
         rfc3244_only: is_given(options, "rfc3244-only"),

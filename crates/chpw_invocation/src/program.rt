@@ -85,7 +85,9 @@ leaves no room, those connections end whose message or reply has been on its way
 With --kdc SOCKET it asks the agent at the KDC's database to write each new key there, and takes users
 and passwords from there. The reply to a change waits until the KDC has the new key, so that a client
 can use its new password at once. If the agent doesn't answer within --kdc-wait, the reply is sent
-anyway, and the log says so.
+anyway, and the log says so. With --require-kdc such a reply isn't sent, and its connection ends; and
+while there is no connection to the agent, or a key has been on its way for longer, each request is
+answered code 2, error 60, 'KDC out of reach', and isn't decided.
 
 With --raise COUNT it first prints the result: 'raised COUNT', 'count not higher', 'journal failed' or
 'history full'. It serves after each of them.
@@ -121,6 +123,9 @@ const KDC_HELP: &str =
 
 const KDC_WAIT_HELP: &str =
     "How many milliseconds a reply waits for the KDC at most, 1 to 60000 [default: 2000]";
+
+const REQUIRE_KDC_HELP: &str =
+    "Refuse requests while the KDC doesn't get changes within --kdc-wait";
 
 const CONTROL_HELP: &str = "Accept commands of 'control' at this socket [default: none]";
 
@@ -330,6 +335,7 @@ fn serve<'a>(alloc: Global) -> Result<Command<'a>, AllocError>
         optional("log", "FILE", LOG_HELP),
         optional("kdc", "SOCKET", KDC_HELP),
         optional_number("kdc-wait", "MILLISECONDS", LONGEST_KDC_WAIT, KDC_WAIT_HELP),
+        flag("require-kdc", REQUIRE_KDC_HELP),
         optional("control", "SOCKET", CONTROL_HELP),
         flag("udp", UDP_HELP),
         flag("rfc3244-only", RFC3244_ONLY_HELP),

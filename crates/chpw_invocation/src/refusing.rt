@@ -4,7 +4,7 @@ ghost use Rattle.clap.specs.Simple.{filled};
 ghost use Rattle.clap.specs.Words.{first_of, found_of, rows_of, subcommand_rows_of};
 ghost use Rattle.chpw_invocation.specs.Controls as controls;
 ghost use Rattle.chpw_invocation.specs.Invocations.{AimsOld, IsOwnReason, IsOwnRefusal, RefusesClient, RefusesControl};
-ghost use Rattle.chpw_invocation.specs.Invocations.{RefusesImport, import_refusal, is_realm};
+ghost use Rattle.chpw_invocation.specs.Invocations.{LacksKdc, RefusesImport, RefusesServe, import_refusal, is_realm};
 ghost use Rattle.chpw_invocation.specs.Needs.{IsSuited, Suits};
 ghost use Rattle.chpw_invocation.specs.Options.{flag};
 ghost use Rattle.chpw_invocation.specs.Refusals.{kind_for, text_for};
@@ -33,6 +33,8 @@ pub(crate) enum Refusal {
     NoForm,
     /// `serve` has a value of `--connections` that is neither a number from 1 to 4,294,967,295 nor `unlimited`.
     NoLimit,
+    /// `serve` requires the KDC to be in reach, and has none.
+    NoKdc,
     /// The realm is empty or has more than 255 bytes.
     NoRealm,
     /// `import` has a KDC, and a keytab or its realm.
@@ -51,7 +53,7 @@ impl Refusal {
         match self {
             Refusal::OldTarget | Refusal::TwoPasswords => ErrorKind::ArgumentConflict,
             Refusal::SpareSource | Refusal::SpareConfig => ErrorKind::ArgumentConflict,
-            Refusal::NoPassword | Refusal::NoFile | Refusal::NoSource => {
+            Refusal::NoPassword | Refusal::NoFile | Refusal::NoSource | Refusal::NoKdc => {
                 ErrorKind::MissingRequiredArgument
             }
             Refusal::NoCommand | Refusal::NoForm | Refusal::NoLimit | Refusal::NoRealm => {
@@ -82,6 +84,7 @@ impl Refusal {
             Refusal::NoLimit => {
                 "a value for '--connections <N>' is a number from 1 to 4294967295, or unlimited"
             }
+            Refusal::NoKdc => "the argument '--require-kdc' requires '--kdc <SOCKET>'",
             Refusal::NoRealm => "a value for '--realm <REALM>' has 1 to 255 bytes",
             Refusal::SpareSource => {
                 "the argument '--kdc <SOCKET>' cannot be used with '--keytab <FILE>' or '--realm <REALM>'"
@@ -109,7 +112,7 @@ pub(crate) fn refusal_of(matches: &ArgMatches<'_>) -> Refusal
         "control" => control_refusal(options),
         "import" => refusal_of_import(options),
         "table" => Refusal::NoForm,
-        "serve" => Refusal::NoLimit,
+        "serve" => refusal_of_serve(options),
         _ => Refusal::NoRealm,
     }
 }
@@ -142,6 +145,28 @@ fn control_refusal(options: &ArgMatches<'_>) -> Refusal
             Some(false) => Refusal::SpareFile,
         },
     }
+}
+
+// Why `serve` is refused.
+fn refusal_of_serve(options: &ArgMatches<'_>) -> Refusal
+    ensures why { Suits (filled (flag (codes "require-kdc"))) (rows_of (found_of options.now))
+        → (refusal : Refusal) → RefusesServe (rows_of (found_of options.now)) refusal
+        → RefusesServe (rows_of (found_of options.now)) result }
+{
+    if lacks_kdc(options) {
+        Refusal::NoKdc
+    } else {
+        Refusal::NoLimit
+    }
+}
+
+/// Whether the KDC has to be in reach, and there is none.
+pub(crate) fn lacks_kdc(options: &ArgMatches<'_>) -> bool
+    ensures lacks { result ≡ true → LacksKdc (rows_of (found_of options.now)) }
+    ensures own { Suits (filled (flag (codes "require-kdc"))) (rows_of (found_of options.now)) → result ≡ false
+        → LacksKdc (rows_of (found_of options.now)) → ⊥ }
+{
+    is_given(options, "require-kdc") && text_of(options, "kdc").is_none()
 }
 
 // Why `import` is refused.

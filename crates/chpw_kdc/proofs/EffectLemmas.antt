@@ -42,13 +42,13 @@ Said ours s a (update.Remove name) = (a ≡ answer.None name) × IsAskedFor s na
 abbrev pub Brings : (Name → Bool) → State → Answer → State → Type 0
 Brings ours s a t = (t.updates ≡ s.updates) ⊎ ((u : KdcUpdate) × Said ours s a u × (t.updates ≡ s.updates ++ u ∷ []))
 
-abbrev pub internal : Name → KeyRow → Put
-internal name key = record { name = name; key = key; ticket = None }
+abbrev pub internal : ℕ → Name → KeyRow → Put
+internal since name key = record { name = name; key = key; ticket = None; since = since }
 
 -- no put more, or the mirror's key of a name
 abbrev pub PutsRight : State → State → Type 0
 PutsRight s t =
-    (t.puts ≡ s.puts) ⊎ ((name : Name) × (held : KeyRow) × (key_of s.mirror name ≡ Some held) × (t.puts ≡ s.puts ++ internal name held ∷ []))
+    (t.puts ≡ s.puts) ⊎ ((name : Name) × (held : KeyRow) × (key_of s.mirror name ≡ Some held) × (t.puts ≡ s.puts ++ internal s.pace.began name held ∷ []))
 
 abbrev pub Waits : State → State → Type 0
 Waits s t = PutsRight s t × (t.confirmed ≡ s.confirmed) × ((t.asked ≡ None) ⊎ (t.asked ≡ s.asked))
@@ -236,10 +236,10 @@ lifts ours s name kvno key true is first test =
     )
 
 -- what a put does to the rest of the puts, if none came with the answer
-put_done : (ours : Name → Bool) (s t u : State) (a : Answer) (name : Name) (key : KeyRow)
+put_done : (written : Bool) (ours : Name → Bool) (s t u : State) (a : Answer) (name : Name) (key : KeyRow)
     → (t.mirror ≡ s.mirror) → (t.issued ≡ s.issued) → Brings ours s a t → (t.puts ≡ s.puts) → (t.confirmed ≡ s.confirmed)
-    → s.asked ≡ Some (asked.Put key) → is_put_for s.puts name ≡ true → Settles a name key → settled t ≡ u → Effect ours s a u
-put_done ours s t u a name key m i b p c is first settles e =
+    → s.asked ≡ Some (asked.Put key) → is_put_for s.puts name ≡ true → Settles a name key → settled written t ≡ u → Effect ours s a u
+put_done written ours s t u a name key m i b p c is first settles e =
     subst (λ (v : State). Effect ours s a v) e
     (m, i, b, inr (name, key, is, first, settles, ap without_first p, ap (λ (n : ℕ). confirmed_with n t.puts) c ∙ ap (confirmed_with s.confirmed) p, refl))
 
@@ -258,27 +258,28 @@ of_a_put : (ours : Name → Bool) (now : ℕ) (s t : State) (key : KeyRow) (a : 
 of_a_put ours now s t key (answer.Put name kvno) is h = by_name (is_put_for s.puts name) refl h
   where
     by_version : (b : Bool) → nat_lt kvno key.kvno ≡ b → is_put_for s.puts name ≡ true
-        → (if b then Err fault.LowerVersion else Ok (settled (accepted name (lifted name key.kvno kvno s)))) ≡ Ok t → Effect ours s (answer.Put name kvno) t
+        → (if b then Err fault.LowerVersion else Ok (settled true (accepted name (lifted name key.kvno kvno s)))) ≡ Ok t
+        → Effect ours s (answer.Put name kvno) t
     by_version b lower first g =
         let f = from_test b _ _ t g in
         let c = lifts ours s name kvno key _ is first refl in
-        put_done ours s (accepted name (lifted name key.kvno kvno s)) t (answer.Put name kvno) name key c.0 c.1 c.2
+        put_done true ours s (accepted name (lifted name key.kvno kvno s)) t (answer.Put name kvno) name key c.0 c.1 c.2
         (lifted_puts name key.kvno kvno s) c.4 is first
         (refl, not_lower kvno key.kvno (lower ∙ f.0)) f.1
 
     by_name : (b : Bool) → is_put_for s.puts name ≡ b
         → (if not b then Err fault.OtherName else if nat_lt kvno key.kvno then Err fault.LowerVersion
-        else Ok (settled (accepted name (lifted name key.kvno kvno s)))) ≡ Ok t
+        else Ok (settled true (accepted name (lifted name key.kvno kvno s)))) ≡ Ok t
         → Effect ours s (answer.Put name kvno) t
     by_name true first g = by_version (nat_lt kvno key.kvno) refl first g
     by_name false first g = absurd cc
 of_a_put ours now s t key (answer.None name) is h =
     let n = from_named (is_put_for s.puts name) _ t h in
-    put_done ours s (with_update (update.Remove name) s) t (answer.None name) name key refl refl
+    put_done false ours s (with_update (update.Remove name) s) t (answer.None name) name key refl refl
     (inr (update.Remove name, (refl, inr (key, is, n.0)), refl)) refl refl is n.0 refl n.1
 of_a_put ours now s t key (answer.Refused name why) is h =
     let n = from_named (is_put_for s.puts name) _ t h in
-    put_done ours s (refused name why s) t (answer.Refused name why) name key refl refl (inl refl) refl refl is n.0 refl n.1
+    put_done false ours s (refused name why s) t (answer.Refused name why) name key refl refl (inl refl) refl refl is n.0 refl n.1
 of_a_put ours now s t key (answer.Failed name text) is h =
     subst (λ (u : State). Effect ours s (answer.Failed name text) u) (from_named (is_put_for s.puts name) _ t h).1
     (refl, refl, inl refl, inl (inl refl, refl, inl refl))

@@ -123,7 +123,7 @@ grounded_behind : (start : ℕ) (done : List Event) (s : State) (e : Event) → 
     → AllGrounded start (done ++ e ∷ []) (behind s e).updates
 grounded_behind start done s (holds name key) is all = all_on start done s (holds name key) s.updates is tt all
 grounded_behind start done s (holds_none name) is all = all_on start done s (holds_none name) s.updates is tt all
-grounded_behind start done s (wants name key) is all = all_on start done s (wants name key) s.updates is tt all
+grounded_behind start done s (wants now name key) is all = all_on start done s (wants now name key) s.updates is tt all
 grounded_behind start done s loses_want is all = all_on start done s loses_want s.updates is tt all
 grounded_behind start done s wants_comparison is all = all_on start done s wants_comparison s.updates is tt all
 grounded_behind start done s (connects now) is all = tt
@@ -210,7 +210,7 @@ put_gets key now s t (answer.Put name kvno) h = by_name (is_put_for s.puts name)
   where
     by_name : (b : Bool)
         → (if not b then Err fault.OtherName else if nat_lt kvno key.kvno then Err fault.LowerVersion
-        else Ok (settled (accepted name (lifted name key.kvno kvno s)))) ≡ Ok t
+        else Ok (settled true (accepted name (lifted name key.kvno kvno s)))) ≡ Ok t
         → AsksFew s t
     by_name true g =
         subst (AsksFew s) (from_test (nat_lt kvno key.kvno) _ _ t g).1
@@ -259,7 +259,7 @@ take_gets s (u ∷ us) = refl
 pub few_are_asked : FewAreAsked
 few_are_asked s (holds name key) = inl refl
 few_are_asked s (holds_none name) = inl refl
-few_are_asked s (wants name key) = inl refl
+few_are_asked s (wants now name key) = inl refl
 few_are_asked s loses_want = inl refl
 few_are_asked s wants_comparison = inl refl
 few_are_asked s (connects now) = inr (inr (inl refl))

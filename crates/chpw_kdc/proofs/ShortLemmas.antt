@@ -78,7 +78,7 @@ few_names s t keys names (inr (inr (inr lacked))) = subst AllNames (sym lacked.0
 
 told_of : (e : Event) → IsTakenIn e → (n : Name) (k : KeyRow) → Tells e n k → IsSayableKey n k
 told_of (holds name key) taken n k t = subst (λ (m : Name). IsSayableKey m k) t.0 (subst (λ (l : KeyRow). IsSayableKey name l) t.1 taken)
-told_of (wants name key) taken n k t = subst (λ (m : Name). IsSayableKey m k) t.0 (subst (λ (l : KeyRow). IsSayableKey name l) t.1 taken)
+told_of (wants now name key) taken n k t = subst (λ (m : Name). IsSayableKey m k) t.0 (subst (λ (l : KeyRow). IsSayableKey name l) t.1 taken)
 told_of (holds_none name) taken n k t = absurd t
 told_of loses_want taken n k t = absurd t
 told_of wants_comparison taken n k t = absurd t

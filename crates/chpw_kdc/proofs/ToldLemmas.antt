@@ -63,7 +63,9 @@ take_keeps Q s (u ∷ us) k = record { mirror = k.mirror; puts = k.puts }
 
 right_keeps : (Q : Name → KeyRow → Type 0) (s t : State) → Keeps Q s → PutsRight s t → AllPuts Q t.puts
 right_keeps Q s t k (inl same) = subst (AllPuts Q) (sym same) k.puts
-right_keeps Q s t k (inr p) = subst (AllPuts Q) (sym p.3) (of_one_more Q s.puts (internal p.0 p.1) k.puts (of_found Q s.mirror p.0 p.1 k.mirror p.2))
+right_keeps Q s t k (inr p) =
+    subst (AllPuts Q) (sym p.3)
+    (of_one_more Q s.puts (internal s.pace.began p.0 p.1) k.puts (of_found Q s.mirror p.0 p.1 k.mirror p.2))
 
 heard_keeps : (Q : Name → KeyRow → Type 0) (ours : Name → Bool) (s t : State) (byte : ℕ) → Keeps Q s → IsHeard ours s byte t → Keeps Q t
 heard_keeps Q ours s t byte k (inl e) = subst (Keeps Q) e (record { mirror = k.mirror; puts = k.puts })
@@ -79,9 +81,9 @@ heard_keeps Q ours s t byte k (inr h) = record {
 pub kept_behind : (Q : Name → KeyRow → Type 0) (s : State) (e : Event) → ((n : Name) (k : KeyRow) → Tells e n k → Q n k) → Keeps Q s → Keeps Q (behind s e)
 kept_behind Q s (holds name key) told k = record { mirror = of_told Q s.mirror name key k.mirror (told name key (refl, refl)); puts = k.puts }
 kept_behind Q s (holds_none name) told k = record { mirror = of_without Q s.mirror name k.mirror; puts = k.puts }
-kept_behind Q s (wants name key) told k = record {
+kept_behind Q s (wants now name key) told k = record {
   mirror = of_told Q s.mirror name key k.mirror (told name key (refl, refl));
-  puts = of_one_more Q s.puts (ticketed name key (s.issued + 1)) k.puts (told name key (refl, refl));
+  puts = of_one_more Q s.puts (ticketed now name key (s.issued + 1)) k.puts (told name key (refl, refl));
 }
 kept_behind Q s loses_want told k = record { mirror = k.mirror; puts = k.puts }
 kept_behind Q s wants_comparison told k = record { mirror = k.mirror; puts = k.puts }

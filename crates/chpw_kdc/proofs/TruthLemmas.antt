@@ -39,13 +39,14 @@ abbrev IsRun : ℕ → List Put → ℕ → Type 0
 IsRun low [] high = low ≡ high
 IsRun low (p ∷ ps) high = IsNext low p.ticket × IsRun (ticket_or low p.ticket) ps high
 
-run_want : (low high : ℕ) (ps : List Put) (name : Name) (key : KeyRow) → IsRun low ps high → IsRun low (ps ++ ticketed name key (high + 1) ∷ []) (high + 1)
-run_want low high [] name key r = (ap (λ (n : ℕ). n + 1) (sym r), refl)
-run_want low high (p ∷ ps) name key r = (r.0, run_want (ticket_or low p.ticket) high ps name key r.1)
+run_want : (low high now : ℕ) (ps : List Put) (name : Name) (key : KeyRow) → IsRun low ps high
+    → IsRun low (ps ++ ticketed now name key (high + 1) ∷ []) (high + 1)
+run_want low high now [] name key r = (ap (λ (n : ℕ). n + 1) (sym r), refl)
+run_want low high now (p ∷ ps) name key r = (r.0, run_want (ticket_or low p.ticket) high now ps name key r.1)
 
-run_internal : (low high : ℕ) (ps : List Put) (name : Name) (key : KeyRow) → IsRun low ps high → IsRun low (ps ++ internal name key ∷ []) high
-run_internal low high [] name key r = (tt, r)
-run_internal low high (p ∷ ps) name key r = (r.0, run_internal (ticket_or low p.ticket) high ps name key r.1)
+run_internal : (low high since : ℕ) (ps : List Put) (name : Name) (key : KeyRow) → IsRun low ps high → IsRun low (ps ++ internal since name key ∷ []) high
+run_internal low high since [] name key r = (tt, r)
+run_internal low high since (p ∷ ps) name key r = (r.0, run_internal (ticket_or low p.ticket) high since ps name key r.1)
 
 run_later : (low high : ℕ) (o : Option ℕ) (ps : List Put) → IsNext low o → IsRun (ticket_or low o) ps high → IsRun (later_ticket low o) ps high
 run_later low high None ps n r = r
@@ -61,8 +62,9 @@ run_popped low high (p ∷ ps) r = run_later low high p.ticket ps r.0 r.1
 
 record WasWanted (start : ℕ) (events : List Event) (ticket : ℕ) (name : Name) (key : KeyRow) : Type 0 where
   before : List Event
+  wanted_at : ℕ
   later : List Event
-  parts : events ≡ before ++ wants name key ∷ later
+  parts : events ≡ before ++ wants wanted_at name key ∷ later
   issued : (state_after start before).issued + 1 ≡ ticket
 
 abbrev TicketWanted : ℕ → List Event → Option ℕ → Name → KeyRow → Type 0
@@ -78,8 +80,9 @@ wanted_on : (start : ℕ) (events : List Event) (e : Event) (o : Option ℕ) (na
 wanted_on start events e None name key w = tt
 wanted_on start events e (Some t) name key w = record {
   before = w.before;
+  wanted_at = w.wanted_at;
   later = w.later ++ e ∷ [];
-  parts = ap (λ (xs : List Event). xs ++ e ∷ []) w.parts ∙ append_assoc w.before (wants name key ∷ w.later) (e ∷ []);
+  parts = ap (λ (xs : List Event). xs ++ e ∷ []) w.parts ∙ append_assoc w.before (wants w.wanted_at name key ∷ w.later) (e ∷ []);
   issued = w.issued;
 }
 
@@ -131,6 +134,7 @@ record Holds (start : ℕ) (events : List Event) (c : ℕ) (ps : List Put) (i : 
 confirmed_on : (start : ℕ) (events : List Event) (e : Event) (t : ℕ) → IsConfirmed start events t → IsConfirmed start (events ++ e ∷ []) t
 confirmed_on start events e t c = record {
   before = c.before;
+  wanted_at = c.wanted_at;
   name = c.name;
   key = c.key;
   between = c.between;
@@ -139,8 +143,8 @@ confirmed_on start events e t c = record {
   later = c.later ++ e ∷ [];
   parts =
       ap (λ (xs : List Event). xs ++ e ∷ []) c.parts
-      ∙ append_assoc c.before (wants c.name c.key ∷ (c.between ++ hears c.ours c.now 10 ∷ c.later)) (e ∷ [])
-      ∙ ap (λ (xs : List Event). c.before ++ wants c.name c.key ∷ xs) (append_assoc c.between (hears c.ours c.now 10 ∷ c.later) (e ∷ []));
+      ∙ append_assoc c.before (wants c.wanted_at c.name c.key ∷ (c.between ++ hears c.ours c.now 10 ∷ c.later)) (e ∷ [])
+      ∙ ap (λ (xs : List Event). c.before ++ wants c.wanted_at c.name c.key ∷ xs) (append_assoc c.between (hears c.ours c.now 10 ∷ c.later) (e ∷ []));
   issued = c.issued;
   answered = c.answered;
 }
@@ -158,15 +162,15 @@ on start events e c ps i o h = record {
 unasked : (start : ℕ) (events : List Event) (c : ℕ) (ps : List Put) (i : ℕ) (o : Option Asked) → Holds start events c ps i o → Holds start events c ps i None
 unasked start events c ps i o h = record { tickets = h.tickets; wanted = h.wanted; first = tt; confirmed = h.confirmed }
 
-wanted_more : (start : ℕ) (done : List Event) (s : State) (name : Name) (key : KeyRow) → s ≡ state_after start done
+wanted_more : (start : ℕ) (done : List Event) (s : State) (now : ℕ) (name : Name) (key : KeyRow) → s ≡ state_after start done
     → Holds start done s.confirmed s.puts s.issued s.asked
-    → Holds start (done ++ wants name key ∷ []) s.confirmed (s.puts ++ ticketed name key (s.issued + 1) ∷ []) (s.issued + 1) s.asked
-wanted_more start done s name key is h =
-    let k = on start done (wants name key) s.confirmed s.puts s.issued s.asked h in record {
-      tickets = run_want s.confirmed s.issued s.puts name key h.tickets;
-      wanted = all_more start (done ++ wants name key ∷ []) s.puts (ticketed name key (s.issued + 1)) k.wanted
-          (record { before = done; later = []; parts = refl; issued = ap (λ (t : State). t.issued + 1) (sym is) });
-      first = first_more s.asked s.puts (ticketed name key (s.issued + 1)) h.first;
+    → Holds start (done ++ wants now name key ∷ []) s.confirmed (s.puts ++ ticketed now name key (s.issued + 1) ∷ []) (s.issued + 1) s.asked
+wanted_more start done s now name key is h =
+    let k = on start done (wants now name key) s.confirmed s.puts s.issued s.asked h in record {
+      tickets = run_want s.confirmed s.issued now s.puts name key h.tickets;
+      wanted = all_more start (done ++ wants now name key ∷ []) s.puts (ticketed now name key (s.issued + 1)) k.wanted
+          (record { before = done; wanted_at = now; later = []; parts = refl; issued = ap (λ (t : State). t.issued + 1) (sym is) });
+      first = first_more s.asked s.puts (ticketed now name key (s.issued + 1)) h.first;
       confirmed = k.confirmed;
     }
 
@@ -175,9 +179,9 @@ right_more : (start : ℕ) (events : List Event) (s t : State) → Holds start e
 right_more start events s t h (inl same) = subst (λ (ps : List Put). Holds start events s.confirmed ps s.issued s.asked) (sym same) h
 right_more start events s t h (inr p) =
     subst (λ (ps : List Put). Holds start events s.confirmed ps s.issued s.asked) (sym p.3) (record {
-      tickets = run_internal s.confirmed s.issued s.puts p.0 p.1 h.tickets;
-      wanted = all_more start events s.puts (internal p.0 p.1) h.wanted tt;
-      first = first_more s.asked s.puts (internal p.0 p.1) h.first;
+      tickets = run_internal s.confirmed s.issued s.pace.began s.puts p.0 p.1 h.tickets;
+      wanted = all_more start events s.puts (internal s.pace.began p.0 p.1) h.wanted tt;
+      first = first_more s.asked s.puts (internal s.pace.began p.0 p.1) h.first;
       confirmed = h.confirmed;
     })
 
@@ -208,6 +212,7 @@ confirmed_now : (start : ℕ) (done : List Event) (s : State) (ours : Name → B
     → IsConfirmed start (done ++ hears ours now 10 ∷ []) ticket
 confirmed_now start done s ours now ticket p is w answered = record {
   before = w.before;
+  wanted_at = w.wanted_at;
   name = p.name;
   key = p.key;
   between = w.later;
@@ -216,7 +221,7 @@ confirmed_now start done s ours now ticket p is w answered = record {
   later = [];
   parts =
       ap (λ (xs : List Event). xs ++ hears ours now 10 ∷ []) w.parts
-      ∙ append_assoc w.before (wants p.name p.key ∷ w.later) (hears ours now 10 ∷ []);
+      ∙ append_assoc w.before (wants w.wanted_at p.name p.key ∷ w.later) (hears ours now 10 ∷ []);
   issued = w.issued;
   answered = subst (λ (t : State). IsAnswered t p.name p.key) (is ∙ ap (λ (xs : List Event). state_after start xs) w.parts) answered;
 }
@@ -305,7 +310,7 @@ holds_behind : (start : ℕ) (done : List Event) (s : State) (e : Event) → s �
     → Always start (done ++ e ∷ []) (behind s e)
 holds_behind start done s (holds name key) is h = on start done (holds name key) s.confirmed s.puts s.issued s.asked h
 holds_behind start done s (holds_none name) is h = on start done (holds_none name) s.confirmed s.puts s.issued s.asked h
-holds_behind start done s (wants name key) is h = wanted_more start done s name key is h
+holds_behind start done s (wants now name key) is h = wanted_more start done s now name key is h
 holds_behind start done s loses_want is h = on start done loses_want s.confirmed s.puts s.issued s.asked h
 holds_behind start done s wants_comparison is h = on start done wants_comparison s.confirmed s.puts s.issued s.asked h
 holds_behind start done s (connects now) is h =
@@ -365,7 +370,7 @@ take_grows s (u ∷ us) = omega arith
 grows : (s : State) (e : Event) → s.confirmed ≤ (behind s e).confirmed
 grows s (holds name key) = omega arith
 grows s (holds_none name) = omega arith
-grows s (wants name key) = omega arith
+grows s (wants now name key) = omega arith
 grows s loses_want = omega arith
 grows s wants_comparison = omega arith
 grows s (connects now) = omega arith

@@ -34,7 +34,7 @@ abbrev pub with_update : KdcUpdate → State → State
 with_update u s = record s { updates = s.updates ++ u ∷ [] }
 
 abbrev pub with_put : Name → KeyRow → State → State
-with_put name key s = record s { puts = s.puts ++ record { name = name; key = key; ticket = None } ∷ [] }
+with_put name key s = record s { puts = s.puts ++ record { name = name; key = key; ticket = None; since = s.pace.began } ∷ [] }
 
 abbrev pub after_judgement : Name → Judgement → State → State
 after_judgement name judged.Leave s = s
@@ -146,8 +146,9 @@ confirmed_with confirmed (p ∷ ps) = later_ticket confirmed p.ticket
 abbrev pub popped : State → State
 popped s = record s { puts = without_first s.puts; confirmed = confirmed_with s.confirmed s.puts }
 
-abbrev pub settled : State → State
-settled s = succeeded (popped s)
+-- the answer says whether the KDC has its key
+abbrev pub settled : Bool → State → State
+settled written s = succeeded (record (popped s) { written = written })
 
 abbrev pub has_version : Option KeyRow → ℕ → Bool
 has_version None kvno = false
@@ -165,9 +166,9 @@ abbrev pub of_put : KeyRow → ℕ → State → Answer → Result State Protoco
 of_put key now s (answer.Put name kvno) =
     if not (is_put_for s.puts name) then Err fault.OtherName
     else if nat_lt kvno key.kvno then Err fault.LowerVersion
-    else Ok (settled (accepted name (lifted name key.kvno kvno s)))
-of_put key now s (answer.None name) = if_named (is_put_for s.puts name) (settled (with_update (update.Remove name) s))
-of_put key now s (answer.Refused name why) = if_named (is_put_for s.puts name) (settled (refused name why s))
+    else Ok (settled true (accepted name (lifted name key.kvno kvno s)))
+of_put key now s (answer.None name) = if_named (is_put_for s.puts name) (settled false (with_update (update.Remove name) s))
+of_put key now s (answer.Refused name why) = if_named (is_put_for s.puts name) (settled false (refused name why s))
 of_put key now s (answer.Failed name text) = if_named (is_put_for s.puts name) (retried text now s)
 of_put key now s a = Err fault.OutOfTurn
 

@@ -1,6 +1,6 @@
 -- What the service says to the agent at the KDC's database: what is kept, and what happens to it when the service tells it
 -- something.
-use Rattle.std.specs.Prelude.{ℕ, ◌+◌, ◌-◌, ◌^◌, min, Bool, ◌&&◌, ◌==◌, is_some, is_none, nat_le, if◌then◌else◌, List, [], ◌∷◌}
+use Rattle.std.specs.Prelude.{ℕ, ◌+◌, ◌-◌, ◌^◌, min, Bool, true, false, not, ◌&&◌, ◌==◌, is_some, is_none, nat_le, if◌then◌else◌, List, [], ◌∷◌}
 use Rattle.std.specs.Prelude.{◌++◌, length, Option, Some, None}
 use Rattle.chpw_rules.specs.declared.name.Name.{Name}
 use Rattle.chpw_record.specs.declared.key.KeyRow.{KeyRow}
@@ -11,11 +11,12 @@ use Rattle.chpw_kdc.specs.declared.put.Asked.TheVariants as asked
 use Rattle.chpw_kdc.specs.declared.update.KdcUpdate.{KdcUpdate}
 use Rattle.chpw_kdc.specs.Lines.{Request, list_keys, get, put}
 use Rattle.chpw_kdc.specs.Mirrors.{Mirror, told, newest, without}
-use Rattle.chpw_kdc.specs.Paces.{pace_at_start, pace_connected, pace_lost, pace_awaiting, pace_begun, pace_due, may_ask}
+use Rattle.chpw_kdc.specs.Paces.{pace_at_start, pace_connected, pace_lost, pace_awaiting, pace_begun, pace_due, may_ask, later}
 use Rattle.chpw_kdc.specs.Tellings.{Tellings, nothing_told, after_lost_change, after_notice}
 
 -- The mirror; the keys that the KDC is to get, the first of which may be under way; the last ticket that was given, and the
--- last that is confirmed; the request under way, and the beginning of a line of its answer; the names that the list under way
+-- last that is confirmed; whether the KDC has the key whose put was answered last; the request under way, and the beginning
+-- of a line of its answer; the names that the list under way
 -- has named, and those that the last list lacked and that are asked for alone; what the desk is to be asked, and how much it
 -- was asked and hasn't decided.
 pub record State : Type 0 where
@@ -23,6 +24,7 @@ pub record State : Type 0 where
   pub puts : List Put
   pub issued : ℕ
   pub confirmed : ℕ
+  pub written : Bool
   pub asked : Option Asked
   pub heard : List ℕ
   pub listed : List Name
@@ -38,6 +40,7 @@ at_start now = record {
   puts = [];
   issued = 0;
   confirmed = 0;
+  written = true;
   asked = None;
   heard = [];
   listed = [];
@@ -58,14 +61,14 @@ after_hold name key s = record s { mirror = told s.mirror name key }
 abbrev pub after_none : Name → State → State
 after_none name s = record s { mirror = without s.mirror name }
 
-abbrev pub ticketed : Name → KeyRow → ℕ → Put
-ticketed name key ticket = record { name = name; key = key; ticket = Some ticket }
+abbrev pub ticketed : ℕ → Name → KeyRow → ℕ → Put
+ticketed now name key ticket = record { name = name; key = key; ticket = Some ticket; since = now }
 
 -- a change was accepted, and gets the next ticket
-abbrev pub after_want : Name → KeyRow → State → State
-after_want name key s = record s {
+abbrev pub after_want : ℕ → Name → KeyRow → State → State
+after_want now name key s = record s {
   mirror = told s.mirror name key;
-  puts = s.puts ++ ticketed name key (s.issued + 1) ∷ [];
+  puts = s.puts ++ ticketed now name key (s.issued + 1) ∷ [];
   issued = s.issued + 1;
 }
 
@@ -144,6 +147,16 @@ is_late now s = is_some s.asked && nat_le s.pace.late_at now
 
 abbrev pub after_tick : ℕ → State → State
 after_tick now s = if is_late now s then after_loss now s else s
+
+-- ---- whether changes reach the KDC in time
+
+-- the key that it gets next has been on its way for so long
+abbrev pub is_late_put : ℕ → ℕ → List Put → Bool
+is_late_put wait now [] = false
+is_late_put wait now (p ∷ ps) = nat_le (later p.since wait) now
+
+abbrev pub is_in_reach : ℕ → ℕ → State → Bool
+is_in_reach wait now s = s.pace.connected && not (is_late_put wait now s.puts)
 
 -- ---- the desk, and what is told
 

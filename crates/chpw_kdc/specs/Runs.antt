@@ -26,7 +26,7 @@ use Rattle.chpw_kdc.specs.Answering.{after_byte, after_bytes, is_first, is_put_f
 pub data Event : Type 0 where
   holds : Name → KeyRow → Event
   holds_none : Name → Event
-  wants : Name → KeyRow → Event
+  wants : ℕ → Name → KeyRow → Event
   loses_want : Event
   wants_comparison : Event
   connects : ℕ → Event
@@ -46,7 +46,7 @@ or_lost now s (Err why) = after_loss now s
 abbrev pub behind : State → Event → State
 behind s (holds name key) = after_hold name key s
 behind s (holds_none name) = after_none name s
-behind s (wants name key) = after_want name key s
+behind s (wants now name key) = after_want now name key s
 behind s loses_want = after_lost_want s
 behind s wants_comparison = after_want_comparison s
 behind s (connects now) = after_connect now s
@@ -79,7 +79,7 @@ Piecewise =
 -- this event tells the key of the name
 abbrev pub Tells : Event → Name → KeyRow → Type 0
 Tells (holds n k) name key = (n ≡ name) × (k ≡ key)
-Tells (wants n k) name key = (n ≡ name) × (k ≡ key)
+Tells (wants now n k) name key = (n ≡ name) × (k ≡ key)
 Tells e name key = ⊥
 
 pub record IsTold (events : List Event) (name : Name) (key : KeyRow) : Type 0 where
@@ -117,15 +117,16 @@ pub record IsAnswered (s : State) (name : Name) (key : KeyRow) : Type 0 where
 -- a change got this ticket, and later its put, or one of a later version, was answered by a whole line
 pub record IsConfirmed (start : ℕ) (events : List Event) (ticket : ℕ) : Type 0 where
   pub before : List Event
+  pub wanted_at : ℕ
   pub name : Name
   pub key : KeyRow
   pub between : List Event
   pub ours : Name → Bool
   pub now : ℕ
   pub later : List Event
-  pub parts : events ≡ before ++ wants name key ∷ (between ++ hears ours now 10 ∷ later)
+  pub parts : events ≡ before ++ wants wanted_at name key ∷ (between ++ hears ours now 10 ∷ later)
   pub issued : (state_after start before).issued + 1 ≡ ticket
-  pub answered : IsAnswered (state_after start (before ++ wants name key ∷ between)) name key
+  pub answered : IsAnswered (state_after start (before ++ wants wanted_at name key ∷ between)) name key
 
 -- a ticket is confirmed only so
 abbrev pub Truthful : Type 0
@@ -241,7 +242,7 @@ IsSayableKey name key = (is_sayable name ≡ true) × (key.kvno < 2 ^ 32) × (le
 -- `hold` and `want` let no other name in
 abbrev pub IsTakenIn : Event → Type 0
 IsTakenIn (holds name key) = IsSayableKey name key
-IsTakenIn (wants name key) = IsSayableKey name key
+IsTakenIn (wants now name key) = IsSayableKey name key
 IsTakenIn e = Unit {0}
 
 -- no request has more than 1,024 bytes

@@ -84,6 +84,7 @@ impl KdcDialog {
                 name,
                 key,
                 ticket: None,
+                since: self.pace.began,
             })?,
         }
         Ok(())

@@ -5,7 +5,7 @@ ghost use Rattle.chpw_kdc.specs.Lines.{is_sayable};
 ghost use Rattle.chpw_kdc.specs.Mirrors.{key_of, newest};
 ghost use Rattle.chpw_kdc.specs.Dialogs.{at_start, after_hold, after_none, after_want, after_want_comparison, after_lost_want};
 ghost use Rattle.chpw_kdc.specs.Dialogs.{forgotten, after_connect, after_loss, first_update, after_take, after_decision};
-ghost use Rattle.chpw_kdc.specs.Dialogs.{after_telling};
+ghost use Rattle.chpw_kdc.specs.Dialogs.{after_telling, is_in_reach};
 ghost use Rattle.chpw_kdc.specs.Tellings.{next_notice};
 ghost use Rattle.chpw_kdc.specs.declared.fault.HoldFault.TheVariants.{LongName, Memory};
 
@@ -37,6 +37,8 @@ pub struct KdcDialog {
     pub(crate) issued: u64,
     // The last ticket that is confirmed, with all before it.
     pub(crate) confirmed: u64,
+    // Whether the KDC has the key whose put was answered last.
+    pub(crate) written: bool,
     pub(crate) asked: Option<Asked>,
     // The beginning of a line.
     pub(crate) heard: Vec<u8>,
@@ -62,6 +64,7 @@ impl Model for KdcDialog {
       puts = d.puts.items;
       issued = d.issued;
       confirmed = d.confirmed;
+      written = d.written;
       asked = d.asked;
       heard = d.heard.items;
       listed = d.listed.keys;
@@ -97,6 +100,7 @@ impl KdcDialog {
             puts: VecDeque::new(alloc),
             issued: 0,
             confirmed: 0,
+            written: true,
             asked: None,
             heard: Vec::new(alloc),
             listed: BTreeSet::new(alloc),
@@ -158,8 +162,8 @@ impl KdcDialog {
     ///
     /// Refused with nothing changed as `LongName`, `NoTicket` or `Memory`. After `Memory` the caller hands the key to
     /// `hold`, which takes no memory for a name that the mirror has, and calls `want_lost`; there is no ticket then.
-    pub fn want(&mut self, name: Name, key: KeyRow) -> Result<u64, HoldFault>
-        ensures step { OnOk result (self.new ≡ after_want name key self.old) }
+    pub fn want(&mut self, name: Name, key: KeyRow, now: u64) -> Result<u64, HoldFault>
+        ensures step { OnOk result (self.new ≡ after_want now name key self.old) }
         ensures ticket { IfOk result (λ ticket. ticket ≡ self.old.issued + 1) }
         ensures unchanged { OnErr result (self.new ≡ self.old) }
         ensures sayable { OnOk result (is_sayable name ≡ true) }
@@ -179,6 +183,7 @@ impl KdcDialog {
             name,
             key,
             ticket: Some(ticket),
+            since: now,
         });
         self.issued = ticket;
         Ok(ticket)
@@ -207,6 +212,13 @@ impl KdcDialog {
         self.confirmed
     }
 
+    /// Whether the KDC has the key whose put was answered last: not if the agent refused it, or the KDC has no such name.
+    pub fn is_written(&self) -> bool
+        ensures value { result ≡ self.now.written }
+    {
+        self.written
+    }
+
     /// How many keys are on their way to the KDC.
     pub fn behind(&self) -> usize
         ensures value { result ≡ length self.now.puts }
@@ -226,6 +238,18 @@ impl KdcDialog {
         ensures value { result ≡ self.now.pace.connected }
     {
         self.pace.connected
+    }
+
+    /// Whether the KDC has changes in time: there is a connection, and the key that it gets next has been on its way for
+    /// less than `wait`.
+    pub fn is_in_reach(&self, wait: u64, now: u64) -> bool
+        ensures value { result ≡ is_in_reach wait now self.now }
+    {
+        let is_late = match self.puts.front() {
+            None => false,
+            Some(put) => put.since.saturating_add(wait) <= now,
+        };
+        self.pace.connected && !is_late
     }
 
     /// Whether the agent is to be called now: there is no connection, and the pause since the last one is over.

@@ -10,6 +10,8 @@ pub(crate) struct Put {
     pub key: KeyRow,
     // That of the change which it comes from; none if it comes from a comparison.
     pub ticket: Option<u64>,
+    // Since when it is: when the change came, or when the comparison began.
+    pub since: u64,
 }
 
 /// The request under way.

@@ -26,7 +26,7 @@ impl KdcDialog {
         ensures fault { IfErr result (IsFault (of_put key now self.old answer)) }
         ensures lost { OnErr result (SameLost self.old self.new) }
     {
-        match answer {
+        let is_written = match answer {
             Answer::Put { name, kvno } => {
                 self.is_put_for(&name)?;
                 if kvno < key.kvno {
@@ -34,14 +34,17 @@ impl KdcDialog {
                 }
                 self.lift(&name, key.kvno, kvno)?;
                 self.tellings.accept(&name);
+                true
             }
             Answer::None { name } => {
                 self.is_put_for(&name)?;
                 self.updates.push_back(KdcUpdate::Remove { name })?;
+                false
             }
             Answer::Refused { name, reason } => {
                 self.is_put_for(&name)?;
                 self.tellings.refuse(name, reason)?;
+                false
             }
             Answer::Failed { name, text } => {
                 self.is_put_for(&name)?;
@@ -49,8 +52,8 @@ impl KdcDialog {
                 return Ok(());
             }
             _ => return Err(ProtocolFault::OutOfTurn),
-        }
-        self.settle();
+        };
+        self.settle(is_written);
         self.succeed();
         Ok(())
     }
@@ -90,10 +93,11 @@ impl KdcDialog {
         }
     }
 
-    // The first put is done with. Its ticket is confirmed.
-    fn settle(&mut self)
-        ensures step { self.new ≡ popped self.old }
+    // The first put is done with; whether the KDC has its key. Its ticket is confirmed.
+    fn settle(&mut self, is_written: bool)
+        ensures step { self.new ≡ record (popped self.old) { written = is_written } }
     {
+        self.written = is_written;
         if let Some(put) = self.puts.pop_front() {
             if let Some(ticket) = put.ticket {
                 self.confirmed = self.confirmed.max(ticket);

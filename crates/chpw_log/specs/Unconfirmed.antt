@@ -8,11 +8,11 @@ use Rattle.chpw_log.specs.Moments.{moment_text}
 
 -- the change of this number since the service started
 abbrev pub unconfirmed_words : ℕ → List ℕ
-unconfirmed_words mark = codes "not confirmed by the KDC: change " ++ decimal mark
+unconfirmed_words ticket = codes "not confirmed by the KDC: change " ++ decimal ticket
 
 -- the peer whose reply it was; the change itself has a line of its own before it
 abbrev pub unconfirmed_fields : Moment → List ℕ → ℕ → List (List ℕ)
-unconfirmed_fields moment peer mark =
+unconfirmed_fields moment peer ticket =
     moment_text moment
     ∷ codes "worker" ∷ codes "-"
     ∷ codes "peer" ∷ address_text peer
@@ -21,7 +21,7 @@ unconfirmed_fields moment peer mark =
     ∷ codes "code" ∷ codes "-"
     ∷ codes "error" ∷ codes "-"
     ∷ codes "kvno" ∷ codes "-"
-    ∷ codes "text" ∷ unconfirmed_words mark ∷ []
+    ∷ codes "text" ∷ unconfirmed_words ticket ∷ []
 
 abbrev pub unconfirmed_line : Moment → List ℕ → ℕ → List ℕ
-unconfirmed_line moment peer mark = join_with_byte 32 (unconfirmed_fields moment peer mark) ++ codes "\n"
+unconfirmed_line moment peer ticket = join_with_byte 32 (unconfirmed_fields moment peer ticket) ++ codes "\n"

@@ -13,25 +13,25 @@ use chpw_printing::put_number;
 use chpw_table::Moment;
 use std::alloc::{AllocError, Global};
 
-/// The line that says that the reply to a change was sent to this peer before the KDC had confirmed it, the `mark`-th
+/// The line that says that the reply to a change was sent to this peer before the KDC had confirmed it, the `ticket`-th
 /// since the service started; with its newline. It has the fields of every line, with `-` for all
 /// but the moment, the peer and the text.
 pub fn write_unconfirmed(
     alloc: Global,
     moment: Moment,
     peer: [u8; 4],
-    mark: u64,
+    ticket: u64,
 ) -> Result<Vec<u8>, AllocError>
     requires moment { IsMoment moment }
     requires micros { moment.micros < 1000000 }
-    ensures value { IfOk result (λ text. text.items ≡ unconfirmed_line moment peer mark) }
-    ensures fields { IfOk result (λ _. are_fields (unconfirmed_fields moment peer mark) ≡ true) }
+    ensures value { IfOk result (λ text. text.items ≡ unconfirmed_line moment peer ticket) }
+    ensures fields { IfOk result (λ _. are_fields (unconfirmed_fields moment peer ticket) ≡ true) }
     ensures record { IfOk result (λ text. IsRecord text.items) }
 {
     let mut text = Vec::new(alloc);
     put_start(&mut text, moment, peer)?;
     text.extend_from_slice(b" client - target - code - error - kvno - text ")?;
-    put_mark(&mut text, mark)?;
+    put_ticket(&mut text, ticket)?;
     text.push(b'\n')?;
     Ok(text)
 }
@@ -51,11 +51,11 @@ fn put_start(text: &mut Vec<u8>, moment: Moment, peer: [u8; 4]) -> Result<(), Al
 }
 
 // Adds which change isn't confirmed, in words.
-fn put_mark(text: &mut Vec<u8>, mark: u64) -> Result<(), AllocError>
-    ensures value { OnOk result (text.new.items ≡ text.old.items ++ unconfirmed_words mark) }
-    ensures printed { OnOk result (are_printed (unconfirmed_words mark) ≡ true) }
+fn put_ticket(text: &mut Vec<u8>, ticket: u64) -> Result<(), AllocError>
+    ensures value { OnOk result (text.new.items ≡ text.old.items ++ unconfirmed_words ticket) }
+    ensures printed { OnOk result (are_printed (unconfirmed_words ticket) ≡ true) }
 {
     text.extend_from_slice(b"not confirmed by the KDC: change ")?;
-    put_number(text, mark)?;
+    put_number(text, ticket)?;
     Ok(())
 }

@@ -13,7 +13,7 @@ notice_line (JournalFailed journal) =
 notice_line OutputLost = codes "standard output: a line was lost; further losses are not reported"
 notice_line (Expired count) = codes "messages dropped after waiting 5 seconds for a worker: " ++ decimal count
 notice_line (Unconfirmed socket) =
-    socket.now ++ codes ": a change was answered before the KDC had it; more are not reported until one is confirmed"
+    socket.now ++ codes ": the KDC did not have a change in time; more are not reported until one is confirmed"
 notice_line (KdcDown socket) = socket.now ++ codes ": no connection to the KDC's agent; it is tried again"
 notice_line (KdcMisspoken socket) = socket.now ++ codes ": the KDC's agent said what it may not; it is called again"
 notice_line (KdcRefused socket refusal) = socket.now ++ (codes ": the KDC's agent refuses " ++ refusal.now)

@@ -224,14 +224,14 @@ impl<R: Wait + Eprint> Log<'_, R> {
         }
     }
 
-    /// Appends the line of a change that was answered, to this peer, before the KDC had confirmed it: the `mark`-th since the
+    /// Appends the line of a change that was answered, to this peer, before the KDC had confirmed it: the `ticket`-th since the
     /// service started.
-    pub fn put_unconfirmed(&self, now: Moment, peer: [u8; 4], mark: u64)
+    pub fn put_unconfirmed(&self, now: Moment, peer: [u8; 4], ticket: u64)
         requires moment { IsMoment now }
         requires micros { now.micros < 1000000 }
     {
         if let Some(book) = &self.book {
-            self.put_text(book, write_unconfirmed(self.alloc, now, peer, mark));
+            self.put_text(book, write_unconfirmed(self.alloc, now, peer, ticket));
         }
     }
 

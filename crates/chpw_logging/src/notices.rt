@@ -68,7 +68,7 @@ impl fmt::Display for Notice<'_> {
             Notice::Unconfirmed(socket) => {
                 write!(
                     f,
-                    "{socket}: a change was answered before the KDC had it; more are not reported until one is confirmed"
+                    "{socket}: the KDC did not have a change in time; more are not reported until one is confirmed"
                 )
             }
             Notice::KdcDown(socket) => {

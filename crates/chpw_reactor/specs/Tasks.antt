@@ -25,11 +25,12 @@ table_update (said.Remove name) = table.Remove name
 abbrev pub update_for : ℕ → State → Option Said
 update_for worker s = if is_update_next worker s then option_and_then (λ k. first_update k.updates) s.kdc else None
 
--- a task is a message, or what the KDC says next
-abbrev pub IsTaskOf : Option Said → Task → Type 0
-IsTaskOf said (task.Message taken) = Unit {0}
-IsTaskOf None (task.Update u) = ⊥
-IsTaskOf (Some s) (task.Update u) = u.update ≡ table_update s
+-- a task is a message, to be decided or not, or what the KDC says next
+abbrev pub IsTaskOf : Option Said → Bool → Task → Type 0
+IsTaskOf said decides (task.Message taken) = decides ≡ true
+IsTaskOf said decides (task.Undecided taken) = decides ≡ false
+IsTaskOf None decides (task.Update u) = ⊥
+IsTaskOf (Some s) decides (task.Update u) = u.update ≡ table_update s
 
 -- another try may take it: the next history has room, or there may be memory
 abbrev pub may_be_taken_later : Result UpdateVerdict DeskUpdateFault → Bool

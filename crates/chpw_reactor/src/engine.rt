@@ -123,7 +123,7 @@ impl Engine {
         let now = milliseconds(rt);
         let mut hub = self.hub.lock(rt);
         match turn {
-            WorkerTurn::Message(turn) => hub.answer(turn, now),
+            WorkerTurn::Message(turn) | WorkerTurn::Undecided(turn) => hub.answer(turn, now),
             WorkerTurn::Update(turn) => note_update(&mut hub.state, turn),
         }
         let is_left = hub.state.wants_reactor();
@@ -150,6 +150,11 @@ impl Engine {
         for came in &self.came {
             came.notify_one();
         }
+    }
+
+    /// From now on requests are decided only while the KDC gets each change within so many milliseconds.
+    pub fn require_kdc<R: Wait>(&self, rt: &R, reach: u64) {
+        self.hub.lock(rt).state.reach = Some(reach);
     }
 
     /// From now on the workers take messages, and orders are carried out.

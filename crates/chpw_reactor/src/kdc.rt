@@ -24,7 +24,8 @@ pub trait KdcTerms: IsOurs {
     /// The agent has refused something, or something else is to be told once.
     fn tell(&mut self, notice: Notice);
 
-    /// The reply to this change is sent although the agent hasn't confirmed it.
+    /// The reply to this change has waited as long as it may, and the agent hasn't confirmed it: it is sent so, or dropped if
+    /// the KDC has to be in reach.
     fn unconfirmed(&mut self, change: Unconfirmed);
 }
 

@@ -204,7 +204,7 @@ impl<
         self.looked = now;
         self.port.is_due = true;
         self.entrance.pass(now);
-        self.release_overdue();
+        self.end_overdue();
         let had = self.pass(now);
         self.look_round(registry, had.is_any());
     }

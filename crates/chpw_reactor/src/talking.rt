@@ -82,7 +82,7 @@ impl<
     F: KdcTerms + Drop,
 > Reactor<'a, R, L, F> {
     /// Reads what the agent sent, calls it if there is no connection, asks it what is to be asked, tells what is to be told,
-    /// wakes the worker for which there is something, and releases the replies that have waited long enough.
+    /// wakes the worker for which there is something, and ends the wait of replies that have waited long enough.
     pub fn talk(&mut self, registry: &Registry) {
         if self.link.is_reported {
             self.link.is_reported = false;
@@ -96,14 +96,23 @@ impl<
         self.tell_notices();
         self.wake_clerk();
         if self.engine.hub.lock(self.rt).state.has_waiting() {
-            self.release_overdue();
+            self.end_overdue();
         }
     }
 
-    /// Releases the replies that have waited as long as they may.
-    pub fn release_overdue(&mut self) {
+    /// Ends the wait of the replies that have waited as long as they may, and reports that they are unconfirmed.
+    pub fn end_overdue(&mut self)
+        ensures kept { self.new.link.stream ≡ self.old.link.stream }
+    {
         let wait = self.link.terms.wait();
-        self.release(wait);
+        let now = milliseconds(self.rt);
+        for _ in 0..self.clients {
+            let ended = self.engine.hub.lock(self.rt).state.end_overdue(wait, now);
+            match ended {
+                None => return,
+                Some(change) => self.link.terms.unconfirmed(change),
+            }
+        }
     }
 
     // Whether the agent is to be called.
@@ -238,26 +247,6 @@ impl<
             }
         }
         self.link.terms.lost(fault);
-    }
-
-    // Releases replies that have waited this long, and reports that they are unconfirmed.
-    fn release(&mut self, wait: u64)
-        ensures kept { self.new.link.stream ≡ self.old.link.stream }
-    {
-        let now = milliseconds(self.rt);
-        for _ in 0..self.clients {
-            let released = self
-                .engine
-                .hub
-                .lock(self.rt)
-                .state
-                .connections
-                .overdue(wait, now);
-            match released {
-                None => return,
-                Some(change) => self.link.terms.unconfirmed(change),
-            }
-        }
     }
 }
 

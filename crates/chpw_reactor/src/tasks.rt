@@ -1,7 +1,7 @@
 //! What a worker is given to do, and what is noted of it.
-ghost use Rattle.std.specs.Prelude.{◌≡◌, IfSome, Some};
+ghost use Rattle.std.specs.Prelude.{◌≡◌, Bool, IfSome, Some};
 ghost use Rattle.chpw_table.specs.Updates.{name_in};
-ghost use Rattle.chpw_transfers.specs.Kdc.{IsDecided};
+ghost use Rattle.chpw_transfers.specs.Kdc.{IsDecided, is_deciding};
 ghost use Rattle.chpw_reactor.specs.Tasks.{IsTaskOf, may_be_taken_later, table_update, update_for};
 
 use chpw_book::DeskUpdateFault;
@@ -10,22 +10,24 @@ use chpw_table::{KdcUpdate, UpdateVerdict};
 use chpw_transfers::State;
 use chpw_workers::{FittingUpdate, Task, UpdateTurn};
 
-/// The next task of a worker. The clerk takes what the KDC says and messages in turn.
+/// The next task of a worker. The clerk takes what the KDC says and messages in turn. While the KDC has to be in reach and
+/// isn't, no message is decided.
 pub(crate) fn next_task(state: &mut State, worker: usize, now: u64) -> Option<Task>
-    ensures update { IfSome result (IsTaskOf (update_for worker state.old)) }
+    ensures task { IfSome result (IsTaskOf (update_for worker state.old) (is_deciding now state.old.reach state.old.kdc)) }
 {
     if let Some(update) = state.take_update(worker) {
         return update_task(update);
     }
     match state.take(worker, now) {
-        Some(taken) => Some(Task::Message(taken)),
+        Some(taken) if state.is_deciding(now) => Some(Task::Message(taken)),
+        Some(taken) => Some(Task::Undecided(taken)),
         None => None,
     }
 }
 
 // An update as a task; none if it isn't within the limits, which the agent's lines are.
 fn update_task(update: chpw_kdc::KdcUpdate) -> Option<Task>
-    ensures update { IfSome result (IsTaskOf (Some update)) }
+    ensures update { (decides : Bool) → IfSome result (IsTaskOf (Some update) decides) }
 {
     match FittingUpdate::of(table_update(update)) {
         Some(update) => Some(Task::Update(update)),

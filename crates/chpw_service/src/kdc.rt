@@ -164,8 +164,8 @@ impl<R: Net<Listener = TcpListener, Stream = TcpStream> + Wait + Eprint, T: Cloc
         ensures told { self.new.is_late_told ≡ (self.old.is_late_told || is_some self.old.place.socket) }
         ensures place { self.new.place ≡ self.old.place }
     {
-        let Unconfirmed { peer, mark } = change;
-        self.log.put_unconfirmed(self.clock.now(), peer, mark);
+        let Unconfirmed { peer, ticket } = change;
+        self.log.put_unconfirmed(self.clock.now(), peer, ticket);
         if let Some(socket) = self.place.socket {
             if is_first(&mut self.is_late_told) {
                 self.log.tell(Notice::Unconfirmed(socket));

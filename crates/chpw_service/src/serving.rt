@@ -266,6 +266,9 @@ fn listening<
     let listener = listen(rt, options.port)?;
     let datagrams = datagrams_of(rt, options, realm)?;
     let engine = engine_of(rt, rt.alloc(), options.workers, &terms, datagrams, kdc)?;
+    if options.require_kdc {
+        engine.require_kdc(rt, u64::from(options.kdc_wait));
+    }
     let hall = ServiceContext {
         engine,
         workers: options.workers,

@@ -47,7 +47,7 @@ one_of_stages : (s : Stage) → cond (is_counted counted.Reading s) 1 0 + cond (
 one_of_stages (reading bytes) = refl
 one_of_stages (queued message) = refl
 one_of_stages (answering m) = refl
-one_of_stages (confirming reply last mark) = refl
+one_of_stages (confirming reply last ticket) = refl
 one_of_stages (writing left last) = refl
 one_of_stages lingering = refl
 one_of_stages abandoned = refl

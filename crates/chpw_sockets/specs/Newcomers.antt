@@ -1,5 +1,5 @@
 -- The connections of a pool at its start, and how one more comes.
-use Rattle.std.specs.Prelude.{◌≡◌, ◌⊎◌, ℕ, List, Option, false}
+use Rattle.std.specs.Prelude.{◌≡◌, ◌⊎◌, ℕ, List, Option, None, false}
 use Rattle.slab.specs.Slab.{Slab, slab_len}
 use Rattle.chpw_connections.specs.Held.{slots_of}
 use Rattle.chpw_slots.specs.Slots.{Happens, IsNew}
@@ -20,6 +20,7 @@ pub record IsBegun (kdc : Option Dialog) (s : State) : Type 0 where
     shortage = record { of_large = false; of_small = false };
     kdc = kdc;
     is_message_next = false;
+    reach = None;
   }
 
 -- a new connection, which has ended if its socket can't be watched

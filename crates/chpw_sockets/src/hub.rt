@@ -13,7 +13,8 @@ ghost use Rattle.chpw_connections.specs.Turns.{slot_of};
 ghost use Rattle.chpw_transfers.specs.Steps.{IsCalled, StepsUntold, RunsTo, Answers};
 ghost use Rattle.chpw_transfers.specs.Datagrams.{DropsDatagram};
 ghost use Rattle.chpw_sockets.specs.Deciding.{AreElsewhere, IsFree, IsFresh, Queues};
-ghost use Rattle.chpw_transfers.specs.Kdc.{LeavesChange};
+ghost use Rattle.chpw_transfers.specs.Kdc.{LeavesChange, reply_under, ticket_of};
+ghost use Rattle.chpw_transfers.specs.declared.kdc.Release.{Release};
 ghost use Rattle.chpw_sockets.specs.Newcomers.{IsAdmitted, IsBegun};
 ghost use Rattle.chpw_sockets.specs.Places.{RemainsAt, StaysAt};
 ghost use Rattle.chpw_sockets.specs.Faults.{IsUnmade};
@@ -178,8 +179,8 @@ impl Hub {
     /// came from. Unless it waits for the KDC, as much of the reply is written as the socket takes, and after it as
     /// much of the next message is read as has come: it waits for the same worker, which checks its queue next.
     pub fn answer(&mut self, turn: Turn, now: u64)
-        ensures answers { (ticket : Option ℕ) × LeavesChange self.old.state.kdc turn.change self.new.state.kdc ticket
-            × Answers (bounds_of self.old.state.connections) now ticket turn.reply
+        ensures answers { (release : Release) × LeavesChange (is_some self.old.state.reach) now self.old.state.kdc turn.change self.new.state.kdc release
+            × Answers (bounds_of self.old.state.connections) now (ticket_of release) (reply_under turn.reply release)
             (slots_of self.old.state.connections) (slots_of self.new.state.connections) (slot_of turn.taken) }
         ensures others { AreElsewhere self.old.sockets.by_slot.items self.new.sockets.by_slot.items (slot_of turn.taken) }
         ensures kept { RemainsAt (slice_get self.old.sockets.by_slot.items (slot_of turn.taken))

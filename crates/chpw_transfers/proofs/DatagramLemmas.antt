@@ -59,7 +59,7 @@ ends_after_came : (k l : ℕ) (s : Stage) (bytes : List ℕ) → after k s faile
 ends_after_came k l (reading had) bytes is = read_ends l (had ++ received had bytes) (wanted_after (had ++ received had bytes) == 0)
 ends_after_came k l (queued message) bytes is = refl
 ends_after_came k l (answering m) bytes is = absurd cc
-ends_after_came k l (confirming reply last mark) bytes is = refl
+ends_after_came k l (confirming reply last ticket) bytes is = refl
 ends_after_came k l (writing left last) bytes is = refl
 ends_after_came k l lingering bytes is = refl
 ends_after_came k l abandoned bytes is = absurd cc

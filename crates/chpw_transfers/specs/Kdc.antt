@@ -1,19 +1,24 @@
 -- The KDC, as the connections' state knows it.
-use Rattle.std.specs.Prelude.{◌≡◌, ℕ, ◌+◌, Bool, true, false, not, ◌==◌, ◌⊎◌, nat_lt, List, length, Option, Some}
-use Rattle.std.specs.Prelude.{None, Result, Ok, Err, MatchBool, if◌then◌else◌}
+use Rattle.std.specs.Prelude.{◌≡◌, ℕ, ◌+◌, Bool, true, false, not, ◌==◌, ◌||◌, ◌&&◌, ◌⊎◌, nat_lt, List, length, Option, Some}
+use Rattle.std.specs.Prelude.{None, Ok, MatchBool, if◌then◌else◌}
 use Rattle.slab.specs.Slab.{Slab, get}
 use Rattle.chpw_rules.specs.declared.name.Name.{Name}
 use Rattle.chpw_record.specs.declared.key.KeyRow.{KeyRow}
 use Rattle.chpw_record.specs.declared.record.Change.{Change}
 use Rattle.chpw_kdc.specs.declared.fault.ProtocolFault.{ProtocolFault}
-use Rattle.chpw_kdc.specs.Dialogs.{State, after_hold, after_none, after_want, after_lost_want, after_decision}
+use Rattle.chpw_kdc.specs.Dialogs.{State, after_hold, after_none, after_want, after_lost_want, after_decision, is_in_reach}
 use Rattle.chpw_kdc.specs.Answering.{after_bytes}
 use Rattle.chpw_kdc.specs.Answers.{FaultsIn}
 use Rattle.chpw_kdc.specs.Paces.{pace_due}
-use Rattle.chpw_connection.specs.Confirming.{Confirms}
+use Rattle.chpw_connection.specs.Confirming.{Confirms, Withdraws}
+use Rattle.chpw_connection.specs.Stages.{failed, released}
+use Rattle.chpw_connections.specs.Confirming.{EndsOverdue}
 use Rattle.chpw_connection.specs.declared.connection.Connection.{Connection}
 use Rattle.chpw_connections.specs.declared.kdc_change.KdcChange.{KdcChange}
 use Rattle.chpw_connections.specs.declared.kdc_change.KdcChange.TheVariants as change
+use Rattle.chpw_connections.specs.declared.taking.Reply.{Reply}
+use Rattle.chpw_transfers.specs.declared.kdc.Release.{Release}
+use Rattle.chpw_transfers.specs.declared.kdc.Release.TheVariants as release
 
 -- the last ticket that is confirmed, whether keys are on their way, and whether there is something for a worker
 abbrev pub confirmed_in : Option State → ℕ
@@ -34,21 +39,45 @@ is_clerk worker = worker == 0
 
 -- ---- what a turn leaves
 
--- a reply waits for the next ticket while there is a connection
-abbrev pub awaited : State → Option ℕ
-awaited s = if s.pace.connected then Some (s.issued + 1) else None
+-- the ticket that a reply waits for, and the reply, if it may go at all
+abbrev pub ticket_of : Release → Option ℕ
+ticket_of release.Now = None
+ticket_of (release.After ticket) = Some ticket
+ticket_of release.Never = None
+
+abbrev pub reply_under : Option Reply → Release → Option Reply
+reply_under None r = None
+reply_under (Some reply) release.Now = Some reply
+reply_under (Some reply) (release.After ticket) = Some reply
+reply_under (Some reply) release.Never = None
+
+-- where the KDC has to be in reach, nobody is told of a change whose key was lost
+abbrev pub release_of_lost : Bool → Release
+release_of_lost needed = if needed then release.Never else release.Now
+
+-- a reply waits for the next ticket while there is a connection, or where the KDC has to be in reach
+abbrev pub release_of_key : Bool → State → Release
+release_of_key needed s = if needed || s.pace.connected then release.After (s.issued + 1) else release.Now
 
 -- its key is on its way; or it is lost, and they are compared anew
-abbrev pub LeavesKey : Change → State → State → Option ℕ → Type 0
-LeavesKey c s t ticket =
-    ((t ≡ after_want c.name c.key s) × (ticket ≡ awaited s))
-    ⊎ (((t ≡ after_lost_want (after_hold c.name c.key s)) ⊎ (t ≡ after_lost_want s)) × (ticket ≡ None))
+abbrev pub LeavesKey : Bool → ℕ → Change → State → State → Release → Type 0
+LeavesKey needed now c s t r =
+    ((t ≡ after_want now c.name c.key s) × (r ≡ release_of_key needed s))
+    ⊎ (((t ≡ after_lost_want (after_hold c.name c.key s)) ⊎ (t ≡ after_lost_want s)) × (r ≡ release_of_lost needed))
 
-abbrev pub LeavesChange : Option State → KdcChange → Option State → Option ℕ → Type 0
-LeavesChange None c new ticket = (new ≡ None) × (ticket ≡ None)
-LeavesChange (Some s) change.Nothing new ticket = (new ≡ Some s) × (ticket ≡ None)
-LeavesChange (Some s) (change.Key c) new ticket = (t : State) × (new ≡ Some t) × LeavesKey c s t ticket
-LeavesChange (Some s) change.Lost new ticket = (new ≡ Some (after_lost_want s)) × (ticket ≡ None)
+abbrev pub LeavesChange : Bool → ℕ → Option State → KdcChange → Option State → Release → Type 0
+LeavesChange needed now None c new r = (new ≡ None) × (r ≡ release.Now)
+LeavesChange needed now (Some s) change.Nothing new r = (new ≡ Some s) × (r ≡ release.Now)
+LeavesChange needed now (Some s) (change.Key c) new r = (t : State) × (new ≡ Some t) × LeavesKey needed now c s t r
+LeavesChange needed now (Some s) change.Lost new r = (new ≡ Some (after_lost_want s)) × (r ≡ release_of_lost needed)
+
+-- ---- whether requests are decided
+
+-- always, unless the KDC has to get each change within a time: then while it does
+abbrev pub is_deciding : ℕ → Option ℕ → Option State → Bool
+is_deciding now None kdc = true
+is_deciding now (Some reach) None = false
+is_deciding now (Some reach) (Some s) = is_in_reach reach now s
 
 -- ---- what the agent says
 
@@ -60,10 +89,23 @@ abbrev pub IsFaulty : (Name → Bool) → ℕ → List ℕ → ProtocolFault →
 IsFaulty ours now bytes fault None new = ⊥
 IsFaulty ours now bytes fault (Some s) new = (t : State) × (new ≡ Some t) × FaultsIn ours now s bytes t fault
 
--- the replies that wait for no more than is confirmed are to be written
-abbrev pub Releases : ℕ → ℕ → ℕ → Slab Connection → Slab Connection → Type 0
-Releases before confirmed now old new =
-    MatchBool (nat_lt before confirmed) ((slot : ℕ) → Confirms confirmed now (get old slot) (get new slot)) (new ≡ old)
+-- the KDC has to be in reach, and doesn't have the key that was confirmed last
+abbrev pub is_withheld : Bool → Option State → Bool
+is_withheld needed None = false
+is_withheld needed (Some s) = needed && not s.written
+
+-- the replies that wait for no more than is confirmed are to be written; where they are withheld their connections end
+abbrev pub SettlesEach : Bool → ℕ → ℕ → Slab Connection → Slab Connection → Type 0
+SettlesEach true confirmed now old new = (slot : ℕ) → Withdraws confirmed (get old slot) (get new slot)
+SettlesEach false confirmed now old new = (slot : ℕ) → Confirms confirmed now (get old slot) (get new slot)
+
+abbrev pub Releases : Bool → ℕ → ℕ → ℕ → Slab Connection → Slab Connection → Type 0
+Releases withheld before confirmed now old new = MatchBool (nat_lt before confirmed) (SettlesEach withheld confirmed now old new) (new ≡ old)
+
+-- the first reply that has waited for this long is to be written, or it is dropped where the KDC has to be in reach
+abbrev pub OverdueEnds : Bool → ℕ → ℕ → Slab Connection → Slab Connection → List ℕ → ℕ → Type 0
+OverdueEnds true wait now old new peer ticket = EndsOverdue wait now failed 0 old new peer ticket
+OverdueEnds false wait now old new peer ticket = EndsOverdue wait now released now old new peer ticket
 
 -- ---- what is told of the table
 

@@ -95,19 +95,19 @@ pub data RunsTo (b : ConnectionLimits) (now slot : ℕ) : Slab Connection → Sl
 abbrev pub can_reply : ConnectionLimits → ℕ → Slab Connection → ℕ → Reply → Bool
 can_reply b now old slot r = has_room_besides b.bytes (for_reply now) old slot (length r.bytes.items) && is_answering_in (get old slot)
 
--- if it waits for a mark, not before that is confirmed
+-- if it waits for a ticket, not before that is confirmed
 abbrev pub reply_event : Option ℕ → Reply → Event
 reply_event None r = replied r.bytes.items r.is_last
-reply_event (Some mark) r = deferred r.bytes.items r.is_last mark
+reply_event (Some ticket) r = deferred r.bytes.items r.is_last ticket
 
 abbrev pub IsAnswered : ConnectionLimits → ℕ → Option ℕ → Option Reply → Slab Connection → Slab Connection → ℕ → Type 0
-IsAnswered b now mark None old new slot = Happens now old new slot unanswered
-IsAnswered b now mark (Some r) old new slot = MatchBool (can_reply b now old slot r)
-    (HappensWithRoom (for_reply now) now old new slot (reply_event mark r)) (Happens now old new slot unanswered)
+IsAnswered b now ticket None old new slot = Happens now old new slot unanswered
+IsAnswered b now ticket (Some r) old new slot = MatchBool (can_reply b now old slot r)
+    (HappensWithRoom (for_reply now) now old new slot (reply_event ticket r)) (Happens now old new slot unanswered)
 
 -- and then one thing is done after the other
 abbrev pub Answers : ConnectionLimits → ℕ → Option ℕ → Option Reply → Slab Connection → Slab Connection → ℕ → Type 0
-Answers b now mark reply old new slot = (mid : Slab Connection) × (IsAnswered b now mark reply old mid slot × RunsTo b now slot mid new)
+Answers b now ticket reply old new slot = (mid : Slab Connection) × (IsAnswered b now ticket reply old mid slot × RunsTo b now slot mid new)
 
 -- there was no room for messages of this kind
 abbrev pub is_short_for : Bool → Shortage → Bool

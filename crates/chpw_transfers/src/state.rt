@@ -51,6 +51,8 @@ pub struct State {
     pub kdc: Option<KdcDialog>,
     /// The worker that takes what the KDC says into the table did that last: messages come first then.
     pub is_message_next: bool,
+    /// If the KDC has to be in reach for a change: the milliseconds within which it gets each.
+    pub reach: Option<u64>,
 }
 
 /// Whether a message wasn't read for want of room. Others of its kind wait with it for the next round, so that all get
@@ -115,6 +117,7 @@ impl State {
           shortage = record { of_large = false; of_small = false };
           kdc = kdc;
           is_message_next = false;
+          reach = None;
         } }
     {
         State {
@@ -126,6 +129,7 @@ impl State {
             shortage: Shortage::default(),
             kdc,
             is_message_next: false,
+            reach: None,
         }
     }
 
@@ -224,6 +228,7 @@ impl State {
         ensures none { self.old.is_stopped ≡ false → IfNone result
             (((queue_of self.old.connections worker ≡ []) × (self.new.connections ≡ self.old.connections))
             ⊎ DropsLate now self.old.connections self.new.connections worker) }
+        ensures turn { self.new.is_message_next ≡ (self.old.is_stopped && self.old.is_message_next) }
         ensures rest { self.new ≡ record self.old { connections = self.new.connections; is_message_next = self.new.is_message_next } }
     {
         if self.is_stopped {

@@ -1,6 +1,6 @@
 -- Turns one after the other.
-use Rattle.std.proofs.Common.{◌≡◌, ℕ, List, [], ◌∷◌, ◌++◌, length, Bool, if◌then◌else◌, Option, Some, None, refl, subst, sym, inl, inr}
-use Rattle.std.specs.Prelude.{◌⊎◌, MatchOption}
+use Rattle.std.proofs.Common.{◌≡◌, ℕ, List, [], ◌∷◌, ◌++◌, length, Bool, if◌then◌else◌, Option, Some, None, inl, inr}
+use Rattle.std.specs.Prelude.{MatchOption}
 use Rattle.chpw_rules.specs.declared.name.Name.{Name}
 use Rattle.chpw_record.specs.declared.key.KeyRow.{KeyRow}
 use Rattle.chpw_table.specs.declared.times.Moment.{Moment}
@@ -9,7 +9,6 @@ use Rattle.chpw_table.specs.Replies.{Answer}
 use Rattle.chpw_serve.specs.declared.messages.Seal.{Seal}
 use Rattle.chpw_serve.specs.Requests.{Opens, refused, opened}
 use Rattle.chpw_serve.specs.Answers.{IsAnswer}
-use Rattle.chpw_serve.specs.InTurn.{InTurn}
 use Rattle.chpw_serve.proofs.DrawLemmas.{drawn_on}
 use Rattle.chpw_connections.specs.declared.kdc_change.KdcChange.{KdcChange}
 use Rattle.chpw_connections.specs.declared.kdc_change.KdcChange.TheVariants as change
@@ -20,16 +19,27 @@ use Rattle.chpw_workers.specs.declared.inbox.WorkerTurn.{WorkerTurn}
 use Rattle.chpw_workers.specs.declared.inbox.WorkerTurn.TheVariants as turn
 use Rattle.chpw_workers.specs.Replies.{IsChangeOf, IsKdcChange, name_changed_after}
 use Rattle.chpw_workers.specs.Turns.{At, Comes, IsTurn, AreTurns}
+use Rattle.chpw_workers.specs.Undecided.{OpensUndecided}
+
+-- what a change left to be put into the KDC's database, if what might be held before may be held still
+pub change_lifts : (holds later : Name → Option KeyRow → Type 0) → ((name : Name) (key : Option KeyRow) → holds name key → later name key)
+    → (has_kdc : Bool) (before : ℕ) (receipts : List Receipt) (left : KdcChange)
+    → IsKdcChange holds has_kdc before receipts left → IsKdcChange later has_kdc before receipts left
+change_lifts holds later f has_kdc before receipts left h = at (if has_kdc then name_changed_after before receipts else None) left h
+  where
+    of : (name : Name) (left : KdcChange) → IsChangeOf holds name left → IsChangeOf later name left
+    of name change.Nothing h = f name None h
+    of name (change.Key c) h = (h.0, f name (Some c.key) h.1)
+    of name change.Lost h = h
+
+    at : (name : Option Name) (left : KdcChange) → MatchOption name (left ≡ change.Nothing) (λ n. IsChangeOf holds n left)
+        → MatchOption name (left ≡ change.Nothing) (λ n. IsChangeOf later n left)
+    at None left h = h
+    at (Some name) left h = of name left h
 
 module _ {C X : Type 0} (moments : C → Moment → C → Type 0) (random : X → ℕ → X → Type 0)
     (error_frame : Answer → Moment → List ℕ) (private_frame : Seal → Answer → List ℕ → List ℕ) (opens : List ℕ → List ℕ → Opens → Type 0)
   where
-    abbrev One : (List Receipt → Type 0) → (Name → Option KeyRow → Type 0) → Bool → At C X → WorkerTurn → At C X → Type 0
-    One full holds has_kdc = IsTurn moments random error_frame private_frame opens full holds has_kdc
-
-    abbrev All : (List Receipt → Type 0) → (Name → Option KeyRow → Type 0) → Bool → At C X → List WorkerTurn → At C X → Type 0
-    All full holds has_kdc = AreTurns moments random error_frame private_frame opens full holds has_kdc
-
     -- an answer that a full history is behind, if the history is full then too
     answer_lifts : (full more : Type 0) → (full → more) → (os : Opens → Type 0) (words : List ℕ) (now : Moment) (old new : List Receipt) (bytes : List ℕ)
         → IsAnswer error_frame private_frame full os words now old new bytes → IsAnswer error_frame private_frame more os words now old new bytes
@@ -60,29 +70,29 @@ module _ {C X : Type 0} (moments : C → Moment → C → Type 0) (random : X �
     }))
     comes_lifts full more f taken its_reply old new (inr (inr h)) = inr (inr (record { left = h.left; reply = h.reply }))
 
-    -- what a change left to be put into the KDC's database, if what might be held before may be held still
-    pub change_lifts : (holds later : Name → Option KeyRow → Type 0) → ((name : Name) (key : Option KeyRow) → holds name key → later name key)
-        → (has_kdc : Bool) (before : ℕ) (receipts : List Receipt) (left : KdcChange)
-        → IsKdcChange holds has_kdc before receipts left → IsKdcChange later has_kdc before receipts left
-    change_lifts holds later f has_kdc before receipts left h = at (if has_kdc then name_changed_after before receipts else None) left h
-      where
-        of : (name : Name) (left : KdcChange) → IsChangeOf holds name left → IsChangeOf later name left
-        of name change.Nothing h = f name None h
-        of name (change.Key c) h = (h.0, f name (Some c.key) h.1)
-        of name change.Lost h = h
+module _ {C X : Type 0} (moments : C → Moment → C → Type 0) (random : X → ℕ → X → Type 0)
+    (error_frame : Answer → Moment → List ℕ) (private_frame : Seal → Answer → List ℕ → List ℕ) (opens : List ℕ → List ℕ → Opens → Type 0)
+  where
+    abbrev One : (List Receipt → Type 0) → (Name → Option KeyRow → Type 0) → Bool → At C X → WorkerTurn → At C X → Type 0
+    One full holds has_kdc = IsTurn moments random error_frame private_frame opens full holds has_kdc
 
-        at : (name : Option Name) (left : KdcChange) → MatchOption name (left ≡ change.Nothing) (λ n. IsChangeOf holds n left)
-            → MatchOption name (left ≡ change.Nothing) (λ n. IsChangeOf later n left)
-        at None left h = h
-        at (Some name) left h = of name left h
+    abbrev All : (List Receipt → Type 0) → (Name → Option KeyRow → Type 0) → Bool → At C X → List WorkerTurn → At C X → Type 0
+    All full holds has_kdc = AreTurns moments random error_frame private_frame opens full holds has_kdc
 
     pub turn_lifts : (full more : List Receipt → Type 0) → ((rs : List Receipt) → full rs → more rs)
         → (holds later : Name → Option KeyRow → Type 0) → ((name : Name) (key : Option KeyRow) → holds name key → later name key)
         → (has_kdc : Bool) (old : At C X) (t : WorkerTurn) (new : At C X) → One full holds has_kdc old t new → One more later has_kdc old t new
     turn_lifts full more f holds later g has_kdc old (turn.Message t) new h = record {
-      comes = comes_lifts full more f t.taken t.reply old new h.comes;
+      comes = comes_lifts moments random error_frame private_frame opens full more f t.taken t.reply old new h.comes;
       change = change_lifts holds later g has_kdc (length old.receipts) new.receipts t.change h.change;
     }
+    turn_lifts full more f holds later g has_kdc old (turn.Undecided t) new h = (
+      record {
+        comes = comes_lifts moments random error_frame private_frame (OpensUndecided opens) full more f t.taken t.reply old new h.0.comes;
+        change = change_lifts holds later g has_kdc (length old.receipts) new.receipts t.change h.0.change;
+      },
+      h.1,
+    )
     turn_lifts full more f holds later g has_kdc old (turn.Update t) new h = record {
       moment = h.moment;
       moment_is = h.moment_is;

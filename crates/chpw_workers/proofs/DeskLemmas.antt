@@ -1,5 +1,5 @@
 -- What a closed desk has of its workers' turns.
-use Rattle.std.proofs.Common.{◌≡◌, ℕ, zero, suc, ◌+◌, ◌<◌, List, [], ◌∷◌, ◌++◌, Bool, true, false, Option, length, map, refl, sym, ◌∙◌, ap, subst, arith}
+use Rattle.std.proofs.Common.{◌≡◌, ℕ, zero, suc, ◌+◌, ◌<◌, List, [], ◌∷◌, ◌++◌, Bool, true, false, Option, map, refl, sym, ◌∙◌, ap, subst, arith}
 use Rattle.std.specs.Prelude.{IfSome, Result, Ok, Err, IfOk, IfErr}
 use Rattle.std.specs.List.{range_with_len}
 use Rattle.chpw_rules.specs.declared.name.Name.{Name}
@@ -20,7 +20,7 @@ use Rattle.chpw_book.specs.Passes.{PassView, new_pass}
 use Rattle.chpw_book.specs.Closing.{HasCalls, IsWhole, is_full, was_any_full}
 use Rattle.chpw_workers.specs.declared.inbox.WorkerTurn.{WorkerTurn}
 use Rattle.chpw_workers.specs.declared.worker.Worker.{Worker}
-use Rattle.chpw_workers.specs.Turns.{At, at, AreTurns}
+use Rattle.chpw_workers.specs.Turns.{at, AreTurns}
 use Rattle.chpw_workers.specs.Shifts.{IsShift, AreShifts}
 use Rattle.chpw_workers.specs.Desks.{AreInOrder, IsServedBy, AreServedBy, ServedDesk}
 use Rattle.chpw_workers.proofs.ChainLemmas.{turns_lift}

@@ -1,5 +1,6 @@
 mod TurnLemmas
 mod ChainLemmas
+mod UndecidedLemmas
 pub mod ShiftLemmas
 pub mod DeskLemmas
 mod FollowLemmas

@@ -1,5 +1,5 @@
 -- Workers at a desk, one after the other.
-use Rattle.std.proofs.Common.{◌≡◌, ℕ, Bool, ◌+◌, List, [], ◌∷◌, ◌++◌, Option, length, refl, sym, subst, arith}
+use Rattle.std.proofs.Common.{◌≡◌, ℕ, Bool, List, [], ◌∷◌, ◌++◌, Option, length, refl, sym, arith}
 use Rattle.std.proofs.lemmas.List.{append-nil}
 use Rattle.chpw_rules.specs.declared.name.Name.{Name}
 use Rattle.chpw_record.specs.declared.key.KeyRow.{KeyRow}

@@ -1,9 +1,8 @@
 -- The journals of several desks, joined.
-use Rattle.std.proofs.Common.{◌≡◌, ℕ, List, [], ◌∷◌, ◌++◌, sym, ◌∙◌, ap, append_assoc, append-nil}
+use Rattle.std.proofs.Common.{ℕ, List, [], ◌∷◌, ◌++◌, sym, ◌∙◌, ap, append_assoc, append-nil}
 use Rattle.chpw_table.specs.Journal.{journal}
-use Rattle.chpw_journal.specs.Runs.{Run, journals}
-use Rattle.chpw_serve.specs.InTurn.{InTurn}
-use Rattle.chpw_workers.specs.Sinks.{AddsJournal, JournalsAreJoined}
+use Rattle.chpw_journal.specs.Runs.{journals}
+use Rattle.chpw_workers.specs.Sinks.{JournalsAreJoined}
 
 pub joined : JournalsAreJoined
 joined prior told [] same = sym same ∙ sym (append-nil prior)

@@ -18,8 +18,7 @@ use Rattle.chpw_book.specs.Closing.{is_full}
 use Rattle.chpw_book.specs.Receipts.{IsNumbered, AreOfWorkers}
 use Rattle.chpw_workers.specs.declared.inbox.WorkerTurn.{WorkerTurn}
 use Rattle.chpw_workers.specs.declared.worker.Worker.{Worker}
-use Rattle.chpw_workers.specs.Turns.{At, at, AreTurns}
-use Rattle.chpw_workers.specs.Shifts.{at_worker}
+use Rattle.chpw_workers.specs.Turns.{at, AreTurns}
 
 -- the passes of all workers of a desk, in order
 abbrev pub AreInOrder : ℕ → List PassView → Type 0

@@ -1,5 +1,6 @@
 pub mod Clocks
 pub mod Replies
+pub mod Undecided
 pub mod Turns
 pub mod Shifts
 pub mod Desks

@@ -24,6 +24,7 @@ use Rattle.chpw_workers.specs.declared.updates.UpdateTurn.{UpdateTurn}
 use Rattle.chpw_workers.specs.declared.inbox.WorkerTurn.{WorkerTurn}
 use Rattle.chpw_workers.specs.declared.inbox.WorkerTurn.TheVariants as turn
 use Rattle.chpw_workers.specs.Replies.{IsReplyWith, IsKdcChange}
+use Rattle.chpw_workers.specs.Undecided.{OpensUndecided}
 use Rattle.chpw_connections.specs.Turns.{message_of, peer_of}
 
 -- where a worker is between two turns: the receipts of its entries, its clock and its random words
@@ -106,8 +107,13 @@ module _ {C X : Type 0} (moments : C → Moment → C → Type 0) (random : X �
       pub comes : Comes t.taken t.reply old new
       pub change : IsKdcChange holds has_kdc (length old.receipts) new.receipts t.change
 
+  module _ (error_frame : Answer → Moment → List ℕ) (private_frame : Seal → Answer → List ℕ → List ℕ)
+      (opens : List ℕ → List ℕ → Opens → Type 0) (full : List Receipt → Type 0) where
+    -- in a turn whose message isn't decided there is no entry
     abbrev pub IsTurn : (Name → Option KeyRow → Type 0) → Bool → At C X → WorkerTurn → At C X → Type 0
-    IsTurn holds has_kdc old (turn.Message t) new = IsMessageTurn holds has_kdc t old new
+    IsTurn holds has_kdc old (turn.Message t) new = IsMessageTurn error_frame private_frame opens full holds has_kdc t old new
+    IsTurn holds has_kdc old (turn.Undecided t) new =
+        IsMessageTurn error_frame private_frame (OpensUndecided opens) full holds has_kdc t old new × (new.receipts ≡ old.receipts)
     IsTurn holds has_kdc old (turn.Update t) new = IsUpdated moments holds t old new
 
     -- one turn after the other

@@ -9,6 +9,8 @@ use chpw_connections::{TakenMessage, Turn};
 pub enum Task {
     /// A message, which it answers.
     Message(TakenMessage),
+    /// A message whose request isn't decided, since the KDC is out of reach.
+    Undecided(TakenMessage),
     /// What the KDC says of a principal, which it takes into the table.
     Update(FittingUpdate),
 }
@@ -16,6 +18,7 @@ pub enum Task {
 /// What a worker did.
 pub enum WorkerTurn {
     Message(Turn),
+    Undecided(Turn),
     Update(UpdateTurn),
 }
 

@@ -8,6 +8,7 @@ mod desk;
 mod inbox;
 pub mod laws;
 mod shift;
+mod undecided;
 mod updates;
 mod worker;
 

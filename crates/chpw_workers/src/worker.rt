@@ -11,6 +11,7 @@ ghost use Rattle.chpw_connections.specs.Turns.{message_of, peer_of};
 
 use crate::context::Context;
 use crate::inbox::{Crew, Inbox, Task, WorkerTurn};
+use crate::undecided::Undecided;
 use crate::updates::{FittingUpdate, KdcDecider, UpdateTurn};
 use chpw_book::DeskUpdateFault;
 use chpw_connections::{KdcChange, Reply, TakenMessage, Turn};
@@ -87,7 +88,19 @@ fn do_task<
     ensures inbox { worker.new.inbox ≡ worker.old.inbox }
 {
     match task {
-        Task::Message(taken) => WorkerTurn::Message(take_turn(context, taken, decider, worker)),
+        Task::Message(taken) => {
+            let (alloc, service) = (context.alloc, context.service);
+            let turn = take_turn(alloc, service, context.has_kdc, taken, decider, worker);
+            WorkerTurn::Message(turn)
+        }
+        Task::Undecided(taken) => {
+            let alloc = context.alloc;
+            let service = Undecided {
+                messages: context.service,
+            };
+            let turn = take_turn(alloc, &service, context.has_kdc, taken, decider, worker);
+            WorkerTurn::Undecided(turn)
+        }
         Task::Update(update) => WorkerTurn::Update(take_update(update, decider, worker)),
     }
 }
@@ -100,22 +113,23 @@ fn take_turn<
     G: Gate + Observer + UpdateObserver,
     C: Clock,
     X: Words,
-    T,
 >(
-    context: &Context<'_, M, T>,
+    alloc: Global,
+    service: &M,
+    has_kdc: bool,
     taken: TakenMessage,
     decider: &mut K,
     worker: &mut Worker<I, G, C, X>,
 ) -> Turn
-    ensures turn { IsMessageTurn C.gives X.gives (M.error_frame context.now.service.now) (M.private_frame context.now.service.now)
-        (M.opens context.now.service.now) (K.may_be_full decider.new) (K.holds decider.new) context.now.has_kdc result
+    ensures turn { IsMessageTurn C.gives X.gives (M.error_frame service.now) (M.private_frame service.now)
+        (M.opens service.now) (K.may_be_full decider.new) (K.holds decider.new) has_kdc result
         (at (K.gathered decider.old) worker.old.clock worker.old.words) (at (K.gathered decider.new) worker.new.clock worker.new.words) }
     ensures follows { K.follows decider.old decider.new }
     ensures inbox { worker.new.inbox ≡ worker.old.inbox }
 {
     let before = decider.receipts().len();
-    let reply = reply_to(context.alloc, context.service, &taken, decider, worker);
-    let change = change_after(context.has_kdc, decider, before);
+    let reply = reply_to(alloc, service, &taken, decider, worker);
+    let change = change_after(has_kdc, decider, before);
     Turn {
         taken,
         reply,

@@ -230,6 +230,7 @@ fn serving<'a>(port: u16, connections: u32, log: &'a str) -> ServeOptions<'a> {
         log: Some(log),
         kdc: None,
         kdc_wait: USUAL_KDC_WAIT,
+        require_kdc: false,
         control: None,
         udp: false,
         rfc3244_only: false,

@@ -83,15 +83,15 @@ impl Script {
         Ok(())
     }
 
-    // `HEX MARK`, or `HEX MARK last`
+    // `HEX TICKET`, or `HEX TICKET last`
     fn defer_reply(&mut self, slot: usize, rest: &str, now: u64) -> io::Result<()> {
         let (reply, rest) = rest.split_once(' ').unwrap_or((rest, ""));
-        let (mark, end) = rest.split_once(' ').unwrap_or((rest, ""));
+        let (ticket, end) = rest.split_once(' ').unwrap_or((rest, ""));
         let reply = bytes(self.alloc, reply)?;
-        let mark = number(mark)?;
+        let ticket = number(ticket)?;
         if let Some(taken) = self.taken_from(slot) {
             self.connections
-                .defer(taken, reply, end == "last", mark, now);
+                .defer(taken, reply, end == "last", ticket, now);
         }
         Ok(())
     }

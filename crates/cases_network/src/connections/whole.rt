@@ -11,7 +11,7 @@ use std::io;
 const LOOKS: usize = 10_000;
 
 impl Script {
-    /// `accept A.B.C.D`, `pass`, `room`, `look`, `show`, `confirm MARK` or `overdue WAIT`.
+    /// `accept A.B.C.D`, `pass`, `room`, `look`, `show`, `confirm TICKET` or `overdue WAIT`.
     pub fn whole(&mut self, kind: &str, words: &str, now: u64) -> io::Result<String> {
         match kind {
             "accept" => self.accept(words, now),
@@ -63,14 +63,14 @@ impl Script {
         Ok(format!(in self.alloc; "slot {slot} from {peer}: {message}")?)
     }
 
-    /// The slot whose reply has waited for its confirmation for `wait`, and its mark.
+    /// The slot whose reply has waited for its confirmation for `wait`, and its ticket.
     fn overdue(&mut self, wait: u64, now: u64) -> io::Result<String> {
         match self.connections.overdue(wait, now) {
             None => Ok(String::from_str(self.alloc, "none")?),
             Some(unconfirmed) => {
                 let peer = peer_text(self.alloc, unconfirmed.peer)?;
-                let mark = unconfirmed.mark;
-                Ok(format!(in self.alloc; "{peer} waited for {mark}")?)
+                let ticket = unconfirmed.ticket;
+                Ok(format!(in self.alloc; "{peer} waited for {ticket}")?)
             }
         }
     }

@@ -2,7 +2,7 @@ use Rattle.std.proofs.Common.{codes, inl, inr, refl, subst, sym}
 use Rattle.clap.specs.Words.{found_of, rows_of}
 use Rattle.chpw_invocation.specs.Invocations.{IsOwnReason}
 use Rattle.chpw_invocation.specs.Needs.{IsSuited}
-use Rattle.chpw_invocation.specs.declared.refusing.Refusal.TheVariants.{NoForm, NoLimit, NoRealm}
+use Rattle.chpw_invocation.specs.declared.refusing.Refusal.TheVariants.{NoForm, NoRealm}
 use Rattle.chpw_invocation.proofs.NeedLemmas.{named_as}
 use Rattle.chpw_invocation.proofs.matching.asked_of.Goals as goal
 
@@ -40,4 +40,5 @@ returns-in-serve-clause-none c = λ suited none.
     let is =
     named_as c.args.matches.now c.in_ok-name.name.now (codes "serve") (rows_of (found_of c.in_ok-name.options.now))
     c.in_ok-name.ensures.name c.in_ok-name.ensures.rows c.in-serve.is in
-    subst IsOwnReason (sym is) (NoLimit, inr (inr (inr (inl (refl, refl, c.serve_of.ensures.none (subst IsSuited is suited) none)))))
+    let own = c.serve_of.ensures.none (subst IsSuited is suited) none in
+    subst IsOwnReason (sym is) (own.0, inr (inr (inr (inl (refl, own.1)))))

@@ -10,7 +10,7 @@ use Rattle.chpw_workers.proofs.worker.take_turn.Goals as goal
 
 pub returns-clause-turn : goal.returns-clause-turn
 returns-clause-turn g c =
-    let service = c.args.context.now.service.now in
+    let service = c.args.service.now in
     let old = c.args.worker.now in
     let new = c.reply_to-reply.new.worker in
     let r = c.reply_to-reply.ensures.replied in
@@ -37,7 +37,7 @@ returns-clause-turn g c =
 
 pub returns-clause-follows : goal.returns-clause-follows
 returns-clause-follows g c =
-    let service = c.args.context.now.service.now in
+    let service = c.args.service.now in
     let old = c.args.worker.now in
     let new = c.reply_to-reply.new.worker in
     let r = c.reply_to-reply.ensures.replied in

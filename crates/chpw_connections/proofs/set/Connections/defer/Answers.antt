@@ -17,25 +17,25 @@ pub invariant_of-self-clause-waiting : goal.invariant_of-self-clause-waiting
 invariant_of-self-clause-waiting c =
     let old = c.find_room_to_reply.new.self in
     holds_quiet (lists_of old.queues) c.args.now old.slots.connections c.change.new.self.connections c.args.taken.slot
-    (deferred c.args.reply.items c.args.is_last c.args.mark) refl c.change.ensures.happens old.waiting
+    (deferred c.args.reply.items c.args.is_last c.args.ticket) refl c.change.ensures.happens old.waiting
 
 pub returns-then-find_room_to_reply-clause-happens : goal.returns-then-find_room_to_reply-clause-happens
 returns-then-find_room_to_reply-clause-happens c =
     inl (happens_with_room (for_reply c.args.now) c.args.now (slots_of c.args.self.now) (slots_of c.find_room_to_reply.new.self)
-    c.change.new.self.connections c.args.taken.slot (deferred c.args.reply.items c.args.is_last c.args.mark)
+    c.change.new.self.connections c.args.taken.slot (deferred c.args.reply.items c.args.is_last c.args.ticket)
     c.find_room_to_reply.ensures.makes_room c.change.ensures.happens)
 
 pub returns-then-find_room_to_reply-clause-sent : goal.returns-then-find_room_to_reply-clause-sent
 returns-then-find_room_to_reply-clause-sent c room wanted =
     happens_with_room (for_reply c.args.now) c.args.now (slots_of c.args.self.now) (slots_of c.find_room_to_reply.new.self)
-    c.change.new.self.connections c.args.taken.slot (deferred c.args.reply.items c.args.is_last c.args.mark)
+    c.change.new.self.connections c.args.taken.slot (deferred c.args.reply.items c.args.is_last c.args.ticket)
     c.find_room_to_reply.ensures.makes_room c.change.ensures.happens
 
 pub returns-then-find_room_to_reply-clause-needed : goal.returns-then-find_room_to_reply-clause-needed
 returns-then-find_room_to_reply-clause-needed c =
     let long : c.len.result ≡ length c.args.reply.items = omega (arith, c.len.ensures, c.args.reply.ok.0) in
     needed_still (bounds_of c.args.self.now).bytes (length c.args.reply.items) c.args.now (for_reply c.args.now) (slots_of c.args.self.now)
-    (slots_of c.find_room_to_reply.new.self) c.change.new.self.connections c.args.taken.slot (deferred c.args.reply.items c.args.is_last c.args.mark)
+    (slots_of c.find_room_to_reply.new.self) c.change.new.self.connections c.args.taken.slot (deferred c.args.reply.items c.args.is_last c.args.ticket)
     (subst (λ (n : ℕ). IsNeeded (bounds_of c.args.self.now).bytes n (for_reply c.args.now) (slots_of c.args.self.now)
     (slots_of c.find_room_to_reply.new.self) c.args.taken.slot) long c.find_room_to_reply.ensures.needed) c.change.ensures.happens
 

@@ -1,0 +1,18 @@
+use Rattle.std.proofs.Common.{refl, inl, inr}
+use Rattle.clap.specs.Words.{found_of, rows_of}
+use Rattle.chpw_invocation.specs.declared.refusing.Refusal.TheVariants.{NoKdc, NoLimit}
+use Rattle.chpw_invocation.proofs.OwnLemmas.{flag_suits}
+use Rattle.chpw_invocation.proofs.matching.serve_of.Goals as goal
+
+pub returns-then-lacks_kdc-clause-none : goal.returns-then-lacks_kdc-clause-none
+returns-then-lacks_kdc-clause-none c = λ whole none. (NoKdc, inl (refl, c.lacks_kdc.ensures.lacks c.if-lacks_kdc.true))
+
+pub returns-clause-none : goal.returns-clause-none
+returns-clause-none c = λ whole none. (
+  NoLimit,
+  inr (
+    refl,
+    c.service_of.ensures.none whole none,
+    c.lacks_kdc.ensures.own (flag_suits (rows_of (found_of c.args.options.now)) whole) c.if-lacks_kdc.false,
+  ),
+)
