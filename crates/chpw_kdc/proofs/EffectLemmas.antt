@@ -24,10 +24,11 @@ use Rattle.chpw_kdc.specs.declared.update.KdcUpdate.TheVariants as update
 use Rattle.chpw_kdc.specs.Mirrors.{key_of, judgement, may_adopt, adopted, is_same}
 use Rattle.chpw_kdc.specs.Dialogs.{State}
 use Rattle.chpw_kdc.specs.Answering.{after_answer, of_asked, of_list, of_get, of_put, compared, after_judgement, with_listed}
-use Rattle.chpw_kdc.specs.Answering.{with_lacked, lacked_in, is_many, refused_if_held, list_retried, with_update, settled, lifted}
+use Rattle.chpw_kdc.specs.Answering.{with_lacked, lacked_in, is_many, refused_if_held, list_retried, with_update, settled, lifted, after_higher, is_newest}
 use Rattle.chpw_kdc.specs.Answering.{accepted, refused, has_version, is_listed, is_first, is_put_for, if_named, without_first}
 use Rattle.chpw_kdc.specs.Answering.{confirmed_with}
 use Rattle.chpw_kdc.specs.Runs.{Settles, IsNews, HasVersion, IsAskedFor}
+use Rattle.chpw_kdc.specs.Paces.{pace_due}
 
 -- what the answer says that the desk is to do
 abbrev pub Said : (Name → Bool) → State → Answer → KdcUpdate → Type 0
@@ -219,21 +220,28 @@ version_is : (o : Option KeyRow) (kvno : ℕ) → has_version o kvno ≡ true �
 version_is None kvno h = cc
 version_is (Some held) kvno h = grind (arith, nat_tests, common_steps)
 
-lifts : (ours : Name → Bool) (s : State) (name : Name) (kvno : ℕ) (key : KeyRow) (b : Bool)
-    → s.asked ≡ Some (asked.Put key) → is_put_for s.puts name ≡ true
-    → (nat_lt key.kvno kvno && has_version (key_of s.mirror name) key.kvno) ≡ b
-    → Compares ours s (answer.Put name kvno) (if b then with_update (update.Lift name kvno) s else s)
-lifts ours s name kvno key false is first test = (refl, refl, inl refl, inl refl, refl, refl)
-lifts ours s name kvno key true is first test =
-    let t = both (nat_lt key.kvno kvno) (has_version (key_of s.mirror name) key.kvno) test in
-    let lower : key.kvno < kvno = grind (arith, nat_tests, common_steps, t.0) in (
+higher : (ours : Name → Bool) (s : State) (name : Name) (kvno : ℕ) (key : KeyRow) (b : Bool)
+    → s.asked ≡ Some (asked.Put key) → is_put_for s.puts name ≡ true → key.kvno < kvno → is_newest name key.kvno s ≡ b
+    → Compares ours s (answer.Put name kvno) (if b then with_update (update.Lift name kvno) s else record s { pace = pace_due s.pace })
+higher ours s name kvno key false is first lower test = (refl, refl, inl refl, inl refl, refl, refl)
+higher ours s name kvno key true is first lower test =
+    let of_two = both (has_version (key_of s.mirror name) key.kvno && (length s.updates == 0)) (s.deciding == 0) test in
+    let version = both (has_version (key_of s.mirror name) key.kvno) (length s.updates == 0) of_two.0 in (
       refl,
       refl,
-      inr (update.Lift name kvno, (key, refl, is, first, lower, version_is (key_of s.mirror name) key.kvno t.1), refl),
+      inr (update.Lift name kvno, (key, refl, is, first, lower, version_is (key_of s.mirror name) key.kvno version.0), refl),
       inl refl,
       refl,
       refl,
     )
+
+lifts : (ours : Name → Bool) (s : State) (name : Name) (kvno : ℕ) (key : KeyRow) (b : Bool)
+    → s.asked ≡ Some (asked.Put key) → is_put_for s.puts name ≡ true → nat_lt key.kvno kvno ≡ b
+    → Compares ours s (answer.Put name kvno) (if b then after_higher name key.kvno kvno s else s)
+lifts ours s name kvno key false is first test = (refl, refl, inl refl, inl refl, refl, refl)
+lifts ours s name kvno key true is first test =
+    let lower : key.kvno < kvno = grind (arith, nat_tests, common_steps, test) in
+    higher ours s name kvno key (is_newest name key.kvno s) is first lower refl
 
 -- what a put does to the rest of the puts, if none came with the answer
 put_done : (written : Bool) (ours : Name → Bool) (s t u : State) (a : Answer) (name : Name) (key : KeyRow)
@@ -247,11 +255,12 @@ not_lower : (a b : ℕ) → nat_lt a b ≡ false → b ≤ a
 not_lower a b h = grind (arith, nat_tests, common_steps)
 
 lifted_puts : (name : Name) (put kvno : ℕ) (s : State) → (lifted name put kvno s).puts ≡ s.puts
-lifted_puts name put kvno s = by_test (nat_lt put kvno && has_version (key_of s.mirror name) put)
+lifted_puts name put kvno s = by_test (nat_lt put kvno) (is_newest name put s)
   where
-    by_test : (b : Bool) → (if b then with_update (update.Lift name kvno) s else s).puts ≡ s.puts
-    by_test true = refl
-    by_test false = refl
+    by_test : (b c : Bool) → (if b then if c then with_update (update.Lift name kvno) s else record s { pace = pace_due s.pace } else s).puts ≡ s.puts
+    by_test true true = refl
+    by_test true false = refl
+    by_test false c = refl
 
 of_a_put : (ours : Name → Bool) (now : ℕ) (s t : State) (key : KeyRow) (a : Answer) → s.asked ≡ Some (asked.Put key) → of_put key now s a ≡ Ok t
     → Effect ours s a t

@@ -7,7 +7,6 @@ use Rattle.chpw_rules.specs.declared.name.Name.{Name}
 use Rattle.chpw_kdc.specs.declared.fault.ProtocolFault.{ProtocolFault}
 use Rattle.chpw_kdc.specs.declared.put.Asked.{Asked}
 use Rattle.chpw_kdc.specs.declared.put.Put.{Put}
-use Rattle.chpw_kdc.specs.Mirrors.{Mirror}
 use Rattle.chpw_kdc.specs.Lines.{Request, list_keys, get}
 use Rattle.chpw_kdc.specs.Paces.{may_ask}
 use Rattle.chpw_kdc.specs.Dialogs.{State, after_loss, first_request, put_in, get_in, or_else, is_list_due}
@@ -53,20 +52,20 @@ allowed : (o : Bool) (next : Option Request) (r : Request) → (if o then next e
 allowed true next r h = h
 allowed false next r h = cc
 
-no_puts : (es : Mirror) (ps : List Put) (names : List Name) (b : Bool) (name : Name)
-    → or_else (put_in es ps) (or_else (get_in names) (if b then Some list_keys else None)) ≡ Some (get name) → ps ≡ []
-no_puts es [] names b name h = refl
-no_puts es (p ∷ ps) names b name h = cc
+no_puts : (ps : List Put) (names : List Name) (b : Bool) (name : Name)
+    → or_else (put_in ps) (or_else (get_in names) (if b then Some list_keys else None)) ≡ Some (get name) → ps ≡ []
+no_puts [] names b name h = refl
+no_puts (p ∷ ps) names b name h = cc
 
 list_if : (b : Bool) → (if b then Some list_keys else None) ≡ Some list_keys → b ≡ true
 list_if true h = refl
 list_if false h = cc
 
-nothing_else : (es : Mirror) (ps : List Put) (names : List Name) (b : Bool)
-    → or_else (put_in es ps) (or_else (get_in names) (if b then Some list_keys else None)) ≡ Some list_keys → (ps ≡ []) × (names ≡ []) × (b ≡ true)
-nothing_else es [] [] b h = (refl, refl, list_if b h)
-nothing_else es [] (n ∷ ns) b h = absurd cc
-nothing_else es (p ∷ ps) names b h = absurd cc
+nothing_else : (ps : List Put) (names : List Name) (b : Bool)
+    → or_else (put_in ps) (or_else (get_in names) (if b then Some list_keys else None)) ≡ Some list_keys → (ps ≡ []) × (names ≡ []) × (b ≡ true)
+nothing_else [] [] b h = (refl, refl, list_if b h)
+nothing_else [] (n ∷ ns) b h = absurd cc
+nothing_else (p ∷ ps) names b h = absurd cc
 
 three : (a b c d : Bool) → ((a && b && c) && d) ≡ true → (b ≡ true) × (c ≡ true)
 three true true true d h = (refl, refl)
@@ -83,8 +82,8 @@ zero_of n h = grind (arith, nat_tests, common_steps)
 
 pub puts_come_first : PutsComeFirst
 puts_come_first s now = (
-  λ name h. no_puts s.mirror s.puts s.gets _ name (allowed (is_none s.asked && may_ask now s.pace) (first_request now s) (get name) h),
-  λ h. (let n = nothing_else s.mirror s.puts s.gets (is_list_due s && nat_le s.pace.compare_at now)
+  λ name h. no_puts s.puts s.gets _ name (allowed (is_none s.asked && may_ask now s.pace) (first_request now s) (get name) h),
+  λ h. (let n = nothing_else s.puts s.gets (is_list_due s && nat_le s.pace.compare_at now)
       (allowed (is_none s.asked && may_ask now s.pace) (first_request now s) list_keys h) in
       let t = three s.pace.is_due (length s.updates == 0) (s.deciding == 0) (nat_le s.pace.compare_at now) n.2 in
       (n.0, n.1, none_of s.updates t.0, zero_of s.deciding t.1)),

@@ -1,5 +1,5 @@
 -- What the desk is asked was said by the agent, and not for many names at once.
-use Rattle.std.proofs.Common.{◌≡◌, ℕ, nat_lt, ◌==◌, List, [], ◌∷◌, ◌++◌, length, Bool, true, false, not, ◌&&◌, is_some, Option}
+use Rattle.std.proofs.Common.{◌≡◌, ℕ, nat_lt, ◌==◌, List, [], ◌∷◌, ◌++◌, length, Bool, true, false, not, is_some, Option}
 use Rattle.std.proofs.Common.{Some, None, Result, Ok, Err, inl, inr, refl, sym, ◌∙◌, ap, subst, append_assoc, if◌then◌else◌}
 use Rattle.std.proofs.Common.{is_ok}
 use Rattle.std.specs.List.{AllByRecursion}
@@ -21,10 +21,11 @@ use Rattle.chpw_kdc.specs.Mirrors.{key_of, judgement}
 use Rattle.chpw_kdc.specs.Dialogs.{State, at_start, after_loss, after_request, request_by, is_late, without_update, first_update}
 use Rattle.chpw_kdc.specs.Answering.{after_byte, after_answer, of_asked, of_list, of_get, of_put, after_judgement, with_listed}
 use Rattle.chpw_kdc.specs.Answering.{with_lacked, lacked_in, is_many, refused, is_listed, is_first, is_put_for, without_first}
-use Rattle.chpw_kdc.specs.Answering.{with_update, lifted, accepted, settled, has_version}
-use Rattle.chpw_kdc.specs.Runs.{Event, holds, holds_none, wants, loses_want, wants_comparison, connects, loses, asks, hears}
+use Rattle.chpw_kdc.specs.Answering.{with_update, lifted, accepted, settled, is_newest}
+use Rattle.chpw_kdc.specs.Runs.{Event, holds, holds_none, fills, wants, loses_want, wants_comparison, connects, loses, asks, hears}
 use Rattle.chpw_kdc.specs.Runs.{ticks, takes, decides, tells, behind, run, state_after, Keeps, Lasts, Grounds, IsGrounded}
 use Rattle.chpw_kdc.specs.Runs.{UpdatesAreGrounded, AsksFew, FewAreAsked}
+use Rattle.chpw_kdc.specs.Paces.{pace_due}
 use Rattle.chpw_kdc.proofs.EffectLemmas.{Said, Brings, from_test, from_named}
 use Rattle.chpw_kdc.proofs.RunLemmas.{run_append, by_events, by_byte, by_line, IsHeard}
 
@@ -123,6 +124,7 @@ grounded_behind : (start : ℕ) (done : List Event) (s : State) (e : Event) → 
     → AllGrounded start (done ++ e ∷ []) (behind s e).updates
 grounded_behind start done s (holds name key) is all = all_on start done s (holds name key) s.updates is tt all
 grounded_behind start done s (holds_none name) is all = all_on start done s (holds_none name) s.updates is tt all
+grounded_behind start done s (fills name) is all = all_on start done s (fills name) s.updates is tt all
 grounded_behind start done s (wants now name key) is all = all_on start done s (wants now name key) s.updates is tt all
 grounded_behind start done s loses_want is all = all_on start done s loses_want s.updates is tt all
 grounded_behind start done s wants_comparison is all = all_on start done s wants_comparison s.updates is tt all
@@ -163,9 +165,11 @@ refused_gets : (b : Bool) (name : Name) (why : Reason) (s : State) → (if b the
 refused_gets true name why s = refl
 refused_gets false name why s = refl
 
-lifted_gets : (b : Bool) (u : KdcUpdate) (s : State) → (if b then with_update u s else s).gets ≡ s.gets
-lifted_gets true u s = refl
-lifted_gets false u s = refl
+lifted_gets : (b c : Bool) (u : KdcUpdate) (s : State)
+    → (if b then if c then with_update u s else record s { pace = pace_due s.pace } else s).gets ≡ s.gets
+lifted_gets true true u s = refl
+lifted_gets true false u s = refl
+lifted_gets false c u s = refl
 
 lacked_gets : (b : Bool) (s : State) (x : State) → is_many (length (lacked_in s.listed s.mirror)) (length s.mirror) ≡ b → x.gets ≡ s.gets
     → AsksFew s (if b then x else record s { gets = lacked_in s.listed s.mirror })
@@ -214,7 +218,7 @@ put_gets key now s t (answer.Put name kvno) h = by_name (is_put_for s.puts name)
         → AsksFew s t
     by_name true g =
         subst (AsksFew s) (from_test (nat_lt kvno key.kvno) _ _ t g).1
-        (inl (lifted_gets (nat_lt key.kvno kvno && has_version (key_of s.mirror name) key.kvno) (update.Lift name kvno) s))
+        (inl (lifted_gets (nat_lt key.kvno kvno) (is_newest name key.kvno s) (update.Lift name kvno) s))
     by_name false g = absurd cc
 put_gets key now s t (answer.None name) h = subst (AsksFew s) (from_named (is_put_for s.puts name) _ t h).1 (inl refl)
 put_gets key now s t (answer.Refused name why) h = subst (AsksFew s) (from_named (is_put_for s.puts name) _ t h).1 (inl refl)
@@ -259,6 +263,7 @@ take_gets s (u ∷ us) = refl
 pub few_are_asked : FewAreAsked
 few_are_asked s (holds name key) = inl refl
 few_are_asked s (holds_none name) = inl refl
+few_are_asked s (fills name) = inl refl
 few_are_asked s (wants now name key) = inl refl
 few_are_asked s loses_want = inl refl
 few_are_asked s wants_comparison = inl refl

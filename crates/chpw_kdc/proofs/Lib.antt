@@ -9,6 +9,7 @@ pub mod RunLemmas
 pub mod ToldLemmas
 pub mod TruthLemmas
 pub mod GroundLemmas
+pub mod ListLemmas
 pub mod WordLemmas
 pub mod SpellingLemmas
 pub mod ShortLemmas

@@ -13,13 +13,13 @@ use Rattle.chpw_rules.specs.declared.name.Name.{Name}
 use Rattle.chpw_record.specs.declared.key.KeyRow.{KeyRow}
 use Rattle.chpw_kdc.specs.declared.put.Put.{Put}
 use Rattle.chpw_kdc.specs.Lines.{Request, list_keys, get, put, is_sayable, is_filled, name_length, name_text, request_line}
-use Rattle.chpw_kdc.specs.Mirrors.{Mirror, newest}
+use Rattle.chpw_kdc.specs.Mirrors.{Mirror}
 use Rattle.chpw_kdc.specs.Paces.{may_ask}
 use Rattle.chpw_kdc.specs.Dialogs.{State, at_start, request_by, first_request, put_in, get_in, or_else, is_list_due}
 use Rattle.chpw_kdc.specs.Answering.{without_first, lacked_in, is_listed}
-use Rattle.chpw_kdc.specs.Runs.{Event, holds, holds_none, wants, loses_want, wants_comparison, connects, loses, asks, hears}
+use Rattle.chpw_kdc.specs.Runs.{Event, holds, holds_none, fills, wants, loses_want, wants_comparison, connects, loses, asks, hears}
 use Rattle.chpw_kdc.specs.Runs.{ticks, takes, decides, tells, behind, run, Tells, AsksFew, IsSayableKey, IsTakenIn, LinesAreShort}
-use Rattle.chpw_kdc.proofs.MirrorLemmas.{AllKeys, of_newest}
+use Rattle.chpw_kdc.proofs.MirrorLemmas.{AllKeys}
 use Rattle.chpw_kdc.proofs.ToldLemmas.{AllPuts, Keeps, kept_behind, allowed}
 use Rattle.chpw_kdc.proofs.GroundLemmas.{few_are_asked}
 
@@ -80,6 +80,7 @@ told_of : (e : Event) → IsTakenIn e → (n : Name) (k : KeyRow) → Tells e n 
 told_of (holds name key) taken n k t = subst (λ (m : Name). IsSayableKey m k) t.0 (subst (λ (l : KeyRow). IsSayableKey name l) t.1 taken)
 told_of (wants now name key) taken n k t = subst (λ (m : Name). IsSayableKey m k) t.0 (subst (λ (l : KeyRow). IsSayableKey name l) t.1 taken)
 told_of (holds_none name) taken n k t = absurd t
+told_of (fills name) taken n k t = absurd t
 told_of loses_want taken n k t = absurd t
 told_of wants_comparison taken n k t = absurd t
 told_of (connects now) taken n k t = absurd t
@@ -117,13 +118,13 @@ gets_short (n ∷ ns) b r all h =
     let same : get n ≡ r = cc in
     subst (λ (q : Request). length (request_line q) ≤ 1024) same (get_short (name_text n.parts) (name_short n all.0))
 
-puts_short : (es : Mirror) (ps : List Put) (names : List Name) (b : Bool) (r : Request) → AllKeys IsSayableKey es → AllPuts IsSayableKey ps → AllNames names
-    → or_else (put_in es ps) (or_else (get_in names) (if b then Some list_keys else None)) ≡ Some r → length (request_line r) ≤ 1024
-puts_short es [] names b r keys puts all h = gets_short names b r all h
-puts_short es (p ∷ ps) names b r keys puts all h =
-    let same : put p.name (newest es p.name p.key) ≡ r = cc in
+puts_short : (ps : List Put) (names : List Name) (b : Bool) (r : Request) → AllPuts IsSayableKey ps → AllNames names
+    → or_else (put_in ps) (or_else (get_in names) (if b then Some list_keys else None)) ≡ Some r → length (request_line r) ≤ 1024
+puts_short [] names b r puts all h = gets_short names b r all h
+puts_short (p ∷ ps) names b r puts all h =
+    let same : put p.name p.key ≡ r = cc in
     subst (λ (q : Request). length (request_line q) ≤ 1024) same
-    (line_short p.name (newest es p.name p.key) (of_newest IsSayableKey es p.name p.key keys puts.0))
+    (line_short p.name p.key puts.0)
 
 pub lines_are_short : LinesAreShort
 lines_are_short start events now r taken h =
@@ -131,5 +132,5 @@ lines_are_short start events now r taken h =
   where
     done : (s : State) → IsSaid s → request_by now s ≡ Some r → length (request_line r) ≤ 1024
     done s i g =
-        puts_short s.mirror s.puts s.gets (is_list_due s && nat_le s.pace.compare_at now) r i.keys.mirror i.keys.puts i.names
+        puts_short s.puts s.gets (is_list_due s && nat_le s.pace.compare_at now) r i.keys.puts i.names
         (allowed (is_none s.asked && may_ask now s.pace) (first_request now s) r g)

@@ -7,14 +7,14 @@ use Rattle.chpw_record.specs.declared.key.KeyRow.{KeyRow}
 use Rattle.chpw_kdc.specs.declared.put.Put.{Put}
 use Rattle.chpw_kdc.specs.declared.update.KdcUpdate.{KdcUpdate}
 use Rattle.chpw_kdc.specs.Lines.{Request, list_keys, get, put}
-use Rattle.chpw_kdc.specs.Mirrors.{Mirror, newest}
+use Rattle.chpw_kdc.specs.Mirrors.{Mirror}
 use Rattle.chpw_kdc.specs.Paces.{may_ask}
 use Rattle.chpw_kdc.specs.Dialogs.{State, ticketed, after_loss, after_request, request_by, first_request, put_in, get_in, or_else}
 use Rattle.chpw_kdc.specs.Dialogs.{is_late, without_update}
 use Rattle.chpw_kdc.specs.Answering.{without_first}
-use Rattle.chpw_kdc.specs.Runs.{Event, holds, holds_none, wants, loses_want, wants_comparison, connects, loses, asks, hears}
+use Rattle.chpw_kdc.specs.Runs.{Event, holds, holds_none, fills, wants, loses_want, wants_comparison, connects, loses, asks, hears}
 use Rattle.chpw_kdc.specs.Runs.{ticks, takes, decides, tells, behind, state_after, Tells, IsTold, PutsAreTold}
-use Rattle.chpw_kdc.proofs.MirrorLemmas.{AllKeys, of_found, of_told, of_without, of_newest}
+use Rattle.chpw_kdc.proofs.MirrorLemmas.{AllKeys, of_found, of_told, of_without}
 use Rattle.chpw_kdc.proofs.EffectLemmas.{Waits, PutsRight, IsSettled, internal}
 use Rattle.chpw_kdc.proofs.RunLemmas.{by_events, by_byte, IsHeard}
 
@@ -81,6 +81,7 @@ heard_keeps Q ours s t byte k (inr h) = record {
 pub kept_behind : (Q : Name → KeyRow → Type 0) (s : State) (e : Event) → ((n : Name) (k : KeyRow) → Tells e n k → Q n k) → Keeps Q s → Keeps Q (behind s e)
 kept_behind Q s (holds name key) told k = record { mirror = of_told Q s.mirror name key k.mirror (told name key (refl, refl)); puts = k.puts }
 kept_behind Q s (holds_none name) told k = record { mirror = of_without Q s.mirror name k.mirror; puts = k.puts }
+kept_behind Q s (fills name) told k = record { mirror = k.mirror; puts = k.puts }
 kept_behind Q s (wants now name key) told k = record {
   mirror = of_told Q s.mirror name key k.mirror (told name key (refl, refl));
   puts = of_one_more Q s.puts (ticketed now name key (s.issued + 1)) k.puts (told name key (refl, refl));
@@ -134,18 +135,18 @@ pub no_put : (names : List Name) (b : Bool) (name : Name) (key : KeyRow)
 no_put [] b name key h = no_list b name key h
 no_put (n ∷ ns) b name key h = cc
 
-of_put : (Q : Name → KeyRow → Type 0) (es : Mirror) (ps : List Put) (names : List Name) (b : Bool) (name : Name) (key : KeyRow)
-    → AllKeys Q es → AllPuts Q ps → or_else (put_in es ps) (or_else (get_in names) (if b then Some list_keys else None)) ≡ Some (put name key) → Q name key
-of_put Q es [] names b name key all puts h = absurd (no_put names b name key h)
-of_put Q es (p ∷ ps) names b name key all puts h =
+of_put : (Q : Name → KeyRow → Type 0) (ps : List Put) (names : List Name) (b : Bool) (name : Name) (key : KeyRow)
+    → AllPuts Q ps → or_else (put_in ps) (or_else (get_in names) (if b then Some list_keys else None)) ≡ Some (put name key) → Q name key
+of_put Q [] names b name key puts h = absurd (no_put names b name key h)
+of_put Q (p ∷ ps) names b name key puts h =
     let n : p.name ≡ name = cc in
-    let k : newest es p.name p.key ≡ key = cc in
-    subst (λ (m : Name). Q m key) n (subst (λ (l : KeyRow). Q p.name l) k (of_newest Q es p.name p.key all puts.0))
+    let k : p.key ≡ key = cc in
+    subst (λ (m : Name). Q m key) n (subst (λ (l : KeyRow). Q p.name l) k puts.0)
 
 pub puts_are_told : PutsAreTold
 puts_are_told start events now name key h = done (state_after start events) (always_told start events) h
   where
     done : (s : State) → Keeps (IsTold events) s → request_by now s ≡ Some (put name key) → IsTold events name key
     done s k g =
-        of_put (IsTold events) s.mirror s.puts s.gets _ name key k.mirror k.puts
+        of_put (IsTold events) s.puts s.gets _ name key k.puts
         (allowed (is_none s.asked && may_ask now s.pace) (first_request now s) (put name key) g)

@@ -11,15 +11,14 @@ use Rattle.chpw_kdc.specs.declared.put.Asked.{Asked}
 use Rattle.chpw_kdc.specs.declared.put.Asked.TheVariants as asked
 use Rattle.chpw_kdc.specs.declared.update.KdcUpdate.{KdcUpdate}
 use Rattle.chpw_kdc.specs.Lines.{Request, list_keys, get, put, answer_of}
-use Rattle.chpw_kdc.specs.Mirrors.{Mirror, newest}
 use Rattle.chpw_kdc.specs.Paces.{may_ask}
 use Rattle.chpw_kdc.specs.Dialogs.{State, at_start, ticketed, after_loss, after_request, request_by, first_request, put_in}
 use Rattle.chpw_kdc.specs.Dialogs.{get_in, or_else, is_late, without_update}
 use Rattle.chpw_kdc.specs.Answering.{without_first, confirmed_with, later_ticket, is_put_for}
-use Rattle.chpw_kdc.specs.Runs.{Event, holds, holds_none, wants, loses_want, wants_comparison, connects, loses, asks, hears}
+use Rattle.chpw_kdc.specs.Runs.{Event, holds, holds_none, fills, wants, loses_want, wants_comparison, connects, loses, asks, hears}
 use Rattle.chpw_kdc.specs.Runs.{ticks, takes, decides, tells, behind, run, state_after, Settles, IsAnswered, IsConfirmed}
 use Rattle.chpw_kdc.specs.Runs.{Truthful, NeverFalls}
-use Rattle.chpw_kdc.proofs.MirrorLemmas.{name_exact, newest_no_older}
+use Rattle.chpw_kdc.proofs.MirrorLemmas.{name_exact}
 use Rattle.chpw_kdc.proofs.EffectLemmas.{Waits, PutsRight, IsSettled, internal}
 use Rattle.chpw_kdc.proofs.RunLemmas.{run_append, by_events, by_byte, IsHeard}
 use Rattle.chpw_kdc.proofs.ToldLemmas.{allowed, no_put}
@@ -101,13 +100,13 @@ all_less start events (p ∷ ps) all = all.1
 
 -- ---- what is under way
 
--- a put that is under way is no older than the first one
+-- a put that is under way is the first one
 abbrev IsFirst : Option Asked → List Put → Type 0
 IsFirst None ps = Unit {0}
 IsFirst (Some asked.List) ps = Unit {0}
 IsFirst (Some asked.Get) ps = Unit {0}
 IsFirst (Some (asked.Put key)) [] = ⊥
-IsFirst (Some (asked.Put key)) (p ∷ ps) = p.key.kvno ≤ key.kvno
+IsFirst (Some (asked.Put key)) (p ∷ ps) = key ≡ p.key
 
 first_more : (o : Option Asked) (ps : List Put) (p : Put) → IsFirst o ps → IsFirst o (ps ++ p ∷ [])
 first_more None ps p f = tt
@@ -116,12 +115,10 @@ first_more (Some asked.Get) ps p f = tt
 first_more (Some (asked.Put key)) [] p f = absurd f
 first_more (Some (asked.Put key)) (x ∷ xs) p f = f
 
-first_asked : (es : Mirror) (ps : List Put) (names : List Name) (b : Bool) (name : Name) (key : KeyRow)
-    → or_else (put_in es ps) (or_else (get_in names) (if b then Some list_keys else None)) ≡ Some (put name key) → IsFirst (Some (asked.Put key)) ps
-first_asked es [] names b name key h = absurd (no_put names b name key h)
-first_asked es (p ∷ ps) names b name key h =
-    let k : newest es p.name p.key ≡ key = cc in
-    subst (λ (l : KeyRow). p.key.kvno ≤ l.kvno) k (newest_no_older es p.name p.key)
+first_asked : (ps : List Put) (names : List Name) (b : Bool) (name : Name) (key : KeyRow)
+    → or_else (put_in ps) (or_else (get_in names) (if b then Some list_keys else None)) ≡ Some (put name key) → IsFirst (Some (asked.Put key)) ps
+first_asked [] names b name key h = absurd (no_put names b name key h)
+first_asked (p ∷ ps) names b name key h = cc
 
 -- ---- together
 
@@ -196,16 +193,17 @@ asked_as start events c ps i o p (inr same) h = subst (λ (q : Option Asked). Ho
 answered_first : (s : State) (ps : List Put) (a : Answer) (name : Name) (key : KeyRow) (p : Put) (rest : List Put)
     → s.asked ≡ Some (asked.Put key) → ps ≡ p ∷ rest → is_put_for ps name ≡ true → Settles a name key → answer_of s.heard ≡ Ok a
     → IsFirst s.asked ps → IsAnswered s p.name p.key
-answered_first s ps a name key p rest under parts first settles line below = record {
-  asked_key = key;
-  answer = a;
-  under_way = under;
-  no_older = (let f : IsFirst (Some (asked.Put key)) (p ∷ rest) =
-      subst (λ (o : Option Asked). IsFirst o (p ∷ rest)) under (subst (λ (qs : List Put). IsFirst s.asked qs) parts below) in f);
-  line = line;
-  settles = subst (λ (n : Name). Settles a n key)
-      (sym (name_exact p.name name (subst (λ (qs : List Put). is_put_for qs name ≡ true) parts first))) settles;
-}
+answered_first s ps a name key p rest under parts first settles line below =
+    let own : IsFirst (Some (asked.Put key)) (p ∷ rest) =
+    subst (λ (o : Option Asked). IsFirst o (p ∷ rest)) under (subst (λ (qs : List Put). IsFirst s.asked qs) parts below) in
+    let same : key ≡ p.key = own in
+    let n : p.name ≡ name = name_exact p.name name (subst (λ (qs : List Put). is_put_for qs name ≡ true) parts first) in
+    record {
+      answer = a;
+      under_way = under ∙ ap (λ (k : KeyRow). Some (asked.Put k)) same;
+      line = line;
+      settles = subst (λ (k : KeyRow). Settles a p.name k) same (subst (λ (m : Name). Settles a m key) (sym n) settles);
+    }
 
 confirmed_now : (start : ℕ) (done : List Event) (s : State) (ours : Name → Bool) (now : ℕ) (ticket : ℕ) (p : Put)
     → s ≡ state_after start done → WasWanted start done ticket p.name p.key → IsAnswered s p.name p.key
@@ -293,7 +291,7 @@ request_holds start events now s (Some (get name)) is h = record { tickets = h.t
 request_holds start events now s (Some (put name key)) is h = record {
   tickets = h.tickets;
   wanted = h.wanted;
-  first = first_asked s.mirror s.puts s.gets _ name key (allowed (is_none s.asked && may_ask now s.pace) (first_request now s) (put name key) is);
+  first = first_asked s.puts s.gets _ name key (allowed (is_none s.asked && may_ask now s.pace) (first_request now s) (put name key) is);
   confirmed = h.confirmed;
 }
 
@@ -310,6 +308,7 @@ holds_behind : (start : ℕ) (done : List Event) (s : State) (e : Event) → s �
     → Always start (done ++ e ∷ []) (behind s e)
 holds_behind start done s (holds name key) is h = on start done (holds name key) s.confirmed s.puts s.issued s.asked h
 holds_behind start done s (holds_none name) is h = on start done (holds_none name) s.confirmed s.puts s.issued s.asked h
+holds_behind start done s (fills name) is h = on start done (fills name) s.confirmed s.puts s.issued s.asked h
 holds_behind start done s (wants now name key) is h = wanted_more start done s now name key is h
 holds_behind start done s loses_want is h = on start done loses_want s.confirmed s.puts s.issued s.asked h
 holds_behind start done s wants_comparison is h = on start done wants_comparison s.confirmed s.puts s.issued s.asked h
@@ -370,6 +369,7 @@ take_grows s (u ∷ us) = omega arith
 grows : (s : State) (e : Event) → s.confirmed ≤ (behind s e).confirmed
 grows s (holds name key) = omega arith
 grows s (holds_none name) = omega arith
+grows s (fills name) = omega arith
 grows s (wants now name key) = omega arith
 grows s loses_want = omega arith
 grows s wants_comparison = omega arith

@@ -154,10 +154,18 @@ abbrev pub has_version : Option KeyRow → ℕ → Bool
 has_version None kvno = false
 has_version (Some held) kvno = held.kvno == kvno
 
--- the table's key is lifted if the KDC has it under a higher version, and the mirror still has the version that was put
+-- the table's newest key is the one that was put: the mirror has its version, and the desk has decided all that it was asked
+abbrev pub is_newest : Name → ℕ → State → Bool
+is_newest name put s = has_version (key_of s.mirror name) put && (length s.updates == 0) && (s.deciding == 0)
+
+-- the KDC has the key under a higher version: the table's is lifted if it is the newest one; else they are compared, and the key
+-- comes back in front of others
+abbrev pub after_higher : Name → ℕ → ℕ → State → State
+after_higher name put kvno s =
+    if is_newest name put s then with_update (update.Lift name kvno) s else record s { pace = pace_due s.pace }
+
 abbrev pub lifted : Name → ℕ → ℕ → State → State
-lifted name put kvno s =
-    if nat_lt put kvno && has_version (key_of s.mirror name) put then with_update (update.Lift name kvno) s else s
+lifted name put kvno s = if nat_lt put kvno then after_higher name put kvno s else s
 
 abbrev pub accepted : Name → State → State
 accepted name s = record s { tellings = after_accepted name s.tellings }

@@ -10,9 +10,9 @@ use Rattle.chpw_kdc.specs.declared.put.Asked.{Asked}
 use Rattle.chpw_kdc.specs.declared.put.Asked.TheVariants as asked
 use Rattle.chpw_kdc.specs.declared.update.KdcUpdate.{KdcUpdate}
 use Rattle.chpw_kdc.specs.Lines.{Request, list_keys, get, put}
-use Rattle.chpw_kdc.specs.Mirrors.{Mirror, told, newest, without}
+use Rattle.chpw_kdc.specs.Mirrors.{Mirror, told, without, key_of}
 use Rattle.chpw_kdc.specs.Paces.{pace_at_start, pace_connected, pace_lost, pace_awaiting, pace_begun, pace_due, may_ask, later}
-use Rattle.chpw_kdc.specs.Tellings.{Tellings, nothing_told, after_lost_change, after_notice}
+use Rattle.chpw_kdc.specs.Tellings.{Tellings, nothing_told, after_lost_change, after_full, after_room, after_notice}
 
 -- The mirror; the keys that the KDC is to get, the first of which may be under way; the last ticket that was given, and the
 -- last that is confirmed; whether the KDC has the key whose put was answered last; the request under way, and the beginning
@@ -57,9 +57,18 @@ at_start now = record {
 abbrev pub after_hold : Name → KeyRow → State → State
 after_hold name key s = record s { mirror = told s.mirror name key }
 
--- the table has no such name
+-- the table has no such name; if it had, there is room for one that wasn't adopted, and they are compared anew
 abbrev pub after_none : Name → State → State
-after_none name s = record s { mirror = without s.mirror name }
+after_none name s =
+    let gone = is_some (key_of s.mirror name) in record s {
+      mirror = without s.mirror name;
+      tellings = if gone then after_room s.tellings else s.tellings;
+      pace = if gone && s.tellings.is_full_told then pace_due s.pace else s.pace;
+    }
+
+-- the table is full, so that the name isn't adopted
+abbrev pub after_full_table : Name → State → State
+after_full_table name s = record s { tellings = after_full name s.tellings }
 
 abbrev pub ticketed : ℕ → Name → KeyRow → ℕ → Put
 ticketed now name key ticket = record { name = name; key = key; ticket = Some ticket; since = now }
@@ -94,16 +103,13 @@ after_loss now s = record (forgotten s) { pace = pace_lost now s.pace }
 
 -- ---- what is asked
 
--- a put has the newest key of its name: the mirror's, or its own
-abbrev pub put_of : Mirror → Put → Request
-put_of mirror p = put p.name (newest mirror p.name p.key)
-
-abbrev pub put_in : Mirror → List Put → Option Request
-put_in mirror [] = None
-put_in mirror (p ∷ ps) = Some (put_of mirror p)
+-- a put has its own key: a newer one of the table's has a put of its own, or is the KDC's
+abbrev pub put_in : List Put → Option Request
+put_in [] = None
+put_in (p ∷ ps) = Some (put p.name p.key)
 
 abbrev pub first_put : State → Option Request
-first_put s = put_in s.mirror s.puts
+first_put s = put_in s.puts
 
 abbrev pub get_in : List Name → Option Request
 get_in [] = None

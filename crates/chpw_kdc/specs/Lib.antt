@@ -9,4 +9,5 @@ pub mod Times
 pub mod Answering
 pub mod Answers
 pub mod Runs
+pub mod Lists
 pub mod Spelling

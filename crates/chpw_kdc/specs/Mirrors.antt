@@ -1,9 +1,11 @@
 -- The mirror of the table: the newest key that was told for each name, in the order of the names.
-use Rattle.std.specs.Prelude.{ℕ, Bool, ◌&&◌, ◌==◌, nat_lt, bytes_eq, if◌then◌else◌, List, length, Option, Some, None}
+use Rattle.std.specs.Prelude.{ℕ, Bool, false, ◌&&◌, ◌==◌, nat_lt, bytes_eq, if◌then◌else◌, List, length, Option, Some, None}
 use Rattle.std.specs.Map.{lookup, remove_entry}
 use Rattle.std.specs.BTreeMap.{is_at, insert_entry}
 use Rattle.chpw_rules.specs.declared.name.Name.{Name}
+use Rattle.chpw_rules.specs.declared.pattern.NamePatterns.{NamePatterns}
 use Rattle.chpw_rules.specs.Names.{name_cmp, is_name}
+use Rattle.chpw_rules.specs.Patterns.{is_ours}
 use Rattle.chpw_record.specs.declared.key.KeyRow.{KeyRow}
 use Rattle.chpw_kdc.specs.declared.fields.KeyPair.{KeyPair}
 use Rattle.chpw_kdc.specs.declared.judging.Judgement.{Judgement}
@@ -39,6 +41,11 @@ abbrev pub told : Mirror → Name → KeyRow → Mirror
 told mirror name key = with_key mirror name (newest mirror name key)
 
 -- ---- against what the KDC has
+
+-- by patterns, if there are any
+abbrev pub are_ours : Option NamePatterns → Name → Bool
+are_ours None name = false
+are_ours (Some patterns) name = is_ours patterns name
 
 -- a name that isn't held may be adopted: of one component, within the limits, and the service's
 abbrev pub may_adopt : (Name → Bool) → Name → Bool

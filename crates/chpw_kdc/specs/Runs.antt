@@ -13,19 +13,21 @@ use Rattle.chpw_kdc.specs.declared.update.KdcUpdate.{KdcUpdate}
 use Rattle.chpw_kdc.specs.declared.update.KdcUpdate.TheVariants as update
 use Rattle.chpw_kdc.specs.Lines.{Request, list_keys, get, put, answer_of, is_sayable, request_line}
 use Rattle.chpw_kdc.specs.Mirrors.{key_of, may_adopt, adopted}
-use Rattle.chpw_kdc.specs.Dialogs.{State, at_start, after_hold, after_none, after_want, after_want_comparison, after_lost_want}
+use Rattle.chpw_kdc.specs.Dialogs.{State, at_start, after_hold, after_none, after_full_table, after_want, after_want_comparison, after_lost_want}
 use Rattle.chpw_kdc.specs.Dialogs.{after_connect, after_loss, after_ask, after_tick, after_take, after_decision, after_telling}
 use Rattle.chpw_kdc.specs.Dialogs.{request_by, is_late, first_update}
 use Rattle.chpw_kdc.specs.Answering.{after_byte, after_bytes, is_first, is_put_for, is_many, lacked_in, without_first}
 
 -- ---- what happens
 
--- The table has a key of a name, or no such name; a change is accepted, or lost; a comparison is wanted; a connection is made, or lost; the service asks;
+-- The table has a key of a name, or no such name, or no room for it; a change is accepted, or lost; a comparison is wanted; a
+-- connection is made, or lost; the service asks;
 -- the agent says a byte, where this is the test of which names are the service's; time passes; the desk is asked, and decides;
 -- a notice is taken.
 pub data Event : Type 0 where
   holds : Name → KeyRow → Event
   holds_none : Name → Event
+  fills : Name → Event
   wants : ℕ → Name → KeyRow → Event
   loses_want : Event
   wants_comparison : Event
@@ -46,6 +48,7 @@ or_lost now s (Err why) = after_loss now s
 abbrev pub behind : State → Event → State
 behind s (holds name key) = after_hold name key s
 behind s (holds_none name) = after_none name s
+behind s (fills name) = after_full_table name s
 behind s (wants now name key) = after_want now name key s
 behind s loses_want = after_lost_want s
 behind s wants_comparison = after_want_comparison s
@@ -105,16 +108,14 @@ Settles (answer.None n) name key = n ≡ name
 Settles (answer.Refused n why) name key = n ≡ name
 Settles a name key = ⊥
 
--- a put of the name in this version or a later one is under way, and the line so far is an answer that settles it
+-- a put of this key of the name is under way, and the line so far is an answer that settles it
 pub record IsAnswered (s : State) (name : Name) (key : KeyRow) : Type 0 where
-  pub asked_key : KeyRow
   pub answer : Answer
-  pub under_way : s.asked ≡ Some (asked.Put asked_key)
-  pub no_older : key.kvno ≤ asked_key.kvno
+  pub under_way : s.asked ≡ Some (asked.Put key)
   pub line : answer_of s.heard ≡ Ok answer
-  pub settles : Settles answer name asked_key
+  pub settles : Settles answer name key
 
--- a change got this ticket, and later its put, or one of a later version, was answered by a whole line
+-- a change got this ticket, and later the put of its own key was answered by a whole line
 pub record IsConfirmed (start : ℕ) (events : List Event) (ticket : ℕ) : Type 0 where
   pub before : List Event
   pub wanted_at : ℕ

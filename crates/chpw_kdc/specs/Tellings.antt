@@ -7,20 +7,21 @@ use Rattle.chpw_rules.specs.Names.{name_cmp}
 use Rattle.chpw_kdc.specs.declared.answer.Reason.{Reason}
 use Rattle.chpw_kdc.specs.declared.answer.Reason.TheVariants as reason
 use Rattle.chpw_kdc.specs.declared.update.Notice.{Notice}
-use Rattle.chpw_kdc.specs.declared.update.Notice.TheVariants.{Lost, Refused, TooManyGone, Failed}
+use Rattle.chpw_kdc.specs.declared.update.Notice.TheVariants.{Lost, Refused, TooManyGone, TableFull, Failed}
 use Rattle.chpw_kdc.specs.declared.update.Refusal.{Refusal}
 
 -- what is to be told, the reason that was told last for each name, the last refusal; a change was lost and that isn't told
--- yet; a failure was told and nothing has succeeded since
+-- yet; a failure was told and nothing has succeeded since; it was told that the table is full, and no name has gone since
 pub record Tellings : Type 0 where
   pub notices : List Notice
   pub told : List (Name × Reason)
   pub refusal : Option Refusal
   pub is_lost : Bool
   pub is_failing : Bool
+  pub is_full_told : Bool
 
 abbrev pub nothing_told : Tellings
-nothing_told = record { notices = []; told = []; refusal = None; is_lost = false; is_failing = false }
+nothing_told = record { notices = []; told = []; refusal = None; is_lost = false; is_failing = false; is_full_told = false }
 
 abbrev pub same_reason : Reason → Reason → Bool
 same_reason reason.Reserved reason.Reserved = true
@@ -64,6 +65,14 @@ after_failure text t =
 
 abbrev pub after_success : Tellings → Tellings
 after_success t = record t { is_failing = false }
+
+-- a name isn't adopted, since the table is full: told unless that was told and no name has gone since
+abbrev pub after_full : Name → Tellings → Tellings
+after_full name t =
+    if t.is_full_told then t else record t { notices = t.notices ++ TableFull name ∷ []; is_full_told = true }
+
+abbrev pub after_room : Tellings → Tellings
+after_room t = record t { is_full_told = false }
 
 abbrev pub after_lost_change : Tellings → Tellings
 after_lost_change t = record t { is_lost = true }

@@ -2,6 +2,7 @@
 ghost use Rattle.std.specs.Prelude.{◌≡◌, not, ◌==◌, length, Ok};
 ghost use Rattle.chpw_kdc.specs.Lines.{reason_in};
 ghost use Rattle.chpw_kdc.specs.Paces.{pace_due};
+ghost use Rattle.chpw_kdc.specs.Spelling.{reason_word};
 
 use crate::answer::Reason;
 use crate::dialog::KdcDialog;
@@ -10,6 +11,7 @@ impl Reason {
     /// Its word in a line of the agent's.
     pub fn word(self) -> &'static str
         ensures word { reason_in result.now ≡ Ok self }
+        ensures value { result.now ≡ reason_word self }
     {
         match self {
             Reason::Reserved => "reserved",

@@ -61,7 +61,7 @@ impl KdcDialog {
         }
     }
 
-    // Asks that the name of the first put gets its newest key.
+    // Asks for the first put.
     fn ask_put(&mut self, now: u64) -> Result<Option<Vec<u8>>, AllocError>
         ensures line { IfOk result (λ line.
             option_map (λ l. l.items) line ≡ option_map request_line (first_put self.old)) }
@@ -71,7 +71,7 @@ impl KdcDialog {
         let Some(put) = self.puts.front() else {
             return Ok(None);
         };
-        let key = self.newest(&put.name, put.key);
+        let key = put.key;
         let request = Request::Put {
             name: &put.name,
             key: &key,

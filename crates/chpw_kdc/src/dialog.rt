@@ -3,7 +3,7 @@ ghost use Rattle.std.specs.Prelude.{◌≡◌, ◌+◌, ◌==◌, ◌&&◌, not,
 ghost use Rattle.std.specs.Option.{option_copied};
 ghost use Rattle.chpw_kdc.specs.Lines.{is_sayable};
 ghost use Rattle.chpw_kdc.specs.Mirrors.{key_of, newest};
-ghost use Rattle.chpw_kdc.specs.Dialogs.{at_start, after_hold, after_none, after_want, after_want_comparison, after_lost_want};
+ghost use Rattle.chpw_kdc.specs.Dialogs.{at_start, after_hold, after_none, after_full_table, after_want, after_want_comparison, after_lost_want};
 ghost use Rattle.chpw_kdc.specs.Dialogs.{forgotten, after_connect, after_loss, first_update, after_take, after_decision};
 ghost use Rattle.chpw_kdc.specs.Dialogs.{after_telling, is_in_reach};
 ghost use Rattle.chpw_kdc.specs.Tellings.{next_notice};
@@ -150,11 +150,31 @@ impl KdcDialog {
         }
     }
 
-    /// The table has no such name, or has it no more.
+    /// The table has no such name, or has it no more. If it was full, so that another one wasn't adopted, table and KDC are
+    /// compared again.
     pub fn hold_none(&mut self, name: &Name)
         ensures step { self.new ≡ after_none name.now self.old }
     {
-        self.mirror.remove(name);
+        if self.mirror.remove(name).is_some() && self.tellings.make_room() {
+            self.pace.is_due = true;
+        }
+    }
+
+    /// The desk didn't adopt this name, since its table has as many principals as it may. That is told once, until one of
+    /// them is gone. After `AllocError` nothing has changed.
+    pub fn tell_full(&mut self, name: Name) -> Result<(), AllocError>
+        ensures step { OnOk result (self.new ≡ after_full_table name self.old) }
+        ensures unchanged { OnErr result (self.new ≡ self.old) }
+    {
+        self.tellings.fill(name)?;
+        Ok(())
+    }
+
+    /// How many names the table has, as it was told.
+    pub fn held(&self) -> usize
+        ensures value { result ≡ length self.now.mirror }
+    {
+        self.mirror.len()
     }
 
     /// A change was accepted: the KDC is to get this key of the name. The change's ticket, one more than the last one;

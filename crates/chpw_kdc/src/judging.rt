@@ -6,7 +6,7 @@ ghost use Rattle.chpw_kdc.specs.Mirrors.{judgement, may_adopt, is_same, adopted,
 
 use crate::fields::KeyPair;
 use chpw_record::KeyRow;
-use chpw_rules::Name;
+use chpw_rules::{Name, NamePatterns};
 
 /// The iteration count under which KDCs derive keys (RFC 3962 section 4).
 pub const DEFAULT_COUNT: u32 = 4_096;
@@ -19,6 +19,20 @@ pub trait IsOurs {
     /// Whether the name is the service's.
     fn is_ours(&self, name: &Name) -> bool
         ensures { result ≡ ours self.now name.now };
+}
+
+// By patterns, if there are any.
+impl IsOurs for Option<NamePatterns> {
+    ghost use Rattle.chpw_kdc.specs.Mirrors.{are_ours};
+
+    ghost ours = { are_ours };
+
+    fn is_ours(&self, name: &Name) -> bool {
+        match self {
+            None => false,
+            Some(patterns) => patterns.is_ours(name),
+        }
+    }
 }
 
 /// What becomes of a name that the KDC has.

@@ -1,5 +1,6 @@
 //! What holds of all that is said and heard, in any order.
 ghost use Rattle.chpw_kdc.specs.Spelling.{LinesDiffer, ReadsBack};
+ghost use Rattle.chpw_kdc.specs.Lists.{ListsPutRight};
 ghost use Rattle.chpw_kdc.specs.Runs.{FaultsChangeNothing, FewAreAsked, LinesAreShort, NeverFalls, OneAtATime, Piecewise};
 ghost use Rattle.chpw_kdc.specs.Runs.{PutsAreTold, PutsComeFirst, Truthful, UpdatesAreGrounded};
 
@@ -26,6 +27,12 @@ pub fn never_less()
 #[tactic(auto, using(crate::proofs::GroundLemmas::updates_are_grounded))]
 pub fn only_what_the_kdc_says()
     ensures { UpdatesAreGrounded }
+{}
+
+/// A whole list puts right each name in which table and KDC differ, once: the KDC's newer key is for the desk to adopt, one of
+/// an older version, or another key of the same one, is put, and the names that it lacks are asked for alone.
+pub fn each_difference_once()
+    ensures { ListsPutRight }
 {}
 
 /// No more names are asked for alone than may be removed.

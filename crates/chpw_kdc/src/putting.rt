@@ -3,7 +3,7 @@ ghost use Rattle.std.specs.Prelude.{◌≡◌, OnOk, OnErr, IfErr, Ok, true, fal
 ghost use Rattle.chpw_kdc.specs.declared.fault.ProtocolFault.TheVariants.{OtherName};
 ghost use Rattle.chpw_kdc.specs.Faults.{IsFault};
 ghost use Rattle.chpw_kdc.specs.Answers.{SameLost};
-ghost use Rattle.chpw_kdc.specs.Answering.{of_put, is_put_for, lifted, has_version, popped};
+ghost use Rattle.chpw_kdc.specs.Answering.{of_put, is_put_for, is_newest, lifted, has_version, popped};
 ghost use Rattle.chpw_kdc.specs.Mirrors.{key_of};
 
 use crate::answer::Answer;
@@ -70,17 +70,30 @@ impl KdcDialog {
         }
     }
 
-    // The KDC has the key that was put under this version. If that is a higher one, and the mirror still has the
-    // version that was put, the table's key is lifted.
+    // The KDC has the key that was put under this version. If that is a higher one, the table's key is lifted, or comes back in
+    // front of others by a comparison.
     fn lift(&mut self, name: &Name, put: u32, kvno: u32) -> Result<(), AllocError>
         ensures step { OnOk result (self.new ≡ lifted name.now put kvno self.old) }
         ensures unchanged { OnErr result (self.new ≡ self.old) }
     {
-        if put < kvno && self.has_version(name, put) {
+        if kvno <= put {
+            return Ok(());
+        }
+        if self.is_newest(name, put) {
             let name = name.clone()?;
             self.updates.push_back(KdcUpdate::Lift { name, kvno })?;
+        } else {
+            self.pace.is_due = true;
         }
         Ok(())
+    }
+
+    // Whether the table's newest key of the name is the one that was put under this version: the mirror has it, and the desk has
+    // decided all that it was asked.
+    fn is_newest(&self, name: &Name, put: u32) -> bool
+        ensures value { result ≡ is_newest name.now put self.now }
+    {
+        self.has_version(name, put) && self.updates.is_empty() && self.deciding == 0
     }
 
     // Whether the mirror's key of the name has this version.

@@ -2,7 +2,7 @@
 ghost use Rattle.std.specs.Prelude.{◌≡◌, OnOk, OnErr};
 ghost use Rattle.std.specs.Option.{option_copied};
 ghost use Rattle.chpw_kdc.specs.Tellings.{nothing_told, after_refusal, after_told, is_told, after_accepted, after_missing};
-ghost use Rattle.chpw_kdc.specs.Tellings.{after_failure, after_success, after_lost_change, next_notice, after_notice};
+ghost use Rattle.chpw_kdc.specs.Tellings.{after_failure, after_success, after_lost_change, after_full, after_room, next_notice, after_notice};
 
 use crate::answer::Reason;
 use crate::update::{Notice, Refusal};
@@ -10,6 +10,7 @@ use chpw_rules::{Items, Name};
 use std::alloc::{AllocError, Global};
 use std::collections::{BTreeMap, VecDeque};
 use std::marker::Model;
+use std::mem;
 
 /// What is to be told, and what was told already.
 #[derive(Drop)]
@@ -24,6 +25,8 @@ pub(crate) struct Tellings {
     is_lost: bool,
     // A failure was told, and nothing has succeeded since.
     is_failing: bool,
+    // It was told that the table is full, and no name has gone since.
+    is_full_told: bool,
 }
 
 impl Model for Tellings {
@@ -31,7 +34,14 @@ impl Model for Tellings {
 
     ghost Value = { State };
 
-    ghost view = { λ t. record { notices = t.notices.items; told = t.told.entries; refusal = t.refusal; is_lost = t.is_lost; is_failing = t.is_failing } };
+    ghost view = { λ t. record {
+      notices = t.notices.items;
+      told = t.told.entries;
+      refusal = t.refusal;
+      is_lost = t.is_lost;
+      is_failing = t.is_failing;
+      is_full_told = t.is_full_told;
+    } };
 }
 
 impl Tellings {
@@ -44,6 +54,7 @@ impl Tellings {
             refusal: None,
             is_lost: false,
             is_failing: false,
+            is_full_told: false,
         }
     }
 
@@ -139,6 +150,27 @@ impl Tellings {
         self.notices.push_back(Notice::Failed { text })?;
         self.is_failing = true;
         Ok(())
+    }
+
+    /// The table is full, so a name isn't adopted. It is told unless that was told and no name has gone since.
+    pub fn fill(&mut self, name: Name) -> Result<(), AllocError>
+        ensures step { OnOk result (self.new ≡ after_full name self.old) }
+        ensures unchanged { OnErr result (self.new ≡ self.old) }
+    {
+        if self.is_full_told {
+            return Ok(());
+        }
+        self.notices.push_back(Notice::TableFull { name })?;
+        self.is_full_told = true;
+        Ok(())
+    }
+
+    /// A name has gone from the table: whether it was told that it is full.
+    pub fn make_room(&mut self) -> bool
+        ensures value { result ≡ self.old.is_full_told }
+        ensures step { self.new ≡ after_room self.old }
+    {
+        mem::take(&mut self.is_full_told)
     }
 
     /// A request was answered.

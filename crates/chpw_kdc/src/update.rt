@@ -24,6 +24,8 @@ pub enum Notice {
     Refused { name: Name, reason: Reason },
     /// The KDC lacks `gone` of the `of` names that are held: more than ten, and more than a tenth. None is removed.
     TooManyGone { gone: usize, of: usize },
+    /// The table has as many principals as it may: this name of the KDC's isn't adopted, nor another one until one is gone.
+    TableFull { name: Name },
     /// The database, or memory, can't be had: what the agent says of it.
     Failed { text: Items<u8> },
 }
