@@ -6,7 +6,6 @@ use crate::journals::JournalLength;
 use chpw_invocation::ServeOptions;
 use chpw_logging::Log;
 use chpw_reactor::Engine;
-use chpw_rules::NamePatterns;
 use std::sync::Wait;
 
 /// What all desks are served with.
@@ -18,8 +17,6 @@ pub struct ServiceContext<'l, R: Wait + Eprint> {
     /// How long the journal is.
     pub journal: JournalLength,
     pub kdc: KdcPlace<'l>,
-    /// Which of the KDC's names are the service's.
-    pub patterns: &'l NamePatterns,
     pub options: &'l ServeOptions<'l>,
     ghost some_workers: { (1 ≤ workers) × (workers ≤ 16) },
     ghost queues: { workers_at engine ≡ workers },

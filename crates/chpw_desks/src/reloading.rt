@@ -51,13 +51,14 @@ pub(crate) fn reload<'a, 'l, R: Wait + Clock + Eprint + AllocGlobal, T: Clock>(
         renewed,
         rest,
         rules: next_rules,
+        names,
     } = anew;
     match made_anew(rt.alloc(), renewed, rest, table) {
         Ok(Reloaded { table, lacked }) => {
             *rules = next_rules;
             tell_reloaded(rt, time, hall, &table, &lacked);
             let answer = reloaded_answer(rt.alloc(), &lacked);
-            hall.engine.hold_table(rt, &table);
+            hall.engine.hold_table(rt, &table, names);
             hall.engine.answer_order(rt, order, answer);
             Ok(Opening {
                 unnamed: UnnamedDesk::of(table, hall.workers),

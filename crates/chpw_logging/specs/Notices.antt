@@ -3,7 +3,7 @@ use Rattle.std.specs.Prelude.{ℕ, List, ◌++◌, codes}
 use Rattle.std.specs.Fmt.{decimal}
 use Rattle.chpw_logging.specs.declared.notices.Notice.{Notice}
 use Rattle.chpw_logging.specs.declared.notices.Notice.TheVariants.{LogLost, JournalFailed, OutputLost, Expired, Unconfirmed}
-use Rattle.chpw_logging.specs.declared.notices.Notice.TheVariants.{KdcDown, KdcMisspoken, KdcRefused, KdcFailed, KdcLacks, KdcLost}
+use Rattle.chpw_logging.specs.declared.notices.Notice.TheVariants.{KdcDown, KdcMisspoken, KdcRefused, KdcFailed, KdcLacks, KdcTableFull, KdcLost}
 use Rattle.chpw_logging.specs.declared.notices.Notice.TheVariants.{Shared, ManagerNotTold, Lacked, TailCut}
 
 abbrev pub notice_line : Notice → List ℕ
@@ -20,6 +20,8 @@ notice_line (KdcRefused socket refusal) = socket.now ++ (codes ": the KDC's agen
 notice_line (KdcFailed socket text) = socket.now ++ (codes ": the KDC's database can't be had: " ++ text.now)
 notice_line (KdcLacks socket gone of) =
     socket.now ++ (codes ": the KDC lacks " ++ (decimal gone ++ (codes " of " ++ (decimal of ++ codes " principals; none is removed"))))
+notice_line (KdcTableFull socket name) =
+    socket.now ++ (codes ": " ++ (name.now ++ codes " is not adopted from the KDC: there are 10000 principals already"))
 notice_line (KdcLost socket) = socket.now ++ codes ": memory ran out for a change on its way to the KDC; both are compared"
 notice_line (Shared file) = file.now ++ codes ": other users may read or write it"
 notice_line ManagerNotTold = codes "NOTIFY_SOCKET: the service manager could not be told that the service is ready"

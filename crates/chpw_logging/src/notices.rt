@@ -26,6 +26,8 @@ pub enum Notice<'a> {
     KdcFailed(&'a str, &'a str),
     /// The KDC lacks this many of the names that are held, of so many.
     KdcLacks(&'a str, u64, u64),
+    /// This name of the KDC's isn't adopted, since there are as many principals as may be.
+    KdcTableFull(&'a str, &'a str),
     /// A change was lost for want of memory on its way to the agent at this socket.
     KdcLost(&'a str),
     /// Others than its owner may read or write this file.
@@ -93,6 +95,12 @@ impl fmt::Display for Notice<'_> {
                 write!(
                     f,
                     "{socket}: the KDC lacks {gone} of {of} principals; none is removed"
+                )
+            }
+            Notice::KdcTableFull(socket, name) => {
+                write!(
+                    f,
+                    "{socket}: {name} is not adopted from the KDC: there are 10000 principals already"
                 )
             }
             Notice::KdcLost(socket) => {

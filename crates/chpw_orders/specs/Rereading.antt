@@ -6,9 +6,10 @@ use Rattle.chpw_table.specs.Agreement.{Agrees, Held}
 use Rattle.chpw_report.specs.Held.{opening}
 use Rattle.chpw_reload.specs.Reloading.{IsPrepared, IsUnprepared}
 use Rattle.chpw_invocation.specs.declared.invocation.ServeOptions.{ServeOptions}
-use Rattle.chpw_start.specs.Faults.{IsOfBytes, IsOfSettings, IsUnread, Sets}
+use Rattle.chpw_start.specs.Faults.{IsOfBytes, IsOfNames, IsUnread, Sets, SetsNames}
+use Rattle.chpw_start.specs.declared.fault.ServeFault.{ServeFault}
 use Rattle.chpw_start.specs.Rules.{AreRulesOf}
-use Rattle.chpw_start.specs.Telling.{IsOfText}
+use Rattle.chpw_start.specs.Telling.{IsOfText as IsOfTable}
 use Rattle.chpw_orders.specs.declared.compacting.CompactFault.{CompactFault}
 use Rattle.chpw_orders.specs.declared.compacting.CompactFault.TheVariants.{Unread, Changed, NoCopy}
 use Rattle.chpw_orders.specs.declared.rereading.PendingReload.{PendingReload}
@@ -17,23 +18,32 @@ use Rattle.chpw_orders.specs.declared.rereading.PrepareFault.TheVariants.{Start,
 
 -- ---- a reload
 
--- table and rules are those of one configuration
+-- table and rules are those of one configuration, and the KDC's names are those of its text
 pub record IsReadAnew (options : ServeOptions) (p : PendingReload) : Type 0 where
   pub config : Config
   pub journal : Option (List ℕ)
   pub prepared : IsPrepared config journal p.renewed
   pub rules : AreRulesOf config options p.rules
+  pub names : SetsNames p.rules.text.items (Ok p.names)
+
+-- the fault of these bytes of a configuration, or of what they say of the KDC's names
+abbrev pub IsOfText : List ℕ → ServeFault → Type 0
+IsOfText bytes fault = IsOfBytes bytes fault ⊎ IsOfNames bytes fault
+
+-- the first fault that they have
+abbrev pub HasFault : List ℕ → ConfigFault → Type 0
+HasFault bytes fault = Sets bytes (Err fault) ⊎ SetsNames bytes (Err fault)
 
 -- the fault of these bytes of a configuration, in words; or memory was refused
 abbrev pub IsUnset : List ℕ → PrepareFault → Type 0
-IsUnset bytes (Start fault) = IsOfBytes bytes fault
-IsUnset bytes (Unset words) = (fault : ConfigFault) × Sets bytes (Err fault)
+IsUnset bytes (Start fault) = IsOfText bytes fault
+IsUnset bytes (Unset words) = (fault : ConfigFault) × HasFault bytes fault
 IsUnset bytes (Reload fault) = ⊥
 
 -- a file's fault; the fault of some bytes of a configuration, in words; or a journal can't be replayed over one
 abbrev pub IsNotReadAnew : ServeOptions → PrepareFault → Type 0
-IsNotReadAnew o (Start fault) = IsOfSettings o.config.now fault ⊎ IsUnread o.journal.now fault
-IsNotReadAnew o (Unset words) = (bytes : List ℕ) × (fault : ConfigFault) × Sets bytes (Err fault)
+IsNotReadAnew o (Start fault) = IsUnread o.config.now fault ⊎ ((bytes : List ℕ) × IsOfText bytes fault) ⊎ IsUnread o.journal.now fault
+IsNotReadAnew o (Unset words) = (bytes : List ℕ) × (fault : ConfigFault) × HasFault bytes fault
 IsNotReadAnew o (Reload fault) = (config : Config) × (bytes : Option (List ℕ)) × IsUnprepared config bytes fault
 
 -- ---- a compact journal
@@ -47,6 +57,6 @@ pub record IsBase (bytes : List ℕ) (base : Held) : Type 0 where
 -- a fault of the configuration's file, or one of the configuration in force and the journal; the file has other bytes
 -- than the configuration in force; or the copy of this name can't be made
 abbrev pub IsNotBegun : ServeOptions → List ℕ → List ℕ → CompactFault → Type 0
-IsNotBegun o in_force copy (Unread fault) = IsUnread o.config.now fault ⊎ IsOfText in_force o.journal.now fault
+IsNotBegun o in_force copy (Unread fault) = IsUnread o.config.now fault ⊎ IsOfTable in_force o.journal.now fault
 IsNotBegun o in_force copy Changed = (bytes : List ℕ) × (bytes ≢ in_force)
 IsNotBegun o in_force copy (NoCopy path) = path ≡ copy

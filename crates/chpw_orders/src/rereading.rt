@@ -1,14 +1,16 @@
 //! A configuration that is read anew while the service runs.
-ghost use Rattle.std.specs.Prelude.{IfErr, IfOk};
-ghost use Rattle.chpw_start.specs.Faults.{IsOfBytes, IsUnread};
-ghost use Rattle.chpw_orders.specs.Rereading.{IsNotReadAnew, IsReadAnew, IsUnset};
+ghost use Rattle.std.specs.Prelude.{◌≡◌, IfErr, IfOk, Ok, true};
+ghost use Rattle.chpw_rules.specs.Fitting.{config_fits};
+ghost use Rattle.chpw_start.specs.Faults.{IsUnread, Sets, SetsNames};
+ghost use Rattle.chpw_orders.specs.Rereading.{IsNotReadAnew, IsOfText, IsReadAnew, IsUnset};
 
 use crate::checked_reload::CheckedReload;
 use chpw_config::explain;
 use chpw_invocation::ServeOptions;
 use chpw_reload::{ReloadFault, prepare};
+use chpw_rules::{Config, NamePatterns};
 use chpw_start::{
-    Rules, ServeFault, configuration_text, open_file, rules_of, settings, unread_fault,
+    Rules, ServeFault, configuration_text, kdc_names, open_file, rules_of, settings, unread_fault,
 };
 use std::alloc::Global;
 use std::fs::{File, Files};
@@ -16,12 +18,13 @@ use std::io::{Seek, SeekFrom};
 use std::str;
 
 /// A reload under way: the table that a start would open with now, the journal's file, read up to what that table has
-/// of it, and what the next desk is to serve by.
+/// of it, and what the next desk is to serve by; and which of the KDC's names are the service's then.
 #[derive(Drop)]
 pub struct PendingReload {
     pub renewed: CheckedReload,
     pub rest: File,
     pub rules: Rules,
+    pub names: NamePatterns,
 }
 
 /// Why a configuration can't be reloaded.
@@ -48,10 +51,7 @@ pub fn read_anew<'a, R: Files<File = File> + AllocGlobal>(
         Ok(text) => text,
         Err(fault) => return Err(PrepareFault::Start(fault)),
     };
-    let config = match settings(rt.alloc(), &text) {
-        Ok(config) => config,
-        Err(fault) => return Err(unset_fault(rt.alloc(), &text, fault)),
-    };
+    let (config, names) = configured(rt.alloc(), &text)?;
     let Ok(rules) = rules_of(rt.alloc(), &config, text, options) else {
         return Err(PrepareFault::Start(ServeFault::Memory));
     };
@@ -71,7 +71,25 @@ pub fn read_anew<'a, R: Files<File = File> + AllocGlobal>(
         renewed: CheckedReload::of(renewal),
         rest,
         rules,
+        names,
     })
+}
+
+// The configuration of a text, and which of the KDC's names it says are the service's.
+fn configured<'a>(alloc: Global, text: &[u8]) -> Result<(Config, NamePatterns), PrepareFault<'a>>
+    ensures fits { IfOk result (λ both. config_fits both.0 ≡ true) }
+    ensures sets { IfOk result (λ both. Sets text.now (Ok both.0)) }
+    ensures names { IfOk result (λ both. SetsNames text.now (Ok both.1)) }
+    ensures fault { IfErr result (IsUnset text.now) }
+{
+    let config = match settings(alloc, text) {
+        Ok(config) => config,
+        Err(fault) => return Err(unset_fault(alloc, text, fault)),
+    };
+    match kdc_names(alloc, text) {
+        Ok(names) => Ok((config, names)),
+        Err(fault) => Err(unset_fault(alloc, text, fault)),
+    }
 }
 
 // The file at a path, to be read from after this many bytes.
@@ -91,7 +109,7 @@ fn rest_of<'a, R: Files<File = File>>(
 
 // A fault of the configuration with this text.
 fn unset_fault<'a>(alloc: Global, text: &[u8], fault: ServeFault<'a>) -> PrepareFault<'a>
-    requires fault { IsOfBytes text.now fault }
+    requires fault { IsOfText text.now fault }
     ensures fault { IsUnset text.now result }
 {
     match (fault, str::from_utf8(text)) {

@@ -11,9 +11,8 @@ use crate::outcome::{Pool, outcome_of};
 use crate::tasks::{next_task, note_update};
 use chpw_connections::ConnectionLimits;
 use chpw_control::TakenOrder;
-use chpw_kdc::KdcDialog;
 use chpw_sockets::{DatagramSocket, Hub, PoolFault, Selector};
-use chpw_transfers::{AcceptLimit, Control};
+use chpw_transfers::{AcceptLimit, Control, KdcSide};
 use chpw_workers::{Task, WorkerTurn};
 use mio::Waker;
 use std::alloc::{AllocError, Global};
@@ -38,16 +37,15 @@ pub struct Engine {
 
 impl Engine {
     /// An engine with a queue for each of this many workers, of which there is at least one. With a socket for them,
-    /// messages come over UDP too; with what is said to the agent at the KDC's database,
-    /// keys are put there. `Accept` if the system has no file for it, or can't watch that socket, `Memory` if a
-    /// growth is refused.
+    /// messages come over UDP too; with a KDC, keys are put there. `Accept` if the system has no file for it, or can't watch that
+    /// socket, `Memory` if a growth is refused.
     pub fn of<R: Net>(
         rt: &R,
         alloc: Global,
         bounds: ConnectionLimits,
         workers: usize,
         datagrams: Option<DatagramSocket>,
-        kdc: Option<KdcDialog>,
+        kdc: Option<KdcSide>,
     ) -> Result<Engine, PoolFault>
         requires workers { 0 < workers }
         ensures workers { IfOk result (λ engine. workers_at engine ≡ workers) }
@@ -150,11 +148,6 @@ impl Engine {
         for came in &self.came {
             came.notify_one();
         }
-    }
-
-    /// From now on requests are decided only while the KDC gets each change within so many milliseconds.
-    pub fn require_kdc<R: Wait>(&self, rt: &R, reach: u64) {
-        self.hub.lock(rt).state.reach = Some(reach);
     }
 
     /// From now on the workers take messages, and orders are carried out.

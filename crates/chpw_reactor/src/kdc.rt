@@ -1,14 +1,11 @@
 //! The agent at the KDC's database, as a service knows it.
-ghost use Rattle.std.specs.Prelude.{◌≡◌, true, false};
-
 use chpw_connections::Unconfirmed;
-use chpw_kdc::{IsOurs, Notice, ProtocolFault};
-use chpw_rules::Name;
+use chpw_kdc::{Notice, ProtocolFault};
 use mio::net::UnixStream;
 
-/// A service's side of the agent at the KDC's database: where it is, which of the KDC's names are the service's, how long
-/// replies wait for it, and a report of what happens there.
-pub trait KdcTerms: IsOurs {
+/// The agent at the KDC's database, as a service has it: where it is, how long replies wait for it, and a report of what happens
+/// there.
+pub trait KdcTerms {
     /// The most milliseconds that the reply to a change waits.
     fn wait(&self) -> u64;
 
@@ -32,14 +29,6 @@ pub trait KdcTerms: IsOurs {
 /// No KDC: no reply waits.
 #[derive(Clone, Copy, PartialEq, Eq, Debug, Drop)]
 pub struct NoKdc;
-
-impl IsOurs for NoKdc {
-    ghost ours = { λ none name. false };
-
-    fn is_ours(&self, _name: &Name) -> bool {
-        false
-    }
-}
 
 impl KdcTerms for NoKdc {
     fn wait(&self) -> u64 {

@@ -1,34 +1,53 @@
 //! What is told of a table to the dialog with the agent at the KDC's database.
+ghost use Rattle.std.specs.Prelude.{◌≡◌, ℕ, IfSome, Some};
 ghost use Rattle.chpw_table.specs.State.{keys_held};
 ghost use Rattle.chpw_book.specs.Newest.{newest_of};
-ghost use Rattle.chpw_reactor.specs.Tasks.{IsNewestTold};
+ghost use Rattle.chpw_kdc.specs.Dialogs.{State as Dialog, at_start};
+ghost use Rattle.chpw_transfers.specs.Kdc.{compared_anew};
+ghost use Rattle.chpw_reactor.specs.Tasks.{IsNewestTold, IsTableTold};
 
 use crate::engine::{Engine, milliseconds};
 use chpw_kdc::KdcDialog;
-use chpw_rules::Name;
+use chpw_rules::{Name, NamePatterns};
 use chpw_table::Table;
+use chpw_transfers::State;
 use std::sync::Wait;
 use std::time::Clock;
 
 impl Engine {
-    /// A desk is to open with this table: table and KDC are compared.
-    pub fn hold_table<R: Wait>(&self, rt: &R, table: &Table) {
-        if let Some(kdc) = &mut self.hub.lock(rt).state.kdc {
-            hold_table(kdc, table);
-            kdc.compare_again();
-        }
+    /// A desk is to open with this table, and these names of the KDC's are the service's: table and KDC are compared.
+    pub fn hold_table<R: Wait>(&self, rt: &R, table: &Table, names: NamePatterns) {
+        open_with(&mut self.hub.lock(rt).state, table, names);
+    }
+}
+
+// A desk is to open with this table, and these names of the KDC's are the service's.
+fn open_with(state: &mut State, table: &Table, names: NamePatterns)
+    ensures names { state.new.names ≡ Some names }
+    ensures told { IfSome state.old.kdc (λ old. (told : Dialog) × IsTableTold table.now.state old told
+        × (state.new.kdc ≡ Some (compared_anew told))) }
+    ensures rest { state.new ≡ record state.old { kdc = state.new.kdc; names = state.new.names } }
+{
+    state.names = Some(names);
+    if let Some(kdc) = &mut state.kdc {
+        hold_table(kdc, table);
+        kdc.compare_again();
     }
 }
 
 /// A dialog that begins now, with a service that opens with this table.
-pub fn dialog_with<R: Clock + AllocGlobal>(rt: &R, table: &Table) -> KdcDialog {
+pub fn dialog_with<R: Clock + AllocGlobal>(rt: &R, table: &Table) -> KdcDialog
+    ensures told { (now : ℕ) × IsTableTold table.now.state (at_start now) result }
+{
     let mut kdc = KdcDialog::new(rt.alloc(), milliseconds(rt));
     hold_table(&mut kdc, table);
     kdc
 }
 
 // The table has these keys as the newest of its names. What memory runs out for is looked for when table and KDC are compared.
-fn hold_table(kdc: &mut KdcDialog, table: &Table) {
+fn hold_table(kdc: &mut KdcDialog, table: &Table)
+    ensures told { IsTableTold table.now.state kdc.old kdc.new }
+{
     for place in 0..u32::MAX {
         let Some(name) = table.name_at(place) else {
             return;

@@ -1,7 +1,9 @@
 //! What the reactor says to the agent at the KDC's database, and hears from it.
-ghost use Rattle.std.specs.Prelude.{◌≡◌, true, is_some, None, OnErr, OnOk};
+ghost use Rattle.std.specs.Prelude.{◌≡◌, true, is_some, None, IfSome, OnErr, OnOk};
 ghost use Rattle.std.specs.Io.KnownBytes.{Appends};
+ghost use Rattle.chpw_kdc.specs.Dialogs.{after_ask};
 ghost use Rattle.chpw_transfers.specs.Transfers.{IsWithin, is_passed, is_over};
+ghost use Rattle.chpw_reactor.specs.Tasks.{IsAskedBy};
 
 use crate::engine::milliseconds;
 use crate::kdc::KdcTerms;
@@ -169,12 +171,7 @@ impl<
     // The agent sent these bytes. One that says what it may not is disconnected.
     fn hear_bytes(&mut self, bytes: &[u8]) {
         let now = milliseconds(self.rt);
-        let heard = self
-            .engine
-            .hub
-            .lock(self.rt)
-            .state
-            .hear(&self.link.terms, bytes, now);
+        let heard = self.engine.hub.lock(self.rt).state.hear(bytes, now);
         self.note_heard(heard);
     }
 
@@ -250,8 +247,12 @@ impl<
     }
 }
 
-// The line to be sent now.
-fn line_of(kdc: &mut KdcDialog, now: u64) -> Option<Vec<u8>> {
+// The line to be sent now. Without memory for it nothing has changed.
+fn line_of(kdc: &mut KdcDialog, now: u64) -> Option<Vec<u8>>
+    ensures line { IfSome result (λ line. IsAskedBy now kdc.old line.items) }
+    ensures step { IfSome result (λ line. kdc.new ≡ after_ask now kdc.old) }
+    ensures none { result ≡ None → (kdc.new ≡ kdc.old) }
+{
     match kdc.ask(now) {
         Ok(line) => line,
         Err(_) => None,

@@ -2,12 +2,12 @@
 ghost use Rattle.std.specs.Prelude.{◌≡◌, Bool, IfSome, Some};
 ghost use Rattle.chpw_table.specs.Updates.{name_in};
 ghost use Rattle.chpw_transfers.specs.Kdc.{IsDecided, is_deciding};
-ghost use Rattle.chpw_reactor.specs.Tasks.{IsTaskOf, may_be_taken_later, table_update, update_for};
+ghost use Rattle.chpw_reactor.specs.Tasks.{IsTaskOf, end_of, table_update, update_for};
 
 use chpw_book::DeskUpdateFault;
 use chpw_rules::Name;
 use chpw_table::{KdcUpdate, UpdateVerdict};
-use chpw_transfers::State;
+use chpw_transfers::{State, UpdateEnd};
 use chpw_workers::{FittingUpdate, Task, UpdateTurn};
 
 /// The next task of a worker. The clerk takes what the KDC says and messages in turn. While the KDC has to be in reach and
@@ -46,9 +46,10 @@ fn table_update(update: chpw_kdc::KdcUpdate) -> KdcUpdate
     }
 }
 
-/// A worker has decided what the KDC said, or it was refused. If another try may take it, table and KDC are compared anew.
+/// A worker has decided what the KDC said, or it was refused. If another try may take it, table and KDC are compared anew; that
+/// the table has no room for a name is told once.
 pub(crate) fn note_update(state: &mut State, turn: UpdateTurn)
-    ensures decided { IsDecided (name_in turn.update) turn.newest (may_be_taken_later turn.outcome) state.old.kdc state.new.kdc }
+    ensures decided { IsDecided (name_in turn.update) turn.newest (end_of turn.outcome) state.old.kdc state.new.kdc }
     ensures rest { state.new ≡ record state.old { kdc = state.new.kdc } }
 {
     let UpdateTurn {
@@ -56,17 +57,19 @@ pub(crate) fn note_update(state: &mut State, turn: UpdateTurn)
         outcome,
         newest,
     } = turn;
-    state.updated(name_of(update), newest, may_be_taken_later(outcome));
+    state.updated(name_of(update), newest, end_of(outcome));
 }
 
-// Whether another try may take it: the next history has room, or there may be memory.
-fn may_be_taken_later(outcome: Result<UpdateVerdict, DeskUpdateFault>) -> bool
-    ensures value { result ≡ may_be_taken_later outcome }
+// What came of it. Another try may take what the next history has room for, or memory that there is then.
+fn end_of(outcome: Result<UpdateVerdict, DeskUpdateFault>) -> UpdateEnd
+    ensures value { result ≡ end_of outcome }
 {
-    matches!(
-        outcome,
-        Err(DeskUpdateFault::Full | DeskUpdateFault::NoRoom | DeskUpdateFault::Memory)
-    )
+    match outcome {
+        Ok(_) | Err(DeskUpdateFault::Composite) => UpdateEnd::Over,
+        Err(DeskUpdateFault::Full | DeskUpdateFault::NoRoom | DeskUpdateFault::Memory) =>
+            UpdateEnd::Postponed,
+        Err(DeskUpdateFault::TooMany) => UpdateEnd::TableFull,
+    }
 }
 
 // Its name.

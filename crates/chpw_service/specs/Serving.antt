@@ -1,5 +1,5 @@
 -- What a service asks of its pool.
-use Rattle.std.specs.Prelude.{◌≡◌, ℕ, List}
+use Rattle.std.specs.Prelude.{◌≡◌, ℕ, List, Bool, Option, Some, None, if◌then◌else◌}
 use Rattle.chpw_invocation.specs.declared.invocation.ConnectionLimit.{ConnectionLimit}
 use Rattle.chpw_invocation.specs.declared.invocation.ConnectionLimit.TheVariants as asked
 use Rattle.chpw_invocation.specs.declared.invocation.ServeOptions.{ServeOptions}
@@ -11,6 +11,10 @@ use Rattle.chpw_reactor.specs.declared.options.PoolOptions.{PoolOptions}
 abbrev pub limit_asked : ConnectionLimit → AcceptLimit
 limit_asked asked.Unlimited = limit.Unlimited
 limit_asked (asked.Of count) = limit.Of count
+
+-- the milliseconds within which the KDC has to get each change, if that is asked for
+abbrev pub reach_asked : Bool → ℕ → Option ℕ
+reach_asked asked wait = if asked then Some wait else None
 
 -- words of this seed, as many connections as its options say, and the bounds that they set
 pub record IsAskedFor (options : ServeOptions) (seed : List ℕ) (terms : PoolOptions) : Type 0 where

@@ -1,5 +1,6 @@
 -- What `status` tells of a service.
-use Rattle.std.specs.Prelude.{◌≡◌, ℕ, ◌-◌, ◌^◌, min, List, [], ◌∷◌, ◌++◌, Bool, Option, Some, None, option_map, if◌then◌else◌}
+use Rattle.std.specs.Prelude.{◌≡◌, ℕ, ◌-◌, ◌^◌, min, List, [], ◌∷◌, ◌++◌, length, Bool, Option, Some, None, option_map, if◌then◌else◌}
+use Rattle.std.specs.Prelude.{codes}
 use Rattle.std.specs.Option.{option_map_or}
 use Rattle.chpw_control.specs.Answers.{lines_text, ok_line}
 use Rattle.chpw_control.specs.Statuses.{status_lines}
@@ -11,6 +12,10 @@ use Rattle.chpw_control.specs.declared.status.KdcState.TheVariants.{Absent, Conn
 use Rattle.chpw_control.specs.declared.time.Time.{Time}
 use Rattle.chpw_transfers.specs.Controlling.{sum_of}
 use Rattle.chpw_transfers.specs.declared.connection_counts.ConnectionCounts.{ConnectionCounts}
+use Rattle.chpw_kdc.specs.Dialogs.{State as Dialog}
+use Rattle.chpw_kdc.specs.declared.update.Refusal.{Refusal}
+use Rattle.chpw_kdc.specs.Spelling.{reason_word}
+use Rattle.chpw_printing.specs.Quoting.{name_text}
 use Rattle.chpw_logging.specs.Facts.{quiet_time}
 use Rattle.chpw_logging.specs.declared.facts.Facts.{Facts}
 use Rattle.chpw_service.specs.declared.readings.KdcReadings.{KdcReadings}
@@ -23,13 +28,26 @@ abbrev pub kdc_state : Option KdcReadings → KdcState
 kdc_state None = Absent
 kdc_state (Some k) = if k.is_connected then Connected else Down
 
+-- what is read of a dialog, if there is one, since whose last connection or loss it is this moment
+abbrev pub IsReadOf : Option Dialog → Time → Option KdcReadings → Type 0
+IsReadOf None changed None = Unit {0}
+IsReadOf None changed (Some r) = ⊥
+IsReadOf (Some d) changed None = ⊥
+IsReadOf (Some d) changed (Some r) =
+    (r.is_connected ≡ d.pace.connected) × (r.since ≡ changed) × (r.behind ≡ length d.puts) × (r.held ≡ length d.mirror)
+
+-- a refusal, as `status` and the notices have it
+abbrev pub refusal_words : Refusal → List ℕ
+refusal_words r = name_text r.name ++ codes " " ++ reason_word r.reason
+
 -- the status of a service of this version, by what was read of it, its counters and its connections: busy are the
--- workers that answer a message, queued the messages that wait for one
+-- workers that answer a message, queued the messages that wait for one. With a KDC, which may bring some, the principals are
+-- those that the table has, else those that its history opened with.
 pub record IsStatusOf (version : List ℕ) (r : Readings) (f : Facts) (c : ConnectionCounts) (s : Status) : Type 0 where
   pub version_is : s.version.now ≡ version
   pub since : s.since ≡ r.since
   pub quiet_until : s.quiet_until ≡ quiet_time f.quiet_until r.moment.seconds
-  pub principals : s.principals ≡ f.principals
+  pub principals : s.principals ≡ option_map_or (λ k. k.held) r.kdc f.principals
   pub iterations : s.iterations ≡ f.iterations
   pub entries : s.entries ≡ f.entries
   pub changes : s.changes ≡ f.changes
@@ -52,8 +70,9 @@ pub record IsStatusOf (version : List ℕ) (r : Readings) (f : Facts) (c : Conne
   pub kdc_since : s.kdc_since ≡ option_map (λ k. k.since) r.kdc
   pub kdc_behind : s.kdc_behind ≡ option_map_or (λ k. k.behind) r.kdc 0
 
--- the whole answer of a service that started then, with this many workers: its status at some moment
-pub record IsStatusAnswer (version : List ℕ) (since : Time) (workers : ℕ) (c : ConnectionCounts)
+-- the whole answer of a service that started then, with this many workers: its status at some moment, with what is said to the
+-- agent, to which it has had a connection, or none, since then
+pub record IsStatusAnswer (version : List ℕ) (since : Time) (workers : ℕ) (c : ConnectionCounts) (dialog : Option Dialog) (changed : Time)
     (text : List ℕ) : Type 0 where
   pub readings : Readings
   pub facts : Facts
@@ -61,4 +80,5 @@ pub record IsStatusAnswer (version : List ℕ) (since : Time) (workers : ℕ) (c
   pub is_status : IsStatusOf version readings facts c status
   pub since_is : readings.since ≡ since
   pub workers_is : readings.workers ≡ workers
+  pub kdc : IsReadOf dialog changed readings.kdc
   pub text_is : text ≡ lines_text (status_lines status ++ ok_line ∷ [])

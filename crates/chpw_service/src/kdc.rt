@@ -1,7 +1,10 @@
 //! The service's side of the agent at the KDC's database, and of its control socket.
-ghost use Rattle.std.specs.Prelude.{◌≡◌, ◌||◌, ◌⊎◌, [], is_some, None};
+ghost use Rattle.std.specs.Prelude.{◌≡◌, ◌||◌, ◌⊎◌, ◌++◌, [], codes, is_some, None, OnOk};
+ghost use Rattle.std.specs.Str.{IsUtf8};
+ghost use Rattle.std.specs.Option.{option_copied};
 ghost use Rattle.chpw_control.specs.Statuses.{IsTold};
-ghost use Rattle.chpw_service.specs.Status.{IsStatusAnswer};
+ghost use Rattle.chpw_printing.specs.Quoting.{name_text as printed_name};
+ghost use Rattle.chpw_service.specs.Status.{IsReadOf, IsStatusAnswer, refusal_words};
 
 use crate::readings::{KdcReadings, Readings};
 use crate::status::{answer_with, status_of};
@@ -9,11 +12,11 @@ use chpw_connections::Unconfirmed;
 use chpw_control::Time;
 use chpw_desks::{JournalLength, KdcPlace};
 use chpw_invocation::VERSION;
-use chpw_kdc::{IsOurs, KdcDialog, Notice as KdcNotice, ProtocolFault, Refusal};
+use chpw_kdc::{KdcDialog, Notice as KdcNotice, ProtocolFault, Refusal};
 use chpw_logging::{Log, Notice, is_first, time_of};
 use chpw_printing::put_name;
 use chpw_reactor::{KdcTerms, StatusReporter};
-use chpw_rules::{Name, NamePatterns};
+use chpw_rules::Name;
 use chpw_serve::Clock as _;
 use chpw_transfers::ConnectionCounts;
 use chpw_workers::MachineClock;
@@ -41,7 +44,6 @@ pub(crate) struct SocketKdc<'l, R, T: Clock> {
     rt: &'l R,
     alloc: Global,
     place: KdcPlace<'l>,
-    patterns: &'l NamePatterns,
     log: &'l Log<'l, R>,
     clock: MachineClock<'l, T>,
     /// Whether it was reported that a change isn't confirmed.
@@ -59,14 +61,13 @@ pub(crate) struct SocketKdc<'l, R, T: Clock> {
 }
 
 impl<'l, R: AllocGlobal, T: Clock> SocketKdc<'l, R, T> {
-    /// The agent at this place, of whose names those are the service's that these patterns match.
+    /// The agent at this place.
     pub fn of(
         rt: &'l R,
         time: &'l T,
         log: &'l Log<'l, R>,
         journal: &'l JournalLength,
         place: KdcPlace<'l>,
-        patterns: &'l NamePatterns,
         control: ControlTerms,
     ) -> SocketKdc<'l, R, T>
         ensures place { result.place ≡ place.entry }
@@ -84,7 +85,6 @@ impl<'l, R: AllocGlobal, T: Clock> SocketKdc<'l, R, T> {
             rt,
             alloc: rt.alloc(),
             place,
-            patterns,
             log,
             clock: MachineClock::new(time),
             is_late_told: false,
@@ -95,16 +95,6 @@ impl<'l, R: AllocGlobal, T: Clock> SocketKdc<'l, R, T> {
             since,
             workers,
         }
-    }
-}
-
-impl<R, T: Clock> IsOurs for SocketKdc<'_, R, T> {
-    ghost use Rattle.chpw_rules.specs.Patterns.{is_ours as is_ours_by};
-
-    ghost ours = { λ kdc name. is_ours_by kdc.patterns.now name };
-
-    fn is_ours(&self, name: &Name) -> bool {
-        self.patterns.is_ours(name)
     }
 }
 
@@ -153,6 +143,10 @@ impl<R: Net<Listener = TcpListener, Stream = TcpStream> + Wait + Eprint, T: Cloc
                 self.log
                     .tell(Notice::KdcLacks(socket, gone as u64, of as u64));
             }
+            KdcNotice::TableFull { name } => {
+                let name = name_text(self.alloc, &name);
+                self.log.tell(Notice::KdcTableFull(socket, text_of(&name)));
+            }
             KdcNotice::Failed { text } => {
                 self.log
                     .tell(Notice::KdcFailed(socket, text_of(text.as_slice())));
@@ -190,7 +184,8 @@ impl<R: Net<Listener = TcpListener, Stream = TcpStream> + Wait + Eprint, T: Cloc
         kdc: Option<&KdcDialog>,
     ) -> Vec<u8>
         ensures told { (result.items ≡ [])
-            ⊎ IsStatusAnswer VERSION.now self.old.since self.old.workers standing.now result.items }
+            ⊎ IsStatusAnswer VERSION.now self.old.since self.old.workers standing.now (option_copied kdc.entry) self.old.changed
+            result.items }
         ensures unchanged { self.new.place ≡ self.old.place }
     {
         let moment = self.clock.now();
@@ -218,17 +213,21 @@ impl<R: Net<Listener = TcpListener, Stream = TcpStream> + Wait + Eprint, T: Cloc
 // What is read of the KDC, if there is one.
 fn readings_of(kdc: Option<&KdcDialog>, changed: Time) -> Option<KdcReadings>
     requires told { IsTold changed }
+    ensures read { IsReadOf (option_copied kdc.entry) changed result }
 {
     let kdc = kdc?;
     Some(KdcReadings {
         is_connected: kdc.is_connected(),
         since: changed,
         behind: kdc.behind() as u64,
+        held: kdc.held() as u64,
     })
 }
 
 // A name that the agent refused, and why; empty if memory is refused.
-fn words_of(alloc: Global, refusal: &Refusal) -> Vec<u8> {
+fn words_of(alloc: Global, refusal: &Refusal) -> Vec<u8>
+    ensures value { (result.items ≡ []) ⊎ (result.items ≡ refusal_words refusal.now) }
+{
     let mut words = Vec::new(alloc);
     match put_refusal(&mut words, refusal) {
         Ok(()) => words,
@@ -236,7 +235,20 @@ fn words_of(alloc: Global, refusal: &Refusal) -> Vec<u8> {
     }
 }
 
-fn put_refusal(words: &mut Vec<u8>, refusal: &Refusal) -> Result<(), AllocError> {
+// A name as it is printed; empty if memory is refused.
+fn name_text(alloc: Global, name: &Name) -> Vec<u8>
+    ensures value { (result.items ≡ []) ⊎ (result.items ≡ printed_name name.now) }
+{
+    let mut text = Vec::new(alloc);
+    match put_name(&mut text, name) {
+        Ok(()) => text,
+        Err(_) => Vec::new(alloc),
+    }
+}
+
+fn put_refusal(words: &mut Vec<u8>, refusal: &Refusal) -> Result<(), AllocError>
+    ensures value { OnOk result (words.new.items ≡ words.old.items ++ refusal_words refusal.now) }
+{
     put_name(words, &refusal.name)?;
     words.push(b' ')?;
     words.extend_from_slice(refusal.reason.word().as_bytes())?;
@@ -244,7 +256,10 @@ fn put_refusal(words: &mut Vec<u8>, refusal: &Refusal) -> Result<(), AllocError>
 }
 
 // These bytes as a text, if they are one.
-fn text_of(bytes: &[u8]) -> &str {
+fn text_of(bytes: &[u8]) -> &str
+    ensures text { IsUtf8 bytes.now → result.now ≡ bytes.now }
+    ensures mark { ¬ (IsUtf8 bytes.now) → result.now ≡ codes "?" }
+{
     match str::from_utf8(bytes) {
         Ok(text) => text,
         Err(_) => "?",

@@ -27,5 +27,7 @@ pub(crate) struct KdcReadings {
     pub since: Time,
     /// The keys that are on their way to the KDC.
     pub behind: u64,
+    /// The principals that the table has.
+    pub held: u64,
     ghost told: { IsTold since },
 }

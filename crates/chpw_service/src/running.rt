@@ -57,15 +57,7 @@ pub(crate) fn serve_from<
         hall.now.workers (opening_table D.root) first.passes.items rules) }
     ensures fault { IfErr result IsLate }
 {
-    let kdc = SocketKdc::of(
-        rt,
-        time,
-        hall.log,
-        &hall.journal,
-        hall.kdc,
-        hall.patterns,
-        control,
-    );
+    let kdc = SocketKdc::of(rt, time, hall.log, &hall.journal, hall.kdc, control);
     let mut first = Some(first);
     let ended = serve_with_staff(rt, time, listener, hall, kdc, rules, &mut first, terms);
     match first {

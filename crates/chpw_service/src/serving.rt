@@ -1,12 +1,14 @@
 //! The service on a port.
-ghost use Rattle.std.specs.Prelude.{◌≡◌, ◌≤◌, IfOk, IfErr, IfSome, IsSome, None, Ok, OnOk, Option, false, true, length};
+ghost use Rattle.std.specs.Prelude.{◌≡◌, ◌≤◌, ℕ, IfOk, IfErr, IfSome, IsSome, None, Ok, OnOk, Option, false, is_some, true, length};
 ghost use Rattle.chpw_book.specs.Starting.{IsNamed, table_of, workers_of};
+ghost use Rattle.chpw_kdc.specs.Dialogs.{at_start};
 ghost use Rattle.chpw_reactor.specs.Engines.{workers_at};
+ghost use Rattle.chpw_reactor.specs.Tasks.{IsTableTold};
 ghost use Rattle.chpw_start.specs.Faults.{IsLate};
 ghost use Rattle.chpw_service.specs.Faults.{IsOfService};
 ghost use Rattle.chpw_changelog.specs.Pens.{opening_state};
 ghost use Rattle.chpw_start.specs.Raised.{IsRaisedWhereAsked};
-ghost use Rattle.chpw_service.specs.Serving.{IsAskedFor, limit_asked};
+ghost use Rattle.chpw_service.specs.Serving.{IsAskedFor, limit_asked, reach_asked};
 ghost use Rattle.chpw_start.specs.declared.raising.RaiseReport.{RaiseReport};
 ghost use Rattle.chpw_service.specs.WholeRuns.{IsServedFrom, IsWholeRun};
 ghost use Rattle.chpw_start.specs.declared.fault.ServeFault.TheVariants.{CannotListen};
@@ -24,7 +26,6 @@ use chpw_desks::{
 };
 use chpw_invocation::{ConnectionLimit, ServeOptions};
 use chpw_journal::{FileSink, Journal};
-use chpw_kdc::KdcDialog;
 use chpw_logging::{Log, Notice, log_of, time_of};
 use chpw_reactor::{Engine, PoolOptions, dialog_with};
 use chpw_rules::NamePatterns;
@@ -34,7 +35,8 @@ use chpw_start::{
     Configuration, Rules, ServeFault, configuration_of, is_shared, kdc_names, open_table, own_ids,
     raise_where_asked, read_seed, refuse_exposed, rules_of, standing_at,
 };
-use chpw_transfers::AcceptLimit;
+use chpw_table::Table;
+use chpw_transfers::{AcceptLimit, KdcSide};
 use chpw_workers::MachineClock;
 use std::alloc::Global;
 use std::fs::{File, Files};
@@ -113,14 +115,13 @@ pub fn serve_by<
     let listener = control_socket(rt, options.control)?;
     let since = clock.now();
     log.tell_start(since, &table);
-    let kdc = options.kdc.map(|_| dialog_with(rt, &table));
+    let kdc = kdc_side(rt, &options, &table, names);
     let opening = first_opening(table, sink, options.workers);
     let start = Start {
         options: &options,
         terms: terms_of(&options, seed),
         log: &log,
         journal,
-        names: &names,
         kdc,
     };
     let control = ControlTerms {
@@ -133,6 +134,38 @@ pub fn serve_by<
     take_away(rt, options.control);
     log.end(clock.now());
     ended
+}
+
+// The service's side of the KDC, if there is one: a dialog that begins now, over the table that the service opens with; the names
+// that the configuration says are the service's; and whether the KDC has to be in reach for a change.
+fn kdc_side<R: Clock + AllocGlobal>(
+    rt: &R,
+    options: &ServeOptions<'_>,
+    table: &Table,
+    names: NamePatterns,
+) -> Option<KdcSide>
+    ensures asked { is_some result ≡ is_some options.now.kdc }
+    ensures dialog { IfSome result (λ side. (now : ℕ) × IsTableTold table.now.state (at_start now) side.dialog) }
+    ensures names { IfSome result (λ side. side.names ≡ names) }
+    ensures reach { IfSome result (λ side. side.reach ≡ reach_asked options.now.require_kdc options.now.kdc_wait) }
+{
+    options.kdc?;
+    Some(KdcSide {
+        dialog: dialog_with(rt, table),
+        names,
+        reach: reach_asked(options.require_kdc, options.kdc_wait),
+    })
+}
+
+// The milliseconds within which the KDC has to get each change, if that is asked for.
+fn reach_asked(is_asked: bool, wait: u32) -> Option<u64>
+    ensures value { result ≡ reach_asked is_asked wait }
+{
+    if is_asked {
+        Some(u64::from(wait))
+    } else {
+        None
+    }
 }
 
 // Reports which of its files others may read or write.
@@ -151,8 +184,7 @@ struct Start<'l, R> {
     terms: PoolOptions,
     log: &'l Log<'l, R>,
     journal: JournalLength,
-    names: &'l NamePatterns,
-    kdc: Option<KdcDialog>,
+    kdc: Option<KdcSide>,
 }
 
 // Serves what is opened: at the first desk the count is raised if that is asked for, and then the service listens at
@@ -226,7 +258,6 @@ fn raise_and_listen<
     ensures options { IfOk result (λ r. r.1.options.now ≡ start.entry.options.now) }
     ensures kdc { IfOk result (λ r. (r.1.kdc.socket ≡ start.entry.options.now.kdc)
         × (r.1.kdc.wait ≡ start.entry.options.now.kdc_wait)) }
-    ensures names { IfOk result (λ r. r.1.patterns ≡ start.entry.names) }
     ensures raised { OnOk result ((told : Option RaiseReport) × IsRaisedWhereAsked C.gives (opening_state D.root)
         clock.old clock.new passes.old passes.new start.entry.options.now.raise told) }
     ensures passes { length passes.new ≡ length passes.old }
@@ -252,7 +283,6 @@ fn listening<
     ensures options { IfOk result (λ r. r.1.options.now ≡ start.entry.options.now) }
     ensures kdc { IfOk result (λ r. (r.1.kdc.socket ≡ start.entry.options.now.kdc)
         × (r.1.kdc.wait ≡ start.entry.options.now.kdc_wait)) }
-    ensures names { IfOk result (λ r. r.1.patterns ≡ start.entry.names) }
     ensures fault { IfErr result IsLate }
 {
     let Start {
@@ -260,15 +290,11 @@ fn listening<
         terms,
         log,
         journal,
-        names,
         kdc,
     } = start;
     let listener = listen(rt, options.port)?;
     let datagrams = datagrams_of(rt, options, realm)?;
     let engine = engine_of(rt, rt.alloc(), options.workers, &terms, datagrams, kdc)?;
-    if options.require_kdc {
-        engine.require_kdc(rt, u64::from(options.kdc_wait));
-    }
     let hall = ServiceContext {
         engine,
         workers: options.workers,
@@ -278,7 +304,6 @@ fn listening<
             socket: options.kdc,
             wait: options.kdc_wait,
         },
-        patterns: names,
         options,
     };
     match println!(rt; "listening on 127.0.0.1:{}", options.port) {
@@ -355,7 +380,7 @@ fn engine_of<'a, R: Net>(
     workers: u8,
     terms: &PoolOptions,
     datagrams: Option<DatagramSocket>,
-    kdc: Option<KdcDialog>,
+    kdc: Option<KdcSide>,
 ) -> Result<Engine, ServeFault<'a>>
     requires some_workers { 1 ≤ workers }
     ensures workers { IfOk result (λ engine. workers_at engine ≡ workers) }

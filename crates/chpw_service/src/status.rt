@@ -28,7 +28,7 @@ pub(crate) fn status_of<'a>(
         version,
         since: readings.since,
         quiet_until: facts.quiet_time(readings.moment),
-        principals: facts.principals,
+        principals: readings.kdc.map_or(facts.principals, |kdc| kdc.held),
         iterations: facts.iterations,
         entries: facts.entries,
         changes: facts.changes,

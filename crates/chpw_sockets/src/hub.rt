@@ -28,8 +28,7 @@ use crate::pool_fault::PoolFault;
 use crate::sockets::Selector;
 use crate::udp::DatagramSocket;
 use chpw_connections::{ConnectionLimits, Connections, Todo, Turn};
-use chpw_kdc::KdcDialog;
-use chpw_transfers::{Newcomer, Progress, State};
+use chpw_transfers::{KdcSide, Newcomer, Progress, State};
 use std::alloc::Global;
 use std::net::TcpStream;
 
@@ -45,16 +44,15 @@ pub struct Hub {
 
 impl Hub {
     /// No connections yet, for this many workers, but at least one; within these bounds, and with a place for the socket
-    /// of each connection. With a socket for them, messages come as datagrams too; with what is
-    /// said to the agent at the KDC's database, keys are put there. `Accept` if the system can't watch
-    /// that socket, `Memory` if a growth is refused.
+    /// of each connection. With a socket for them, messages come as datagrams too; with a KDC, keys are put there.
+    /// `Accept` if the system can't watch that socket, `Memory` if a growth is refused.
     pub fn new(
         alloc: Global,
         selector: &Selector,
         bounds: ConnectionLimits,
         workers: usize,
         datagrams: Option<DatagramSocket>,
-        kdc: Option<KdcDialog>,
+        kdc: Option<KdcSide>,
     ) -> Result<Hub, PoolFault>
         ensures begun { IfOk result (λ hub. IsBegun kdc hub.state) }
         ensures bounds { IfOk result (λ hub. bounds_of hub.state.connections ≡ bounds) }

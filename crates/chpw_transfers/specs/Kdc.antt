@@ -1,12 +1,14 @@
 -- The KDC, as the connections' state knows it.
 use Rattle.std.specs.Prelude.{◌≡◌, ℕ, ◌+◌, Bool, true, false, not, ◌==◌, ◌||◌, ◌&&◌, ◌⊎◌, nat_lt, List, length, Option, Some}
 use Rattle.std.specs.Prelude.{None, Ok, MatchBool, if◌then◌else◌}
+use Rattle.std.specs.Option.{option_map}
 use Rattle.slab.specs.Slab.{Slab, get}
 use Rattle.chpw_rules.specs.declared.name.Name.{Name}
+use Rattle.chpw_rules.specs.declared.pattern.NamePatterns.{NamePatterns}
 use Rattle.chpw_record.specs.declared.key.KeyRow.{KeyRow}
 use Rattle.chpw_record.specs.declared.record.Change.{Change}
 use Rattle.chpw_kdc.specs.declared.fault.ProtocolFault.{ProtocolFault}
-use Rattle.chpw_kdc.specs.Dialogs.{State, after_hold, after_none, after_want, after_lost_want, after_decision, is_in_reach}
+use Rattle.chpw_kdc.specs.Dialogs.{State, after_hold, after_none, after_full_table, after_want, after_lost_want, after_decision, is_in_reach}
 use Rattle.chpw_kdc.specs.Answering.{after_bytes}
 use Rattle.chpw_kdc.specs.Answers.{FaultsIn}
 use Rattle.chpw_kdc.specs.Paces.{pace_due}
@@ -18,7 +20,10 @@ use Rattle.chpw_connections.specs.declared.kdc_change.KdcChange.{KdcChange}
 use Rattle.chpw_connections.specs.declared.kdc_change.KdcChange.TheVariants as change
 use Rattle.chpw_connections.specs.declared.taking.Reply.{Reply}
 use Rattle.chpw_transfers.specs.declared.kdc.Release.{Release}
+use Rattle.chpw_transfers.specs.declared.kdc.KdcSide.{KdcSide}
 use Rattle.chpw_transfers.specs.declared.kdc.Release.TheVariants as release
+use Rattle.chpw_transfers.specs.declared.kdc.UpdateEnd.{UpdateEnd}
+use Rattle.chpw_transfers.specs.declared.kdc.UpdateEnd.TheVariants as end
 
 -- the last ticket that is confirmed, whether keys are on their way, and whether there is something for a worker
 abbrev pub confirmed_in : Option State → ℕ
@@ -114,10 +119,33 @@ abbrev pub IsToldTo : Name → Option KeyRow → State → State → Type 0
 IsToldTo name None s t = t ≡ after_none name s
 IsToldTo name (Some key) s t = (t ≡ after_hold name key s) ⊎ (t ≡ after_lost_want s)
 
-abbrev pub compared_if : Bool → State → State
-compared_if again s = if again then record s { pace = pace_due s.pace } else s
+-- they are compared anew
+abbrev pub compared_anew : State → State
+compared_anew s = record s { pace = pace_due s.pace }
 
--- a worker has decided what the KDC said
-abbrev pub IsDecided : Name → Option KeyRow → Bool → Option State → Option State → Type 0
-IsDecided name newest again None new = new ≡ None
-IsDecided name newest again (Some s) new = (t : State) × (new ≡ Some (compared_if again t)) × IsToldTo name newest (after_decision s) t
+-- the table has no room for the name, which is told; or memory ran out for that, and they are compared anew
+abbrev pub IsToldFull : Name → State → State → Type 0
+IsToldFull name s t = (t ≡ after_full_table name (after_none name s)) ⊎ (t ≡ compared_anew (after_none name s))
+
+-- what came of an update is told
+abbrev pub IsEnded : Name → Option KeyRow → UpdateEnd → State → State → Type 0
+IsEnded name newest end.Over s t = IsToldTo name newest s t
+IsEnded name newest end.Postponed s t = (u : State) × IsToldTo name newest s u × (t ≡ compared_anew u)
+IsEnded name newest end.TableFull s t = IsToldFull name s t
+
+-- a worker has decided what the KDC said, or it was refused
+abbrev pub IsDecided : Name → Option KeyRow → UpdateEnd → Option State → Option State → Type 0
+IsDecided name newest end None new = new ≡ None
+IsDecided name newest end (Some s) new = (t : State) × (new ≡ Some t) × IsEnded name newest end (after_decision s) t
+
+-- ---- a side of the KDC
+
+abbrev pub dialog_in : Option KdcSide → Option State
+dialog_in = option_map (λ (side : KdcSide). side.dialog)
+
+abbrev pub names_in : Option KdcSide → Option NamePatterns
+names_in = option_map (λ (side : KdcSide). side.names)
+
+abbrev pub reach_in : Option KdcSide → Option ℕ
+reach_in None = None
+reach_in (Some side) = side.reach

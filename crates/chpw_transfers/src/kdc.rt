@@ -7,7 +7,8 @@ ghost use Rattle.chpw_slots.specs.Counting.{count_in};
 ghost use Rattle.chpw_connections.specs.Turns.{slot_of};
 ghost use Rattle.chpw_connection.specs.declared.counting.Counted.TheVariants as counted;
 ghost use Rattle.chpw_kdc.specs.Dialogs.{first_update, after_take};
-ghost use Rattle.chpw_transfers.specs.Kdc.{IsDecided, IsFaulty, IsHeard, IsToldTo, LeavesChange, LeavesKey, Releases};
+ghost use Rattle.chpw_kdc.specs.Mirrors.{are_ours};
+ghost use Rattle.chpw_transfers.specs.Kdc.{IsDecided, IsFaulty, IsHeard, IsToldFull, IsToldTo, LeavesChange, LeavesKey, Releases};
 ghost use Rattle.chpw_transfers.specs.Kdc.{confirmed_in, has_update, is_behind, is_clerk, is_deciding, release_of_lost};
 ghost use Rattle.chpw_transfers.specs.Kdc.{OverdueEnds, SettlesEach, is_withheld, reply_under, ticket_of};
 ghost use Rattle.chpw_connections.specs.Confirming.{NoneIsOverdue};
@@ -17,12 +18,34 @@ ghost use Rattle.chpw_transfers.specs.Steps.{IsAnswered};
 
 use crate::state::State;
 use chpw_connections::{Counted, KdcChange, Reply, Turn, Unconfirmed};
-use chpw_kdc::{HoldFault, IsOurs, KdcDialog, KdcUpdate, ProtocolFault};
+use chpw_kdc::{HoldFault, KdcDialog, KdcUpdate, ProtocolFault};
 use chpw_record::{Change, KeyRow};
-use chpw_rules::Name;
+use chpw_rules::{Name, NamePatterns};
 
 /// The worker that takes what the KDC says into the table.
 pub const CLERK: usize = 0;
+
+/// A service's side of a KDC.
+#[derive(Drop)]
+pub struct KdcSide {
+    /// What is said to the agent at its database.
+    pub dialog: KdcDialog,
+    /// Which of its names are the service's.
+    pub names: NamePatterns,
+    /// If it has to be in reach for a change: the milliseconds within which it gets each.
+    pub reach: Option<u64>,
+}
+
+/// What came of an update that a worker was given.
+#[derive(Clone, Copy, PartialEq, Eq, Debug, Drop)]
+pub enum UpdateEnd {
+    /// The desk has decided it, or never takes it.
+    Over,
+    /// The desk may take it later.
+    Postponed,
+    /// The table has no room for its name.
+    TableFull,
+}
 
 /// When the reply to a message may go.
 #[derive(Clone, Copy, Drop)]
@@ -98,9 +121,9 @@ impl State {
     /// The agent sent these bytes. The replies whose changes it has confirmed with them are to be written, also with those
     /// before a fault; but if the KDC has to be in reach, and doesn't have the last one's key, their connections end. Of the
     /// names that the table lacks, those that are the service's are adopted. After a fault the caller closes the connection.
-    pub fn hear<O: IsOurs>(&mut self, ours: &O, bytes: &[u8], now: u64) -> Result<(), ProtocolFault>
-        ensures heard { OnOk result (IsHeard (O.ours ours.now) now bytes.now self.old.kdc self.new.kdc) }
-        ensures fault { IfErr result (λ fault. IsFaulty (O.ours ours.now) now bytes.now fault self.old.kdc self.new.kdc) }
+    pub fn hear(&mut self, bytes: &[u8], now: u64) -> Result<(), ProtocolFault>
+        ensures heard { OnOk result (IsHeard (are_ours self.old.names) now bytes.now self.old.kdc self.new.kdc) }
+        ensures fault { IfErr result (λ fault. IsFaulty (are_ours self.old.names) now bytes.now fault self.old.kdc self.new.kdc) }
         ensures released { Releases (is_withheld (is_some self.old.reach) self.new.kdc) (confirmed_in self.old.kdc) (confirmed_in self.new.kdc) now
             (slots_of self.old.connections) (slots_of self.new.connections) }
         ensures bounds { bounds_of self.new.connections ≡ bounds_of self.old.connections }
@@ -110,7 +133,7 @@ impl State {
             return Ok(());
         };
         let before = kdc.confirmed();
-        let heard = kdc.hear(ours, bytes, now);
+        let heard = kdc.hear(&self.names, bytes, now);
         let confirmed = kdc.confirmed();
         let is_withheld = self.reach.is_some() && !kdc.is_written();
         if before < confirmed {
@@ -156,16 +179,21 @@ impl State {
     }
 
     /// A worker has decided what the KDC said of a name, or it was refused. The table has this as the name's newest key then,
-    /// or it doesn't hold the name. If it is to be looked at again, table and KDC are compared anew.
-    pub fn updated(&mut self, name: Name, newest: Option<KeyRow>, is_to_compare: bool)
-        ensures decided { IsDecided name newest is_to_compare self.old.kdc self.new.kdc }
+    /// or it doesn't hold the name. If the desk may take it later, table and KDC are compared anew. If the table has no room
+    /// for the name, that is told, once until there is room.
+    pub fn updated(&mut self, name: Name, newest: Option<KeyRow>, end: UpdateEnd)
+        ensures decided { IsDecided name newest end self.old.kdc self.new.kdc }
         ensures rest { self.new ≡ record self.old { kdc = self.new.kdc } }
     {
         if let Some(kdc) = &mut self.kdc {
             kdc.decided();
-            tell(kdc, name, newest);
-            if is_to_compare {
-                kdc.compare_again();
+            match end {
+                UpdateEnd::Over => tell(kdc, name, newest),
+                UpdateEnd::Postponed => {
+                    tell(kdc, name, newest);
+                    kdc.compare_again();
+                }
+                UpdateEnd::TableFull => tell_full(kdc, name),
             }
         }
     }
@@ -264,5 +292,15 @@ fn tell(kdc: &mut KdcDialog, name: Name, newest: Option<KeyRow>)
                 kdc.want_lost();
             }
         }
+    }
+}
+
+// The table has no room for the name, which is told. If memory runs out for that, they are compared anew, and it comes again.
+fn tell_full(kdc: &mut KdcDialog, name: Name)
+    ensures told { IsToldFull name kdc.old kdc.new }
+{
+    kdc.hold_none(&name);
+    if kdc.tell_full(name).is_err() {
+        kdc.compare_again();
     }
 }

@@ -12,7 +12,7 @@ ghost use Rattle.chpw_connection.specs.Late.{Passes, is_late_in};
 ghost use Rattle.chpw_connection.specs.Slot.{queued_at};
 ghost use Rattle.chpw_connection.specs.Stages.{taken, failed};
 ghost use Rattle.chpw_connections.specs.Turns.{slot_of, message_of, peer_of};
-ghost use Rattle.chpw_transfers.specs.Kdc.{has_update, is_behind, is_clerk};
+ghost use Rattle.chpw_transfers.specs.Kdc.{dialog_in, has_update, is_behind, is_clerk, names_in, reach_in};
 ghost use Rattle.chpw_transfers.specs.Steps.{is_short_for, short_of};
 ghost use Rattle.chpw_transfers.specs.Controlling.{IsCounted, sum_of};
 ghost use Rattle.chpw_transfers.specs.Rounds.{is_done, is_finished, is_looked_at, is_reading, milliseconds_to_wait, wants_reactor};
@@ -20,9 +20,10 @@ ghost use Rattle.chpw_transfers.specs.Rounds.{is_done, is_finished, is_looked_at
 use crate::accept_limit::AcceptLimit;
 use crate::accepting::Accepting;
 use crate::connection_counts::ConnectionCounts;
-use crate::kdc::is_clerk;
+use crate::kdc::{KdcSide, is_clerk};
 use chpw_connections::{Connections, Counted, TakenMessage, Todo};
 use chpw_kdc::KdcDialog;
+use chpw_rules::NamePatterns;
 
 /// The milliseconds between two searches for connections whose time is up.
 pub const TICK: u64 = 100;
@@ -49,6 +50,8 @@ pub struct State {
     pub shortage: Shortage,
     /// What is said to the agent at the KDC's database, if there is one.
     pub kdc: Option<KdcDialog>,
+    /// Which of the KDC's names are the service's.
+    pub names: Option<NamePatterns>,
     /// The worker that takes what the KDC says into the table did that last: messages come first then.
     pub is_message_next: bool,
     /// If the KDC has to be in reach for a change: the milliseconds within which it gets each.
@@ -106,8 +109,8 @@ pub enum Progress {
 }
 
 impl State {
-    /// These connections, which workers may serve, and what is said to the agent at the KDC's database, if there is one.
-    pub fn new(connections: Connections, kdc: Option<KdcDialog>) -> State
+    /// These connections, which workers may serve, and the service's side of a KDC, if there is one.
+    pub fn new(connections: Connections, side: Option<KdcSide>) -> State
         ensures value { result ≡ record {
           connections = connections;
           is_stopped = false;
@@ -115,11 +118,13 @@ impl State {
           is_deserted = false;
           has_newcomer = false;
           shortage = record { of_large = false; of_small = false };
-          kdc = kdc;
+          kdc = dialog_in side;
+          names = names_in side;
           is_message_next = false;
-          reach = None;
+          reach = reach_in side;
         } }
     {
+        let (kdc, names, reach) = parts_of(side);
         State {
             connections,
             is_stopped: false,
@@ -128,8 +133,9 @@ impl State {
             has_newcomer: false,
             shortage: Shortage::default(),
             kdc,
+            names,
             is_message_next: false,
-            reach: None,
+            reach,
         }
     }
 
@@ -318,5 +324,23 @@ impl State {
         } else {
             TICK
         }
+    }
+}
+
+// What a side of the KDC consists of, if there is one.
+fn parts_of(side: Option<KdcSide>) -> (Option<KdcDialog>, Option<NamePatterns>, Option<u64>)
+    ensures dialog { result.0 ≡ dialog_in side }
+    ensures names { result.1 ≡ names_in side }
+    ensures reach { result.2 ≡ reach_in side }
+{
+    match side {
+        None => (None, None, None),
+        Some(
+            KdcSide {
+                dialog,
+                names,
+                reach,
+            },
+        ) => (Some(dialog), Some(names), reach),
     }
 }
