@@ -1,6 +1,7 @@
 """An agent at a KDC's database that a script plays (kdc/agent/README.md)."""
 
 import contextlib
+import select
 import socket
 
 from changepw_client import string_to_key
@@ -105,6 +106,10 @@ class Link:
     def confirm(self, name, kvno, password="New-pass2"):
         self.is_to_put(name, kvno, password)
         self.say(f"put {hexed(name)} {kvno}\n")
+
+    def is_silent(self):
+        """Whether nothing is asked at the moment."""
+        return not select.select([self.connection], [], [], 0)[0]
 
     def is_ended(self):
         """Whether the service ends the connection, and how soon."""
