@@ -1,6 +1,10 @@
 """What the cases of an agent have in common. Expected values come from the project's own programs."""
 
+import contextlib
+import pathlib
+import shutil
 import sys
+import tempfile
 import traceback
 
 import realms
@@ -12,7 +16,7 @@ FIRST = realms.FIRST
 
 
 class AgentCase(Cases):
-    """`cases` are run in turn, each with an agent of its own unless it makes one."""
+    """Of `cases` those with these names are run in turn, each with an agent of its own unless it makes one."""
 
     def __init__(self, *words):
         super().__init__(*words)
@@ -21,9 +25,9 @@ class AgentCase(Cases):
     def cases(self):
         return []
 
-    def run(self, only=None):
+    def run(self, names):
         for case in self.cases():
-            if only is None or only in case.__name__:
+            if case.__name__ in names:
                 print(f"- {case.__name__}", flush=True)
                 self.run_one(case)
 
@@ -34,6 +38,19 @@ class AgentCase(Cases):
         except Exception as fault:
             traceback.print_exc(file=sys.stdout)
             self.tell(f"{case.__name__} goes to its end", repr(fault), None)
+
+    @contextlib.contextmanager
+    def elsewhere(self):
+        """What an agent and the project's programs are started with for a copy of the database in another folder."""
+        folder = pathlib.Path(tempfile.mkdtemp(prefix="agent_"))
+        try:
+            yield self.kdc.configured(folder, self.kdc.copy(folder))
+        finally:
+            shutil.rmtree(folder)
+
+    def pages(self, agent):
+        """Those of its memory that are there."""
+        return int(pathlib.Path(f"/proc/{agent.process.pid}/statm").read_text().split()[1])
 
     def held(self, name):
         """What the KDC has of it: each key with its version."""

@@ -1,21 +1,25 @@
 """The agents at the KDC's database: kdc/agent."""
 
 from agent_changes import AgentChanges
+from agent_elsewhere import AgentElsewhere
 from agent_entries import HeimdalEntries, MitEntries
 from agent_faults import AgentFaults
+from agent_machine import AgentMachine
+from agent_oddities import HeimdalOddities, MitOddities
 from agent_requests import AgentRequests
 from agent_socket import AgentSocket
 
 
 class AgentCases:
     def __init__(self, realm, program, report):
-        entries = MitEntries if realm.KIND == "MIT" else HeimdalEntries
+        entries, oddities = (MitEntries, MitOddities) if realm.KIND == "MIT" else (HeimdalEntries, HeimdalOddities)
         self.parts = [
             kind(realm, program, report)
-            for kind in (AgentRequests, AgentSocket, entries, AgentChanges, AgentFaults)
+            for kind in (AgentRequests, AgentSocket, AgentMachine, entries, oddities, AgentChanges, AgentElsewhere, AgentFaults)
         ]
 
     def run(self, only):
-        """All cases, or those whose name has that word in it."""
+        """All cases; or the one of that name, or those whose name has that word in it."""
+        names = {case.__name__ for part in self.parts for case in part.cases()}
         for part in self.parts:
-            part.run(only)
+            part.run({name for name in names if only is None or name == only or (only not in names and only in name)})

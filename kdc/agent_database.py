@@ -7,6 +7,8 @@ import shutil
 from heimdal_realm import escaped
 from realm import REALM, Failed
 
+FIRST = "Old-pass1"
+
 # of Heimdal's entries: HDBFlags, and the extensions of HDB-extension
 IMMUTABLE = 1 << 13
 LM_OWF, PASSWORD, LAST_CHANGE, HISTORY = 4, 5, 7, 9
@@ -47,8 +49,56 @@ class MitDatabase:
                 found[short] = max(found[short], int(kvno))
         return found
 
+    def project(self, command, name, **more):
+        """What kadmin.local prints with that environment, of an entry or of a change of its password."""
+        words = {"get": ["getprinc"], "change": ["cpw", "-pw", FIRST]}[command]
+        return self.realm.run(self.realm.mit, ["kadmin.local", *words, name], **more).stdout
+
+    def shows_version(self, kvno, text):
+        return text.count(f"Key: vno {kvno},") == 2
+
+    def configured(self, folder, database):
+        """What an agent is started with for that database; the configuration is made in that folder."""
+        old, config = self.realm.folder, folder / "conf"
+        config.write_text((old / "kdc.conf").read_text().replace(f"database_name = {old}/principal", f'database_name = "{database}"'))
+        return {"KRB5_KDC_PROFILE": str(config)}
+
+    def multiply(self, name, count, **more):
+        """So many principals as that one, in the database of that environment; their names have the same length."""
+        path = self.realm.folder / "many"
+        self.util("dump", str(path), f"{name}@{REALM}")
+        head, line = path.read_text().splitlines()
+        names = [f"many{number:0{len(name) - 4}}" for number in range(count)]
+        path.write_text("\n".join([head, *(line.replace(f"\t{name}@", f"\t{it}@") for it in names)]) + "\n")
+        self.realm.run(self.realm.mit, ["kdb5_util", "load", "-update", str(path)], **more)
+
     def add_weak(self, name, password):
         self.kadmin("addprinc", "-e", "aes256-cts:normal", "-pw", password, name)
+
+    def add_with(self, name, password, etype):
+        """A principal with a key of that type alone."""
+        self.kadmin("addprinc", "-e", f"{etype}:normal", "-pw", password, name)
+
+    def give_policy(self, name):
+        """One with a longest life."""
+        self.kadmin("modprinc", "-policy", "usual", name)
+
+    def add_keyless(self, name, _):
+        self.kadmin("addprinc", "-nokey", name)
+
+    def keep_and_set(self, name, password, etype=None):
+        """Another password, beside the former version's keys; with a key of that type alone, where one is named."""
+        self.kadmin("cpw", "-keepold", *(["-e", f"{etype}:normal"] if etype else []), "-pw", password, name)
+
+    def spoil_keys(self, name):
+        """Changes the sealed bytes of its keys."""
+        path = self.realm.folder / "spoilt"
+        self.util("dump", str(path), f"{name}@{REALM}")
+        head, line = path.read_text().splitlines()
+        # type 1, length, bytes of each key
+        line = re.sub(r"\t(1[78])\t(\d+)\t([0-9a-f]{20})", r"\t\1\t\2\tffffffffffffffffffff", line)
+        path.write_text(f"{head}\n{line}\n")
+        self.util("load", "-update", str(path))
 
     def add_salted(self, name, password):
         self.kadmin("addprinc", "-e", "aes256-cts:norealm,aes128-cts:norealm", "-pw", password, name)
@@ -65,9 +115,12 @@ class MitDatabase:
     def load(self, path):
         self.util("load", str(path))
 
+    def files(self):
+        return list(self.realm.folder.glob("principal*"))
+
     def copy(self, folder):
         """A copy of the database in another folder, by its name there."""
-        for file in self.realm.folder.glob("principal*"):
+        for file in self.files():
             shutil.copy(file, folder)
         return folder / "principal"
 
@@ -86,9 +139,52 @@ class HeimdalDatabase:
         pairs = [re.match(r"(.*?@\S+) (\d+):", line).groups() for line in self.lines()]
         return {short: int(kvno) for name, kvno in pairs if (short := named(name)) is not None}
 
+    def project(self, command, name, **more):
+        """What `kadmin -l` prints with that environment, of an entry or of a change of its password."""
+        words = {"get": ["get"], "change": ["passwd", f"--password={FIRST}"]}[command]
+        return self.realm.run(["kadmin.heimdal", "-l", *words, name], **more).stdout
+
+    def shows_version(self, kvno, text):
+        return f"Kvno: {kvno}\n" in text
+
+    def configured(self, folder, database):
+        """What an agent is started with for that database; the configuration is made in that folder, with a log of its own."""
+        old, config = self.realm.folder, folder / "conf"
+        text = (old / "krb5.conf").read_text().replace(f"dbname = {old}/heimdal", f"dbname = {database}")
+        config.write_text(text.replace(f"log_file = {old}/log", f"log_file = {folder}/log"))
+        shutil.copy(old / "log", folder)
+        return {"KRB5_CONFIG": str(config)}
+
+    def multiply(self, name, count, **more):
+        """So many principals as that one, in the database of that environment."""
+        path, line = self.realm.folder / "many", self.line(name)
+        path.write_text("".join(line.replace(name, f"many{number}") + "\n" for number in range(count)))
+        self.realm.run(["kadmin.heimdal", "-l", "merge", str(path)], **more)
+
     def add_weak(self, name, password):
         self.realm.add(name, password)
         self.kadmin("del_enctype", name, "aes128-cts-hmac-sha1-96")
+
+    def add_with(self, name, password, etype):
+        """A principal with a key of that type, and with none of the other of AES."""
+        self.realm.add(name, password)
+        self.kadmin("del_enctype", name, *({"aes256-cts-hmac-sha1-96", "aes128-cts-hmac-sha1-96", "arcfour-hmac-md5"} - {etype}))
+
+    def give_policy(self, name):
+        """None: this kadmin doesn't let anybody set one."""
+
+    def add_keyless(self, name, password):
+        self.add_with(name, password, None)
+
+    def keep_and_set(self, name, password, etype=None):
+        """Another password, beside the former version's keys; with a key of that type alone, where one is named."""
+        self.kadmin("passwd", "--keepold", f"--password={password}", name)
+        if etype:
+            self.kadmin("del_enctype", name, *({"aes256-cts-hmac-sha1-96", "aes128-cts-hmac-sha1-96", "arcfour-hmac-md5"} - {etype}))
+
+    def spoil_keys(self, name):
+        """Names a master key that there isn't."""
+        self.edit(name, lambda line: re.sub(r":1:(1[78]|23):", r":99:\1:", line))
 
     def add_salted(self, name, password):
         self.realm.add(name, password)
@@ -134,8 +230,11 @@ class HeimdalDatabase:
     def load(self, path):
         self.kadmin("load", str(path))
 
+    def files(self):
+        return list(self.realm.folder.glob("heimdal*"))
+
     def copy(self, folder):
-        for file in self.realm.folder.glob("heimdal*"):
+        for file in self.files():
             shutil.copy(file, folder)
         return folder / "heimdal"
 

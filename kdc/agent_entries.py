@@ -2,14 +2,12 @@
 
 import calendar
 import re
-import subprocess
 import time
 
 from agent_case import FIRST, AgentCase
 from agent_database import HISTORY, LAST_CHANGE, LM_OWF, PASSWORD, changed
-from agent_process import Agent, hexed, putting
+from agent_process import Agent, hexed, keys_of, preload, putting
 from realm import REALM
-from realms import HERE
 
 NEW = "New-pass7"
 DAY = 86400
@@ -175,13 +173,10 @@ class MitEntries(Entries):
 
     def what_is_named_as_changed(self):
         """At least what kadmin.local names where it sets a password."""
-        name, preload = self.name(), self.realm.folder / "mask.so"
-        include = self.realm.mit.folder / "usr/include"
-        subprocess.run(["gcc", "-D_GNU_SOURCE", "-Wall", "-Wextra", "-Werror", "-shared", "-fPIC", f"-I{include}", f"-I{include}/mit-krb5",
-                        "-o", preload, HERE / "agent_mask.c"], check=True)
-        done = self.realm.run(self.realm.mit, ["kadmin.local", "cpw", "-pw", "Second-pass2", name], LD_PRELOAD=str(preload))
+        name, library = self.name(), preload(self.realm, "agent_mask")
+        done = self.realm.run(self.realm.mit, ["kadmin.local", "cpw", "-pw", "Second-pass2", name], LD_PRELOAD=library)
         [theirs] = re.findall("mask (.*)", done.stderr)
-        with Agent(self.realm, LD_PRELOAD=str(preload)) as agent:
+        with Agent(self.realm, LD_PRELOAD=library) as agent:
             self.tell("put", agent.ask(putting(name, 3, NEW)), f"put {hexed(name)} 3")
             agent.told("mask", 1)
             [ours] = re.findall("mask (.*)", "\n".join(agent.all_lines))
@@ -317,3 +312,5 @@ class HeimdalEntries(Entries):
         self.tell("  records in the log of changes", len(found), len(before) + 1)
         self.tell("  the last one has what kadmin's own of a password has", fields(found[-1]), fields(before[-1]))
         self.tell("  its version", "kvno = 7" in found[-1])
+        data = (self.realm.folder / "log").read_bytes()
+        self.tell("  keys in it that aren't sealed", [key for key in keys_of(name, NEW).split() if bytes.fromhex(key) in data], [])

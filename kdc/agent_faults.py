@@ -6,12 +6,10 @@ import random
 import re
 import resource
 import struct
-import subprocess
 
 from agent_case import AgentCase
-from agent_process import Agent, hexed, keys_of, program_of, putting
+from agent_process import Agent, hexed, keys_of, preload, program_of, putting
 from realm import REALM
-from realms import HERE
 
 LINES = 100_000
 ENDED = "the agent has ended"
@@ -127,11 +125,9 @@ class AgentFaults(AgentCase):
     def refused(self, case, whole):
         """The case with each allocation refused that a request asks for: it alone, or with all behind it."""
         self.whole, self.what = whole, "and all behind it" if whole else "alone"
-        preload, control = self.realm.folder / "refusing.so", self.realm.folder / "refusing"
-        subprocess.run(["gcc", "-std=c11", "-D_GNU_SOURCE", "-Wall", "-Wextra", "-Werror", "-O1", "-shared", "-fPIC", "-o", preload,
-                        HERE / "agent_refusing.c"], check=True)
+        control = self.realm.folder / "refusing"
         control.write_bytes(bytes(24))
-        self.more = {"LD_PRELOAD": str(preload), "REFUSING": str(control)}
+        self.more = {"LD_PRELOAD": preload(self.realm, "agent_refusing"), "REFUSING": str(control)}
         with control.open("r+b") as file, mmap.mmap(file.fileno(), 24) as self.control:
             name = self.name()
             self.begin_anew()
@@ -233,15 +229,19 @@ class AgentFaults(AgentCase):
             wrong = [it for it in found if it not in (ENDED, f"failed {hexed(name)} no memory")]
             self.tell(f"put {name}, each of {len(found)} allocations refused {self.what}: neither failed nor an end", wrong[:3], [])
 
+    def limit(self, agent, more):
+        """It gets only so much more than it has."""
+        pages = int(pathlib.Path(f"/proc/{agent.process.pid}/statm").read_text().split()[0])
+        limit = pages * mmap.PAGESIZE + more
+        resource.prlimit(agent.process.pid, resource.RLIMIT_AS, (limit, limit))
+
     def memory_of_the_system(self):
         """The system gives no more from a moment on, which is another one each time: the agent goes on, and what it has
         begun it does."""
         name, kvno, failures, wrong = self.name(), 1, 0, []
         for more in range(0, 12 << 20, 1 << 19):
             with self.talking() as line:
-                pages = int(pathlib.Path(f"/proc/{line.agent.process.pid}/statm").read_text().split()[0])
-                limit = pages * mmap.PAGESIZE + more
-                resource.prlimit(line.agent.process.pid, resource.RLIMIT_AS, (limit, limit))
+                self.limit(line.agent, more)
                 answers = [line.put(name, kvno + 1, f"System-pass{kvno}"), line.ask(f"get {hexed('nobody')}"), line.ask("list")]
                 if answers[:2] == [f"put {hexed(name)} {kvno + 1}", f"none {hexed('nobody')}"] and answers[2].startswith("has "):
                     kvno += 1
@@ -250,5 +250,10 @@ class AgentFaults(AgentCase):
                 else:
                     wrong.append((more, answers))
         self.tell("no memory from different moments on: neither failed nor answered", wrong, [])
+        with self.talking() as line:
+            line.ask(f"get {hexed(name)}")
+            self.limit(line.agent, 1 << 20)
+            kvno += 1
+            self.tell("  nor after a request, which keeps what it has: put", line.put(name, kvno, f"System-pass{kvno - 1}"), f"put {hexed(name)} {kvno}")
         self.tell("  times it failed, and was answered", failures > 5 and kvno > 3)
         self.tell("  the KDC's keys", self.held(name), self.of(name, kvno, f"System-pass{kvno - 1}"))

@@ -1,7 +1,9 @@
 """An agent as a process, the lines that it tells, and a service's side of its socket."""
 
 import contextlib
+import ctypes
 import os
+import pathlib
 import pwd
 import signal
 import socket
@@ -12,6 +14,10 @@ import time
 from building import built
 from changepw_client import string_to_key
 from realm import REALM
+
+HERE = pathlib.Path(__file__).resolve().parent
+# of prctl(2) and capabilities(7)
+PR_CAPBSET_DROP, CAP_DAC_OVERRIDE, CAP_DAC_READ_SEARCH = 24, 1, 2
 
 
 def hexed(name):
@@ -27,6 +33,12 @@ def keys_of(name, password):
 
 def putting(name, kvno, password):
     return f"put {hexed(name)} {kvno} {keys_of(name, password)}"
+
+
+def without_rights():
+    """What runs next is held to the modes of files, also where it is root: as in the unit."""
+    for right in (CAP_DAC_OVERRIDE, CAP_DAC_READ_SEARCH):
+        ctypes.CDLL(None).prctl(PR_CAPBSET_DROP, right, 0, 0, 0)
 
 
 class Agent:
@@ -124,7 +136,7 @@ class Connection:
     def line(self, seconds=None):
         """The next line; nothing where the connection ended, None where none comes in time."""
         end = time.monotonic() + (self.connection.gettimeout() if seconds is None else seconds)
-        while "\n" not in self.rest.decode("latin1"):
+        while b"\n" not in self.rest:
             left = end - time.monotonic()
             if left <= 0:
                 return None
@@ -182,6 +194,16 @@ class Connection:
 
     def quiet(self, seconds=0.8):
         return not self.told(seconds)
+
+
+def preload(realm, name):
+    """The library of NAME.c in the realm's folder, which a program can be started with."""
+    project = realm.mit if realm.KIND == "MIT" else realm.heimdal
+    include = project.folder / "usr/include"
+    library = realm.folder / f"{name}.so"
+    words = ["gcc", "-std=c11", "-D_GNU_SOURCE", "-Wall", "-Wextra", "-Werror", "-O1", "-shared", "-fPIC"]
+    subprocess.run([*words, f"-I{include}", f"-I{include}/mit-krb5", "-o", library, HERE / f"{name}.c"], check=True)
+    return str(library)
 
 
 def program_of(realm, kind, *flags):

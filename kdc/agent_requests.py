@@ -23,7 +23,8 @@ class AgentRequests(AgentCase):
         lacking = self.name(known=False)
         self.kdc.add_weak(lacking, FIRST)
         # those of other realms, whatever their names
-        for other in "alice@ELSEWHERE.EXAMPLE", f"krbtgt/{REALM}@ELSEWHERE.EXAMPLE":
+        others = "ELSEWHERE.EXAMPLE", "EXAMPLE.ORG", REALM[:-1], f"{REALM}S"
+        for other in *(f"alice@{it}" for it in others), f"krbtgt/{REALM}@ELSEWHERE.EXAMPLE":
             self.realm.add(other, FIRST)
         known = self.kdc.listed()
         with self.talking() as line:
@@ -163,6 +164,7 @@ class AgentRequests(AgentCase):
         for name, reason in (
             (f"krbtgt/{REALM}", "it is never written"), ("kadmin/admin", "it is never written"),
             ("krbtgt", "it is never written"), (f"root/admin@{REALM}", "a name has no realm here"),
+            ("root\\/admin", "a name has no realm here"),
             ("", "no name"), ("root/", "no name"), ("/admin", "no name"), ("x" * 451, "no name"),
         ):
             self.tell(f"--also {name[:20]!r}: status, and what is told", self.ended("--also", name),

@@ -91,6 +91,8 @@ class AgentSocket(AgentCase):
                     answer = line.line()
                 if answer != "" or agent.told("a connection was closed: a line is no request", count) != count:
                     wrong.append((bad[:60], answer, agent.all_lines[-1]))
+                if len(wrong) > 2:
+                    break
             self.tell(f"{len(lines)} lines that aren't requests: treated otherwise", wrong, [])
             self.tell("  lines told", agent.told("was closed"), len(lines))
             self.tell("  then a request", agent.ask(f"get {hexed(name)}").split()[0], "has")
@@ -127,8 +129,11 @@ class AgentSocket(AgentCase):
                     line.connection.shutdown(socket.SHUT_WR)
                     self.tell(f"{length} bytes of a request, and an end", line.line(), "")
                 self.tell("  told", agent.told("a line has no end", count), count)
-            with agent.connected():
-                pass
+            for _ in range(2):
+                with agent.connected():
+                    pass
+                # it has seen the end of the one before
+                agent.ask(f"get {hexed(name)}")
             self.tell("no request is no fault", agent.told("was closed"), 5)
         self.tell("  nothing is written", self.state(name) == kept)
 
@@ -152,23 +157,34 @@ class AgentSocket(AgentCase):
     def second_connection(self):
         """While one is open another is closed at once, and the first is served on."""
         with self.talking() as line:
+            line.listed()
+            opened = self.opened(line.agent)
             for count in range(1, 20):
                 with line.agent.connected() as other:
                     other.send(b"list\n")
                     if other.line() != "":
                         self.tell(f"connection {count + 1} is closed", False)
             self.tell("nineteen others are closed: told", line.agent.told("there is one already", 19), 19)
+            self.tell("  files that are open, more than before", self.opened(line.agent) - opened, 0)
             self.tell("  the first is served", line.ask(f"get {hexed('alice')}").split()[0], "has")
             line.connection.close()
             time.sleep(0.2)
             self.tell("  the next one after it", line.agent.ask(f"get {hexed('alice')}").split()[0], "has")
         with Agent(self.realm) as agent:
+            agent.ask("list")
+            time.sleep(0.3)
+            opened = self.opened(agent)
             found = [agent.ask(f"get {hexed('alice')}").split()[:1] for _ in range(300)]
             self.tell("three hundred connections, each when the one before has ended: answered", found.count(["has"]), 300)
             for _ in range(10):
                 agent.connected().connection.close()
             self.tell("  after ten that ended at once", agent.ask(f"get {hexed('alice')}").split()[:1], ["has"])
             self.tell("  told", agent.told("was closed"), 0)
+            time.sleep(0.3)
+            self.tell("  files that are open, more than before", self.opened(agent) - opened, 0)
+
+    def opened(self, agent):
+        return len(os.listdir(f"/proc/{agent.process.pid}/fd"))
 
     def other_users(self):
         """Whoever may reach the socket: only the user's own connections are served."""
@@ -230,6 +246,11 @@ class AgentSocket(AgentCase):
             self.fails("a socket that somebody listens at", path, taken)
             self.tell("  it stays", path.is_socket())
         self.tell("  it is left behind", path.is_socket())
+        to_it = self.realm.folder / "to_it"
+        to_it.symlink_to(path)
+        self.fails("a link to one that nobody listens at", to_it, taken)
+        self.tell("  it stays, and what it leads to", (to_it.is_symlink(), path.is_socket()), (True, True))
+        self.busy_socket(self.realm.folder / "busy", taken)
         packets = self.realm.folder / "packets"
         with socket.socket(socket.AF_UNIX, socket.SOCK_DGRAM) as other:
             other.bind(str(packets))
@@ -247,6 +268,22 @@ class AgentSocket(AgentCase):
             self.tell("  and the next one takes its place", path.is_socket())
         self.fails("a folder that isn't there", self.realm.folder / "none/place", "No such file or directory")
         self.fails("a long path", self.realm.folder / ("x" * 120), "File name too long")
+        longest = self.realm.folder / ("x" * (106 - len(str(self.realm.folder))))
+        with Agent(self.realm, path=longest) as agent:
+            self.tell("a path of 107 bytes: it answers", agent.ask(f"get {hexed('alice')}").split()[0], "has")
+        self.fails("  one more", f"{longest}x", "File name too long")
+
+    def busy_socket(self, path, taken):
+        """One that somebody listens at who takes no more callers."""
+        with socket.socket(socket.AF_UNIX) as other, contextlib.ExitStack() as calls:
+            other.bind(str(path))
+            other.listen(0)
+            for _ in range(3):
+                call = calls.enter_context(socket.socket(socket.AF_UNIX))
+                call.setblocking(False)
+                call.connect_ex(str(path))
+            self.fails("a socket whose callers wait", path, taken)
+            self.tell("  it stays", path.is_socket())
 
     def ends(self):
         for number in signal.SIGTERM, signal.SIGINT:
@@ -264,7 +301,7 @@ class AgentSocket(AgentCase):
         agent = Agent(self.realm)
         agent.told("listening", 1)
         with agent.connected() as line:
-            line.send(b"list keys\n" * 100)
+            line.send(b"list keys\n" * 600)
             time.sleep(0.5)
             agent.process.send_signal(signal.SIGTERM)
             time.sleep(0.2)
@@ -324,7 +361,7 @@ class AgentSocket(AgentCase):
         name = pathlib.Path(program).name
         good = ["--socket", str(self.realm.folder / "s"), "--user", "root", "--realm", REALM]
         usage = f"usage: {name} --socket PATH --user NAME --realm REALM [--also PRINCIPAL].."
-        for words in ([], good[:4], good[2:], [*good[:2], *good[4:]], [*good, "x"], [*good, "--x"], [*good, "--also"],
+        for words in ([], good[:4], good[2:], [*good[:2], *good[4:]], [*good, "x"], [*good, "--x"], [*good, "--x", "y"], [*good, "--also"],
                       [*good[:5], ""]):
             done = subprocess.run([program, *words], capture_output=True, text=True, env=environment, timeout=20)
             self.tell(f"{len(words)} words: status, and usage", (done.returncode, done.stderr.splitlines()[-1]), (2, usage))
@@ -336,7 +373,13 @@ class AgentSocket(AgentCase):
     def hidden_memory(self):
         """No core, and nobody but root looks into it: who owns its files in /proc tells whether others may."""
         most = resource.getrlimit(resource.RLIMIT_CORE)[1]
-        agent = Agent(self.realm, before=lambda: resource.setrlimit(resource.RLIMIT_CORE, (most, most)))
+
+        def before():
+            resource.setrlimit(resource.RLIMIT_CORE, (most, most))
+            # which is passed over by what a shell starts in the background
+            signal.signal(signal.SIGQUIT, signal.SIG_DFL)
+
+        agent = Agent(self.realm, before=before)
         agent.told("listening", 1)
         agent.process.send_signal(signal.SIGQUIT)
         _, status = os.waitpid(agent.process.pid, 0)
@@ -371,7 +414,8 @@ class AgentSocket(AgentCase):
                           [word for word in (*every, *new) if word.encode() in memory][:3], [])
                 # Heimdal's library leaves some where it has decrypted them
                 own = memory if self.realm.KIND == "MIT" else self.memory(line.agent.process.pid, "/kdc_", "[stack]")
-                self.tell("  keys", [word for word in (*every, *new) if bytes.fromhex(word) in own][:3], [])
+                # the first bytes of what was freed aren't its own any more
+                self.tell("  keys", [word for word in (*every, *new) if bytes.fromhex(word)[-16:] in own][:3], [])
             line.send(putting(name, 3, "Wiped-pass2").encode()[:-3])
             time.sleep(0.2)
             line.connection.close()
@@ -381,14 +425,17 @@ class AgentSocket(AgentCase):
 
     def memory(self, process, *where):
         """All that it may write to: its data, heap and stack, and those of its libraries; or only where that is."""
-        found = b""
+        found, last, is_meant = b"", 0, False
         with open(f"/proc/{process}/maps") as maps, open(f"/proc/{process}/mem", "rb", 0) as file:
             for line in maps:
-                place, rights, *_ = line.split()
+                place, rights, *words = line.split()
                 start, end = (int(word, 16) for word in place.split("-"))
-                if rights.startswith("rw") and "[v" not in line and (not where or any(it in line for it in where)):
+                # what has no name goes on with what is before it
+                is_meant = not where or any(it in line for it in where) or (is_meant and len(words) == 3 and start == last)
+                if rights.startswith("rw") and "[v" not in line and is_meant:
                     file.seek(start)
                     found += file.read(end - start)
+                last = end
         return found
 
     def as_another_user(self, folder):

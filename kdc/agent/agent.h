@@ -2,13 +2,17 @@
 #pragma once
 
 #include <errno.h>
+#include <fcntl.h>
+#include <inttypes.h>
 #include <limits.h>
 #include <stdarg.h>
-#include <stdint.h>
 #include <stdio.h>
 #include <stdlib.h>
 #include <string.h>
+#include <sys/socket.h>
+#include <sys/stat.h>
 #include <sys/syscall.h>
+#include <sys/un.h>
 #include <unistd.h>
 
 /* bytes of a line with its newline, and of a name and the words of an error as they stand in one */
@@ -54,12 +58,13 @@ int name_add(char name[LONGEST_NAME + 1], const char *component, size_t size);
 /* the size of the name's next component, 0 at its end, and its bytes, with a 0 behind them */
 size_t name_next(const char **rest, char *component);
 
-/* files.c: whether somebody else wrote, and whether other files stand at the paths */
+/* files.c: since they were set to 0, whether somebody else wrote, and whether other files stand at the paths */
 extern int files_are_changed, files_are_others;
 void files_watch(const char *data, const char *counter);
 void files_look(void);
 /* right after an own write, when nobody else can have written */
 void files_written(void);
+char *files_unwritable(void); /* one that is there and can't be written, and why; NULL where there is none */
 
 /* memory.c: whether there is as much as a request may need */
 int memory_is_there(void);

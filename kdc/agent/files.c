@@ -2,7 +2,6 @@
    writer before the data, and differently each time: MIT's principal.ok, whose time each write of a db2
    database moves on by at least a second, or Heimdal's log, which grows. */
 #include "agent.h"
-#include <sys/stat.h>
 
 /* each as it was seen last; zeros where it wasn't there */
 static struct file {
@@ -10,10 +9,8 @@ static struct file {
     struct stat seen;
 } data, counter;
 
-/* since they were set to 0: whether somebody else wrote, and whether other files stand at the paths */
 int files_are_changed, files_are_others;
-/* whether the next change of the data is our own */
-static int is_own;
+static int is_own; /* whether the next change of the data is our own */
 
 /* looks at it anew; whether it has changed */
 static int has_changed(struct file *file) {
@@ -27,11 +24,9 @@ static int has_changed(struct file *file) {
 }
 
 void files_look(void) {
-    /* data that are seen before the counter is are our own as long as the counter is: who writes after us
-       changes that first */
+    /* data seen before the counter are our own as long as that is: who writes after us changes that first */
     int is_data_changed = has_changed(&data), is_counter_changed = has_changed(&counter);
-    if (is_counter_changed || (is_data_changed && !is_own))
-        files_are_changed = 1;
+    files_are_changed |= is_counter_changed || (is_data_changed && !is_own);
     is_own = 0;
 }
 
@@ -46,4 +41,14 @@ void files_watch(const char *new_data, const char *new_counter) {
     files_look();
     /* the database that was just opened is the one that stands there */
     files_are_others = 0;
+}
+
+char *files_unwritable(void) {
+    static char text[PATH_MAX + LONGEST_TEXT];
+    const char *path = access(data.path, W_OK) == 0 || errno == ENOENT ? counter.path : data.path;
+    if (access(path, W_OK) == 0 || errno == ENOENT)
+        return NULL;
+    const char *setting = errno == EROFS ? "; set ReadWritePaths of the unit" : "";
+    snprintf(text, sizeof text, "%s: %s%s", strerror(errno), path, setting);
+    return text;
 }

@@ -1,10 +1,6 @@
 /* The database of a Heimdal KDC, opened as `kadmin -l` does it. KRB5_CONFIG names the KDC's configuration. */
 #include "agent.h"
-#include <fcntl.h>
 #include <sys/file.h>
-#include <sys/socket.h>
-#include <sys/un.h>
-#include <time.h>
 /* each of these needs the ones before it */
 #include <krb5.h>
 #include <hdb.h>
@@ -73,11 +69,9 @@ char *database_message(long error) {
 static krb5_error_code take_found(krb5_context same, HDB *db, hdb_entry_ex *found, void *unused) {
     const krb5_principal_data *principal = found->entry.principal;
     char name[LONGEST_NAME + 1] = "";
-    for (unsigned i = 0; i < principal->name.name_string.len; i++) {
-        const char *part = principal->name.name_string.val[i];
-        if (!name_add(name, part, strlen(part)))
+    for (unsigned i = 0; i < principal->name.name_string.len; i++)
+        if (!name_add(name, principal->name.name_string.val[i], strlen(principal->name.name_string.val[i])))
             return 0;
-    }
     if (name[0] == '\0' || strcmp(principal->realm, realm) != 0)
         return 0;
     entry = &found->entry;
@@ -111,9 +105,8 @@ long database_take(const char *name, int is_to_be_written) {
     if (error != 0)
         return error;
     /* each writer locks the log */
-    error = is_to_be_written ? kadm5_log_init(server) : 0;
-    if (error == 0)
-        error = name != NULL ? take_named(name) : hdb_foreach(context, db, HDB_F_ADMIN_DATA, take_found, NULL);
+    error = (is_to_be_written ? kadm5_log_init(server) : 0)
+        ?: (name != NULL ? take_named(name) : hdb_foreach(context, db, HDB_F_ADMIN_DATA, take_found, NULL));
     if (is_to_be_written)
         kadm5_log_end(server);
     db->hdb_close(context, db);

@@ -4,9 +4,6 @@
 #include <pwd.h>
 #include <signal.h>
 #include <sys/prctl.h>
-#include <sys/socket.h>
-#include <sys/stat.h>
-#include <sys/un.h>
 
 #define LOOK_EVERY 200 /* milliseconds, at the database's files */
 
@@ -46,8 +43,7 @@ static void end_connection(const char *why) {
     output_wipe();
 }
 
-/* reads to the end of a line and answers it, unless the end is still to come; byte by byte, so that the next
-   line stays where it is until the answer was taken */
+/* answers a line once its end is there; reads byte by byte, so that the next one waits until that was taken */
 static void read_line(void) {
     ssize_t count;
     while ((count = recv(connection, &input[input_length], 1, MSG_DONTWAIT)) == 1 && input[input_length] != '\n')
@@ -73,8 +69,7 @@ static void read_line(void) {
 /* sends as far as the peer takes it */
 static void send_output(void) {
     ssize_t count = send(connection, output.bytes + output.sent, output.length - output.sent, MSG_DONTWAIT);
-    if (count > 0)
-        output.sent += (size_t)count;
+    output.sent += count > 0 ? (size_t)count : 0;
     if (output.sent == output.length)
         output_wipe();
     else if (count < 0 && errno != EAGAIN && errno != EINTR)
@@ -87,9 +82,6 @@ static void take_connection(uid_t user) {
     int file = accept4(listener, NULL, NULL, SOCK_CLOEXEC);
     if (file < 0)
         return;
-    /* one that its peer has ended makes room */
-    if (connection >= 0 && output.length == 0)
-        read_line();
     int is_users = getsockopt(file, SOL_SOCKET, SO_PEERCRED, &peer, &size) == 0 && peer.uid == user;
     if (!is_users || connection >= 0) {
         tell("a connection was closed: %s", is_users ? "there is one already" : "it is another user's");
@@ -98,14 +90,12 @@ static void take_connection(uid_t user) {
     }
     connection = file;
     /* what was written before isn't told */
-    files_look();
     files_are_changed = 0;
 }
 
 static void serve(uid_t user) {
     while (signals == 0 || (signals == 1 && output.length > 0)) {
-        short events = output.length > 0 ? POLLOUT : POLLIN;
-        struct pollfd files[] = {{listener, POLLIN, 0}, {connection, events, 0}};
+        struct pollfd files[] = {{listener, POLLIN, 0}, {connection, output.length > 0 ? POLLOUT : POLLIN, 0}};
         if (poll(files, 2, LOOK_EVERY) < 0)
             continue;
         files_look();
@@ -115,10 +105,10 @@ static void serve(uid_t user) {
         }
         if (files[1].revents != 0 && output.length == 0)
             read_line();
-        if (files[0].revents != 0)
-            take_connection(user);
         if (connection >= 0)
             send_output();
+        if (files[0].revents != 0)
+            take_connection(user);
     }
 }
 
@@ -126,6 +116,9 @@ static void serve(uid_t user) {
 static int listen_at(const char *path, uid_t user) {
     struct sockaddr_un address = {.sun_family = AF_UNIX};
     struct stat found;
+    /* no file that is opened from now on takes the place of standard error, into which lines go */
+    for (int file = 0; file >= 0 && file <= STDERR_FILENO;)
+        file = open("/dev/null", O_RDWR);
     errno = ENAMETOOLONG;
     if (strlen(path) >= sizeof address.sun_path)
         return 0;
@@ -174,14 +167,14 @@ int main(int count, char **words) {
         tell("%s: %s", path, strerror(errno));
         return 1;
     }
-    long error = database_open();
-    if (error != 0) {
-        tell("the database can't be opened: %s", database_message(error));
+    long error = database_open() ?: database_take("", 0); /* the name of no entry */
+    fault = error != 0 ? database_message(error) : files_unwritable();
+    if (fault != NULL)
+        tell("the database can't be %s: %s", error != 0 ? "opened" : "written", fault);
+    if (error != 0)
         database_close();
-    }
     tell("listening");
     serve(user->pw_uid);
     unlink(path);
-    database_close();
     return 0;
 }

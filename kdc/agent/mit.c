@@ -1,6 +1,5 @@
 /* The database of an MIT KDC, opened as kadmin.local does it. KRB5_KDC_PROFILE is that of the KDC. */
 #include "agent.h"
-#include <fcntl.h>
 #include <kadm5/admin.h>
 #include <kdb.h>
 
@@ -92,8 +91,7 @@ static krb5_error_code take_found(void *unused, krb5_db_entry *found) {
 static long take_named(const char *name) {
     char bytes[LONGEST_NAME], *end = bytes;
     krb5_data parts[MOST_COMPONENTS];
-    krb5_data in = {KV5M_DATA, (unsigned)strlen(realm), (char *)realm};
-    krb5_principal_data principal = {.realm = in, .data = parts};
+    krb5_principal_data principal = {.realm = {0, (unsigned)strlen(realm), (char *)realm}, .data = parts};
     for (size_t size; (size = name_next(&name, end)) > 0; end += size)
         parts[principal.length++] = (krb5_data){KV5M_DATA, (unsigned)size, end};
     krb5_db_entry *found;

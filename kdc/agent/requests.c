@@ -1,13 +1,12 @@
 /* Requests and their answers. */
 #include "agent.h"
-#include <inttypes.h>
 
 #define DIGITS "0123456789abcdef"
 #define MOST_ALSO 16
 
 /* the request that is answered */
 static struct {
-    enum { LIST, LIST_KEYS, GET, PUT } verb;
+    enum { LIST, LIST_KEYS, GET, PUT, WRITTEN } verb; /* the last is a PUT whose entry was written */
     const char *name; /* as the line has it, NULL for the lists */
     uint32_t kvno;
     key_pair keys;
@@ -73,8 +72,7 @@ void hold_key(struct held *held, int type, const void *bytes, size_t size) {
         }
 }
 
-/* first components of names that are never written, and never told the keys of: the KDC lives by them, or its
-   servers and programs do */
+/* first components of names that are never written or told the keys of: the KDC or its servers live by them */
 static const char *const reserved[] = {"krbtgt", "kadmin", "K",        "WELLKNOWN", "kiprop",
                                        "iprop",  "hprop",  "changepw", "default"};
 /* names of more than one component that may be written all the same */
@@ -157,19 +155,18 @@ static int read_request(char *line) {
 
 static void say_keys(const char *name, const struct held *held) {
     say("has %s %" PRIu32, name, held->kvno);
-    for (int which = 0; which < 2; which++) {
-        say(" ");
+    for (int which = 0; which < 2; which++)
         for (size_t i = 0; i < key_sizes[which]; i++)
-            say("%02x", held->keys[which][i]);
-    }
+            say(i == 0 ? " %02x" : "%02x", held->keys[which][i]);
     say("\n");
 }
 
 /* writes the version that was asked for, if the database's is lower, or else the one after the database's;
    nothing where there are just these keys under just this version already */
 static long put(const char *reason, const struct held *held) {
+    static int is_doubtful; /* whether a write has failed: replicas may lack what the database has */
     uint64_t kvno = held->kvno < request.kvno ? request.kvno : (uint64_t)held->kvno + 1;
-    int is_done = held->kvno == request.kvno && held->has[0] && held->has[1] &&
+    int is_done = held->kvno == request.kvno && held->has[0] && held->has[1] && !is_doubtful &&
                   memcmp(held->keys, request.keys, sizeof held->keys) == 0;
     if (reason != NULL || (!is_done && kvno > highest_kvno)) {
         say("refused %s %s\n", request.name, reason ?: "version");
@@ -180,8 +177,11 @@ static long put(const char *reason, const struct held *held) {
         return 0;
     /* what is seen after the write is taken for our own */
     files_look();
-    long error = database_write(request.keys, (uint32_t)kvno);
+    request.kvno = (uint32_t)kvno;
+    long error = database_write(request.keys, request.kvno);
     files_written();
+    is_doubtful |= error != 0;
+    request.verb = error == 0 ? WRITTEN : PUT;
     return error;
 }
 
@@ -199,6 +199,8 @@ long take_entry(const char *name) {
         say("has %s %" PRIu32 "\n", name, held.kvno);
     else if (request.verb == PUT)
         error = error ?: put(reason, &held);
+    else if (request.verb == WRITTEN)
+        error = error ?: held.kvno < request.kvno ? EIO : 0;
     else if (reason == NULL && held.has[0] && held.has[1])
         say_keys(name, &held);
     else
@@ -210,6 +212,7 @@ long take_entry(const char *name) {
 
 /* says that it failed, in place of what was said before; in words set apart by one space */
 static void say_failed(char *text) {
+    text[strnlen(text, LONGEST_TEXT - 1)] = '\0';
     for (char *at = text; *at != '\0'; at++)
         if (*at < ' ' || *at > '~')
             *at = ' ';
@@ -222,12 +225,14 @@ static void say_failed(char *text) {
 
 static void do_request(void) {
     char no_memory[] = "no memory";
-    files_look();
     long error = memory_is_there() ? database_open() : ENOMEM;
     error = error ?: database_take(request.name, request.verb == PUT);
     files_look();
+    /* MIT's library doesn't say that the disk was full, or failed */
+    error = error ?: request.verb == WRITTEN ? database_take(request.name, 0) : 0;
     if (error != 0) {
-        say_failed(error == ENOMEM ? no_memory : database_message(error));
+        char *text = request.verb == PUT ? files_unwritable() : NULL;
+        say_failed(error == ENOMEM ? no_memory : text ?: database_message(error));
         database_close();
     } else if (request.name == NULL) {
         say("end %zu\n", request.count);
