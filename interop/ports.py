@@ -19,12 +19,17 @@ def free_ports(count):
         return ports
 
 
+def is_heard(port, address="127.0.0.1"):
+    """Whether somebody listens."""
+    with socket.socket() as probe:
+        return probe.connect_ex((address, port)) == 0
+
+
 def is_open(port, process, address="127.0.0.1"):
     """Whether somebody listens within ten seconds, before the process ends."""
     for _ in range(200):
-        with socket.socket() as probe:
-            if probe.connect_ex((address, port)) == 0:
-                return True
+        if is_heard(port, address):
+            return True
         if process.poll() is not None:
             return False
         time.sleep(0.05)

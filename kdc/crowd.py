@@ -25,11 +25,12 @@ SILENCE = 60
 
 
 class User:
-    """`asked` are the passwords that were, one after the other; each is asked for until it is known to be made."""
+    """`asked` are the passwords that were, one after the other; each is asked for until it is known to be made. `begun` are the
+    moments at which each was asked for first, and `answered` those of them of which a reply said that they are made."""
 
     def __init__(self, name):
         self.name = name
-        self.asked = []
+        self.asked, self.begun, self.answered = [], [], []
         # whether the last one's reply was lost
         self.is_lost = False
         self.not_before = 0.0
@@ -96,6 +97,7 @@ class Crowd:
     def begin(self, user):
         password = user.asked[-1] if user.is_lost else f"{user.name}-Pass{len(user.asked)}"
         self.cusec += 1
+        begun = time.monotonic()
         request = request_now(user.name, password, self.cusec, self.ahead)
         try:
             connection = socket.create_connection(("127.0.0.1", self.port), 5)
@@ -105,6 +107,7 @@ class Crowd:
             return
         if not user.is_lost:
             user.asked.append(password)
+            user.begun.append(begun)
             self.left -= 1
         user.change = Change(user, request, connection)
         self.selector.register(connection, selectors.EVENT_READ, user.change)
@@ -154,8 +157,10 @@ class Crowd:
             user.is_lost, user.not_before = True, time.monotonic() + AGAIN
             return
         told = said(change.request, change.reply[4:])
-        if told == DONE and change.recorded is not None:
-            self.held.append(change.answered - change.recorded)
+        if told == DONE:
+            user.answered.append(user.asked[-1])
+            if change.recorded is not None:
+                self.held.append(change.answered - change.recorded)
         if told.startswith(QUIET):
             user.is_lost, user.not_before = True, time.monotonic() + AGAIN
             return

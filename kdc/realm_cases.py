@@ -10,6 +10,7 @@ import time
 import configuration
 from agent_case import FIRST
 from agent_database import database_of
+from agent_process import without_rights
 from cases import Cases
 from daemons import comes
 from realms import DONE, kdc_away
@@ -24,6 +25,7 @@ MANY = 12
 # seconds in which both sides were compared, which nothing shows where nothing comes of it
 COMPARED = 2
 CHANGED = "code 0 password changed"
+UNWRITABLE = "Permission denied: "
 
 
 class RealmCases(Cases):
@@ -40,11 +42,16 @@ class RealmCases(Cases):
             self.served.configure(self.head() + self.own_names())
             self.served.start()
             self.realm.point_clients_at(self.served.server.port)
-            for case in (self.taken, self.added, self.changed, self.expired, self.renamed, self.removed, self.both,
-                         self.dumped, self.locked, self.killed, self.without_kdc, self.many):
+            for case in self.cases():
                 print(f"- {case.__name__}", flush=True)
                 case()
             self.told()
+
+    def cases(self):
+        return [
+            self.taken, self.added, self.changed, self.expired, self.renamed, self.removed, self.both, self.dumped, self.locked,
+            self.unwritable, self.killed, self.without_kdc, self.many,
+        ]
 
     def head(self):
         """A configuration without principals."""
@@ -172,15 +179,31 @@ class RealmCases(Cases):
         self.tell("  and free again: in step", self.served.is_in_step())
         self.tell("  a ticket by the new password", self.realm.kinit(name, "Locked-pass1"))
 
+    def unwritable(self):
+        """The database's files are such as the agent may only read, and then no more."""
+        name, files = self.first[1], self.kdc.files()
+        self.served.end_agent()
+        for file in files:
+            file.chmod(0o400)
+        self.served.begin_agent(before=without_rights)
+        found = self.by_service(name, "Unwritable-pass1")
+        self.tell("the agent may not write: a change, lines in the log", found, (CHANGED, 1))
+        self.tell("  how many the KDC is behind", self.served.status().get("kdc-behind"), "1")
+        self.tell("  the agent's line", self.served.agent.told(f"the database can't be written: {UNWRITABLE}"), 1)
+        for file in files:
+            file.chmod(0o600)
+        self.tell("  it may again: in step", self.served.is_in_step())
+        self.tell("  a ticket by the new password", self.realm.kinit(name, "Unwritable-pass1"))
+
     def killed(self):
         """The agent by kill -9; whoever changes meanwhile has the new password once there is another one."""
         name = self.first[1]
         self.served.end_agent(signal.SIGKILL)
         self.tell("the agent is killed: status says so", comes(lambda: self.served.kdc() == "down", 1))
-        self.tell("  a change", self.realm.kpasswd(name, "Locked-pass1", "Killed-pass1", None), DONE)
+        self.tell("  a change", self.realm.kpasswd(name, "Unwritable-pass1", "Killed-pass1", None), DONE)
         self.served.begin_agent()
         self.tell("  the next one: in step", self.served.is_in_step())
-        found = self.realm.kinit(name, "Killed-pass1"), self.realm.kinit(name, "Locked-pass1")
+        found = self.realm.kinit(name, "Killed-pass1"), self.realm.kinit(name, "Unwritable-pass1")
         self.tell("  the new password, the former one", found, (True, False))
 
     def without_kdc(self):
@@ -216,5 +239,7 @@ class RealmCases(Cases):
         lines = [line.removeprefix(f"{self.served.socket}: ") for line in self.served.ended()]
         lacks = [line for line in lines if line.startswith("the KDC lacks ")]
         self.tell("told: that many are gone, once", len(lacks), 1)
+        failed = [line for line in lines if line.startswith(f"the KDC's database can't be had: {UNWRITABLE}")]
+        self.tell("  that it may not be written, once", len(failed), 1)
         self.tell("  of changes that the KDC didn't have yet", TOLD in lines)
         self.tell("  of a fault", [line for line in lines if "said what it may not" in line or "lost" in line], [])

@@ -17,8 +17,10 @@ A realm has `folder`, `passwords`, `keytab()`, `kvno(name)`; and
 
 import calendar
 import contextlib
+import os
 import pathlib
 import re
+import signal
 import subprocess
 import sys
 import time
@@ -28,7 +30,9 @@ sys.path.insert(0, str(HERE.parent / "interop"))
 
 import agent_process
 import configuration
+from daemons import comes
 from heimdal_realm import HeimdalRealm, escaped
+from ports import is_heard
 from realm import SERVICE, Realm
 
 FIRST = "Old-pass1"
@@ -63,14 +67,16 @@ def holding(command, environment, log):
 
 
 @contextlib.contextmanager
-def kdc_away(realm):
-    """The KDC has ended, and another one is started afterwards."""
+def kdc_away(realm, number=signal.SIGTERM):
+    """The KDC has ended by this signal, with the processes that it has made, and another one is started afterwards."""
     process = realm.processes.pop(0)
-    process.terminate()
-    process.wait()
+    os.killpg(process.pid, number)
+    status = process.wait()
     try:
-        yield
+        yield status
     finally:
+        # nobody waits for those processes, and one that listens still would keep the next KDC from its port
+        comes(lambda: not is_heard(realm.kdc_port))
         realm.start_kdc()
 
 

@@ -13,8 +13,9 @@ def crates():
     return sum(1 for it in CRATES.iterdir() if it.is_dir())
 
 
-def edits(folder, crate="*"):
-    return len(list((TOP / folder).glob(f"{crate}/*.edit"))) - (len(list((TOP / folder).glob("self_test/*.edit"))))
+def edits(folder):
+    """Those of crates: the agents aren't one."""
+    return sum(1 for it in (TOP / folder).glob("*/*.edit") if it.parent.name not in ("self_test", "agent"))
 
 
 def must_fail():
@@ -35,6 +36,11 @@ def caught_by_scripts():
     """Those of them that name a script of hostile/."""
     found = (it.read_text().splitlines()[0] for it in (TOP / "trials").glob("*/tests/*.edit"))
     return sum(1 for it in found if it.startswith("test: hostile/"))
+
+
+def of_agents():
+    """The wrong bodies of the agents in C."""
+    return len(list((TOP / "trials/agent").glob("*.edit")))
 
 
 def tests(crate):
@@ -113,6 +119,7 @@ TABLE = [
     ("docs/TESTS.md", r"`trials/` has (?P<n>\d+)", of(refused)),
     ("docs/TESTS.md", r"(?P<n>\d+) wrong bodies that no clause", of(caught)),
     ("docs/TESTS.md", r"(?P<n>\d+) of them name a script of `hostile/`", of(caught_by_scripts)),
+    ("docs/TESTS.md", r"(?P<n>\d+) wrong bodies of the agents", of(of_agents)),
     ("docs/TESTS.md", r"(?P<n>\d+) scripts of the drill", of(samples)),
     ("CONTRIBUTING.md", r"(?P<n>\d+) crates", of(crates)),
     ("trials/README.md", r"`must-fail/CRATE/` has (?P<n>\d+) ", of(must_fail)),
