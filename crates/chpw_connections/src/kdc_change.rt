@@ -9,6 +9,6 @@ pub enum KdcChange {
     Nothing,
     /// This principal has this key now.
     Key(Change),
-    /// A change was made, and memory ran out for what it is.
+    /// A change was made, and its key is not to be had: memory ran out, or the table holds it no more.
     Lost,
 }

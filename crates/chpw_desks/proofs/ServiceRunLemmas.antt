@@ -23,7 +23,7 @@ use Rattle.chpw_invocation.specs.declared.invocation.ServeOptions.{ServeOptions}
 use Rattle.chpw_control.specs.TakenOrders.{command_in}
 use Rattle.chpw_desks.proofs.OrderLemmas.{reload_by}
 use Rattle.chpw_desks.specs.Following.{DoesWhatIsDue, TakesRules}
-use Rattle.chpw_book.specs.Newest.{IsHeldAfter}
+use Rattle.chpw_book.specs.Newest.{AreHeldAfter}
 use Rattle.chpw_desks.specs.Orders.{IsDueBy}
 use Rattle.chpw_orders.specs.Rereading.{IsReadAnew}
 use Rattle.chpw_desks.specs.ServiceRuns.{Between, DeskRun, GoesOnBy, IsNextDesk, IsReloadBy, IsRun, IsServed, RunsAreServiceRuns}
@@ -91,12 +91,12 @@ module _ {R L : Type 0} (has_kdc : Bool) where
   pub served_at : (rules : Rules) (opening : Held) (count : ℕ) (passes : List PassView) (before after : List (ServiceWorker R L))
       (history : List Entry) (left : Held) (prior : List ℕ) → AreInOrder count passes
       → ServedDesk gives_moment gives_word seat_turns (error_frame rules.service.realm) private_frame
-      (OpensUnder rules.service.accepts rules.service.realm rules.service.keys) (IsHeldAfter opening.state) has_kdc
+      (OpensUnder rules.service.accepts rules.service.realm rules.service.keys) (AreHeldAfter opening.state) has_kdc
       opening.state count passes before after history left prior None
       → IsServed has_kdc rules opening passes before after history left
   served_at rules opening count passes before after history left prior order served =
       subst (λ (n : ℕ). ServedDesk gives_moment gives_word seat_turns (error_frame rules.service.realm) private_frame
-      (OpensUnder rules.service.accepts rules.service.realm rules.service.keys) (IsHeldAfter opening.state) has_kdc
+      (OpensUnder rules.service.accepts rules.service.realm rules.service.keys) (AreHeldAfter opening.state) has_kdc
       opening.state n passes before after history left [] None)
       (sym (in_order_length count passes order)) (record {
         legal = served.legal;
@@ -118,7 +118,7 @@ module _ {R L : Type 0} (has_kdc : Bool) where
       (history : List Entry) (left : Held) → IsServed has_kdc rules opening passes before after history left → length after ≡ length before
   as_many rules opening passes before after history left served =
       served_count gives_moment gives_word seat_turns (error_frame rules.service.realm) private_frame
-      (OpensUnder rules.service.accepts rules.service.realm rules.service.keys) (IsHeldAfter opening.state) has_kdc
+      (OpensUnder rules.service.accepts rules.service.realm rules.service.keys) (AreHeldAfter opening.state) has_kdc
       0 passes before after history left served.each
 
   module _ (options : ServeOptions) where

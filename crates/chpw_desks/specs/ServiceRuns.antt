@@ -18,7 +18,7 @@ use Rattle.chpw_reload.specs.Reloads.{IsReload}
 use Rattle.chpw_reload.specs.ReloadRuns.{IsServiceRun}
 use Rattle.chpw_invocation.specs.declared.invocation.ServeOptions.{ServeOptions}
 use Rattle.chpw_desks.specs.Following.{reopened}
-use Rattle.chpw_book.specs.Newest.{IsHeldAfter}
+use Rattle.chpw_book.specs.Newest.{AreHeldAfter}
 use Rattle.chpw_start.specs.Rules.{AreRulesOf}
 use Rattle.chpw_desks.specs.Staff.{ServiceWorker}
 use Rattle.chpw_start.specs.declared.rules.Rules.{Rules}
@@ -34,7 +34,7 @@ abbrev pub IsServed : {R L : Type 0} → Bool → Rules → Held → List PassVi
     → List (ServiceWorker R L) → List Entry → Held → Type 0
 IsServed has_kdc rules opening passes before after history left =
     ServedDesk gives_moment gives_word seat_turns (error_frame rules.service.realm) private_frame
-    (OpensUnder rules.service.accepts rules.service.realm rules.service.keys) (IsHeldAfter opening.state) has_kdc
+    (OpensUnder rules.service.accepts rules.service.realm rules.service.keys) (AreHeldAfter opening.state) has_kdc
     opening.state (length passes) passes before after history left [] None
 
 -- a reload of the table that was left, with the configuration that the rules' text sets and some records of the journal; and

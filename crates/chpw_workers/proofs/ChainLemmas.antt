@@ -3,6 +3,7 @@ use Rattle.std.proofs.Common.{◌≡◌, ℕ, List, [], ◌∷◌, ◌++◌, len
 use Rattle.std.specs.Prelude.{MatchOption}
 use Rattle.chpw_rules.specs.declared.name.Name.{Name}
 use Rattle.chpw_record.specs.declared.key.KeyRow.{KeyRow}
+use Rattle.chpw_table.specs.declared.digest.Digest.{Digest}
 use Rattle.chpw_table.specs.declared.times.Moment.{Moment}
 use Rattle.chpw_table.specs.declared.history.Receipt.{Receipt}
 use Rattle.chpw_table.specs.Replies.{Answer}
@@ -17,25 +18,26 @@ use Rattle.chpw_connections.specs.declared.taking.TakenMessage.{TakenMessage}
 use Rattle.chpw_table.specs.Updates.{name_in}
 use Rattle.chpw_workers.specs.declared.inbox.WorkerTurn.{WorkerTurn}
 use Rattle.chpw_workers.specs.declared.inbox.WorkerTurn.TheVariants as turn
-use Rattle.chpw_workers.specs.Replies.{IsChangeOf, IsKdcChange, name_changed_after}
+use Rattle.chpw_workers.specs.Replies.{IsChangeOf, IsKdcChange, change_made_after}
 use Rattle.chpw_workers.specs.Turns.{At, Comes, IsTurn, AreTurns}
 use Rattle.chpw_workers.specs.Undecided.{OpensUndecided}
 
 -- what a change left to be put into the KDC's database, if what might be held before may be held still
-pub change_lifts : (holds later : Name → Option KeyRow → Type 0) → ((name : Name) (key : Option KeyRow) → holds name key → later name key)
+pub change_lifts : (holds later : Name → Option (List KeyRow) → Type 0)
+    → ((name : Name) (keys : Option (List KeyRow)) → holds name keys → later name keys)
     → (has_kdc : Bool) (before : ℕ) (receipts : List Receipt) (left : KdcChange)
     → IsKdcChange holds has_kdc before receipts left → IsKdcChange later has_kdc before receipts left
-change_lifts holds later f has_kdc before receipts left h = at (if has_kdc then name_changed_after before receipts else None) left h
+change_lifts holds later f has_kdc before receipts left h = at (if has_kdc then change_made_after before receipts else None) left h
   where
-    of : (name : Name) (left : KdcChange) → IsChangeOf holds name left → IsChangeOf later name left
-    of name change.Nothing h = f name None h
-    of name (change.Key c) h = (h.0, f name (Some c.key) h.1)
-    of name change.Lost h = h
+    of : (made : Name × Digest) (left : KdcChange) → IsChangeOf holds made left → IsChangeOf later made left
+    of made change.Nothing h = h
+    of made (change.Key c) h = (h.0, (h.1.0, f made.0 h.1.0 h.1.1, h.1.2))
+    of made change.Lost h = h
 
-    at : (name : Option Name) (left : KdcChange) → MatchOption name (left ≡ change.Nothing) (λ n. IsChangeOf holds n left)
-        → MatchOption name (left ≡ change.Nothing) (λ n. IsChangeOf later n left)
+    at : (made : Option (Name × Digest)) (left : KdcChange) → MatchOption made (left ≡ change.Nothing) (λ m. IsChangeOf holds m left)
+        → MatchOption made (left ≡ change.Nothing) (λ m. IsChangeOf later m left)
     at None left h = h
-    at (Some name) left h = of name left h
+    at (Some made) left h = of made left h
 
 module _ {C X : Type 0} (moments : C → Moment → C → Type 0) (random : X → ℕ → X → Type 0)
     (error_frame : Answer → Moment → List ℕ) (private_frame : Seal → Answer → List ℕ → List ℕ) (opens : List ℕ → List ℕ → Opens → Type 0)
@@ -73,14 +75,14 @@ module _ {C X : Type 0} (moments : C → Moment → C → Type 0) (random : X �
 module _ {C X : Type 0} (moments : C → Moment → C → Type 0) (random : X → ℕ → X → Type 0)
     (error_frame : Answer → Moment → List ℕ) (private_frame : Seal → Answer → List ℕ → List ℕ) (opens : List ℕ → List ℕ → Opens → Type 0)
   where
-    abbrev One : (List Receipt → Type 0) → (Name → Option KeyRow → Type 0) → Bool → At C X → WorkerTurn → At C X → Type 0
+    abbrev One : (List Receipt → Type 0) → (Name → Option (List KeyRow) → Type 0) → Bool → At C X → WorkerTurn → At C X → Type 0
     One full holds has_kdc = IsTurn moments random error_frame private_frame opens full holds has_kdc
 
-    abbrev All : (List Receipt → Type 0) → (Name → Option KeyRow → Type 0) → Bool → At C X → List WorkerTurn → At C X → Type 0
+    abbrev All : (List Receipt → Type 0) → (Name → Option (List KeyRow) → Type 0) → Bool → At C X → List WorkerTurn → At C X → Type 0
     All full holds has_kdc = AreTurns moments random error_frame private_frame opens full holds has_kdc
 
     pub turn_lifts : (full more : List Receipt → Type 0) → ((rs : List Receipt) → full rs → more rs)
-        → (holds later : Name → Option KeyRow → Type 0) → ((name : Name) (key : Option KeyRow) → holds name key → later name key)
+        → (holds later : Name → Option (List KeyRow) → Type 0) → ((name : Name) (keys : Option (List KeyRow)) → holds name keys → later name keys)
         → (has_kdc : Bool) (old : At C X) (t : WorkerTurn) (new : At C X) → One full holds has_kdc old t new → One more later has_kdc old t new
     turn_lifts full more f holds later g has_kdc old (turn.Message t) new h = record {
       comes = comes_lifts moments random error_frame private_frame opens full more f t.taken t.reply old new h.comes;
@@ -98,19 +100,19 @@ module _ {C X : Type 0} (moments : C → Moment → C → Type 0) (random : X �
       moment_is = h.moment_is;
       words = h.words;
       entry = h.entry;
-      newest = g (name_in t.update) t.newest h.newest;
+      newest = (h.newest.0, g (name_in t.update) h.newest.0 h.newest.1, h.newest.2);
     }
 
     -- what may have been full may be so still, and what may have been held
     pub turns_lift : (full more : List Receipt → Type 0) → ((rs : List Receipt) → full rs → more rs)
-        → (holds later : Name → Option KeyRow → Type 0) → ((name : Name) (key : Option KeyRow) → holds name key → later name key)
+        → (holds later : Name → Option (List KeyRow) → Type 0) → ((name : Name) (keys : Option (List KeyRow)) → holds name keys → later name keys)
         → (has_kdc : Bool) (old : At C X) (ts : List WorkerTurn) (new : At C X) → All full holds has_kdc old ts new → All more later has_kdc old ts new
     turns_lift full more f holds later g has_kdc old [] new h = h
     turns_lift full more f holds later g has_kdc old (t ∷ ts) new h =
         (h.0, turn_lifts full more f holds later g has_kdc old t h.0 h.1, turns_lift full more f holds later g has_kdc h.0 ts new h.2)
 
     -- one turn more
-    pub turns_more : (full : List Receipt → Type 0) (holds : Name → Option KeyRow → Type 0) (has_kdc : Bool) (old : At C X) (ts : List
+    pub turns_more : (full : List Receipt → Type 0) (holds : Name → Option (List KeyRow) → Type 0) (has_kdc : Bool) (old : At C X) (ts : List
         WorkerTurn) (mid : At C X)
         (t : WorkerTurn) (new : At C X) → All full holds has_kdc old ts mid → One full holds has_kdc mid t new → All full holds has_kdc old (ts ++ t ∷ []) new
     turns_more full holds has_kdc old ts mid t new h g = drawn_on (One full holds has_kdc) old ts mid t new h g

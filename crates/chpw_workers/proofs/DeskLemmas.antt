@@ -61,7 +61,7 @@ if_given_back (Err e) passes_of qs P h back = subst (P e) (sym back) h
 
 module _ {I G C X : Type 0} (moments : C → Moment → C → Type 0) (random : X → ℕ → X → Type 0) (turns_at : I → List WorkerTurn)
     (error_frame : Answer → Moment → List ℕ) (private_frame : Seal → Answer → List ℕ → List ℕ)
-    (opens : List ℕ → List ℕ → Opens → Type 0) (holds : Name → Option KeyRow → Type 0) (has_kdc : Bool) (workers : ℕ) where
+    (opens : List ℕ → List ℕ → Opens → Type 0) (holds : Name → Option (List KeyRow) → Type 0) (has_kdc : Bool) (workers : ℕ) where
   abbrev One : PassView → Worker I G C X → PassView → Worker I G C X → Type 0
   One = IsShift moments random turns_at error_frame private_frame opens holds has_kdc
 

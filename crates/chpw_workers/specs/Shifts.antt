@@ -14,7 +14,7 @@ use Rattle.chpw_workers.specs.Turns.{At, at, AreTurns}
 
 module _ {I G C X : Type 0} (moments : C → Moment → C → Type 0) (random : X → ℕ → X → Type 0) (turns_at : I → List WorkerTurn)
     (error_frame : Answer → Moment → List ℕ) (private_frame : Seal → Answer → List ℕ → List ℕ)
-    (opens : List ℕ → List ℕ → Opens → Type 0) (holds : Name → Option KeyRow → Type 0) (has_kdc : Bool) where
+    (opens : List ℕ → List ℕ → Opens → Type 0) (holds : Name → Option (List KeyRow) → Type 0) (has_kdc : Bool) where
   -- where a worker is, with these receipts
   abbrev pub at_worker : List Receipt → Worker I G C X → At C X
   at_worker receipts w = at receipts w.clock w.words

@@ -12,6 +12,7 @@ use Rattle.chpw_table.specs.Updates.{name_in}
 use Rattle.chpw_record.specs.declared.key.KeyRow.{KeyRow}
 use Rattle.chpw_rules.specs.declared.name.Name.{Name}
 use Rattle.chpw_decider.specs.Deciding.{AddsEvent, AddsReceipt}
+use Rattle.chpw_book.specs.Newest.{IsNewestHeld}
 use Rattle.chpw_serve.specs.declared.messages.Seal.{Seal}
 use Rattle.chpw_serve.specs.Requests.{Request, Opens, opened, opened_under}
 use Rattle.chpw_serve.specs.Answers.{IsAnswer}
@@ -46,7 +47,7 @@ pub record AddsEntry (opens : List ℕ → List ℕ → Opens → Type 0) (taken
   pub opens_so : opens (peer_of taken) text (opened request)
   pub adds : AddsReceipt old new moment (opened_under counts request) verdict
 
-module _ {C X : Type 0} (moments : C → Moment → C → Type 0) (holds : Name → Option KeyRow → Type 0) where
+module _ {C X : Type 0} (moments : C → Moment → C → Type 0) (holds : Name → Option (List KeyRow) → Type 0) where
   -- What the KDC says was decided at the moment that was drawn, by the entry that was added; or it was refused, and there is
   -- none. What the turn tells of its name's newest key was held.
   pub record IsUpdated (t : UpdateTurn) (old new : At C X) : Type 0 where
@@ -54,7 +55,7 @@ module _ {C X : Type 0} (moments : C → Moment → C → Type 0) (holds : Name 
     pub moment_is : moments old.clock moment new.clock
     pub words : new.words ≡ old.words
     pub entry : MatchResult t.outcome (λ v. AddsEvent old.receipts new.receipts moment (Update t.update v)) (λ fault. new.receipts ≡ old.receipts)
-    pub newest : holds (name_in t.update) t.newest
+    pub newest : IsNewestHeld holds (name_in t.update) t.newest
 
 -- who hears of the worker's updates heard of this one if it was decided
 abbrev pub IsToldTo : {G : Type 0} → (G → Moment → KdcUpdate → UpdateVerdict → G → Type 0) → G → UpdateTurn → G → Type 0
@@ -103,19 +104,19 @@ module _ {C X : Type 0} (moments : C → Moment → C → Type 0) (random : X �
     Comes taken its_reply old new = IsAnswered taken its_reply old new ⊎ (IsTooLong taken its_reply old new ⊎ IsUnanswered taken its_reply old new)
 
     -- a message's turn, and what it leaves to be put into the KDC's database
-    pub record IsMessageTurn (holds : Name → Option KeyRow → Type 0) (has_kdc : Bool) (t : Turn) (old new : At C X) : Type 0 where
+    pub record IsMessageTurn (holds : Name → Option (List KeyRow) → Type 0) (has_kdc : Bool) (t : Turn) (old new : At C X) : Type 0 where
       pub comes : Comes t.taken t.reply old new
       pub change : IsKdcChange holds has_kdc (length old.receipts) new.receipts t.change
 
   module _ (error_frame : Answer → Moment → List ℕ) (private_frame : Seal → Answer → List ℕ → List ℕ)
       (opens : List ℕ → List ℕ → Opens → Type 0) (full : List Receipt → Type 0) where
     -- in a turn whose message isn't decided there is no entry
-    abbrev pub IsTurn : (Name → Option KeyRow → Type 0) → Bool → At C X → WorkerTurn → At C X → Type 0
+    abbrev pub IsTurn : (Name → Option (List KeyRow) → Type 0) → Bool → At C X → WorkerTurn → At C X → Type 0
     IsTurn holds has_kdc old (turn.Message t) new = IsMessageTurn error_frame private_frame opens full holds has_kdc t old new
     IsTurn holds has_kdc old (turn.Undecided t) new =
         IsMessageTurn error_frame private_frame (OpensUndecided opens) full holds has_kdc t old new × (new.receipts ≡ old.receipts)
     IsTurn holds has_kdc old (turn.Update t) new = IsUpdated moments holds t old new
 
     -- one turn after the other
-    abbrev pub AreTurns : (Name → Option KeyRow → Type 0) → Bool → At C X → List WorkerTurn → At C X → Type 0
+    abbrev pub AreTurns : (Name → Option (List KeyRow) → Type 0) → Bool → At C X → List WorkerTurn → At C X → Type 0
     AreTurns holds has_kdc old turns new = InTurn (IsTurn holds has_kdc) old turns new

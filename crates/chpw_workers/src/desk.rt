@@ -1,7 +1,7 @@
 //! A desk that workers serve, from its start to its close.
 ghost use Rattle.std.specs.Prelude.{◌≡◌, IfOk, IfErr};
 ghost use Rattle.chpw_changelog.specs.Pens.{opening_state};
-ghost use Rattle.chpw_book.specs.Newest.{IsHeldAfter};
+ghost use Rattle.chpw_book.specs.Newest.{AreHeldAfter};
 ghost use Rattle.chpw_book.specs.Closing.{is_full, IsRefusal};
 ghost use Rattle.chpw_book.specs.Recorded.{IsLinearized};
 ghost use Rattle.chpw_workers.specs.Desks.{AreInOrder, ServedDesk};
@@ -46,13 +46,13 @@ pub fn serve_desk<
 ) -> (AfterDesk<D, S, I, G, C, X>, Result<W::Done, NotStarted>)
     requires passes { AreInOrder D.workers staff.passes.items }
     ensures served { IfOk result.0.closed (λ c. ServedDesk C.gives X.gives I.turns (M.error_frame context.now.service.now)
-        (M.private_frame context.now.service.now) (M.opens context.now.service.now) (IsHeldAfter (opening_state D.root)) context.now.has_kdc
+        (M.private_frame context.now.service.now) (M.opens context.now.service.now) (AreHeldAfter (opening_state D.root)) context.now.has_kdc
         (opening_state D.root) D.workers staff.passes.items staff.workers.items result.0.workers.items
         c.history.items c.table D.prior (S.told c.sink)) }
     ensures refusal { IfErr result.0.closed (λ r. (b : _) × IsLinearized (opening_state D.root) D.workers D.prior b
         × IsRefusal b.history (is_full b.table) D.workers r.passes.items r.fault) }
     ensures turns { IfErr result.0.closed (λ r. AreShifts C.gives X.gives I.turns (M.error_frame context.now.service.now)
-        (M.private_frame context.now.service.now) (M.opens context.now.service.now) (IsHeldAfter (opening_state D.root)) context.now.has_kdc
+        (M.private_frame context.now.service.now) (M.opens context.now.service.now) (AreHeldAfter (opening_state D.root)) context.now.has_kdc
         staff.passes.items staff.workers.items r.passes.items result.0.workers.items) }
     ensures done { IfOk result.1 (W.gives meanwhile) }
 {
@@ -81,7 +81,7 @@ pub fn close_desk<
 ) -> AfterDesk<D, S, I, G, C, X>
     requires passes { AreInOrder D.workers staff.passes.items }
     ensures served { IfOk result.closed (λ c. ServedDesk C.gives X.gives I.turns (M.error_frame context.now.service.now)
-        (M.private_frame context.now.service.now) (M.opens context.now.service.now) (IsHeldAfter (opening_state D.root)) context.now.has_kdc
+        (M.private_frame context.now.service.now) (M.opens context.now.service.now) (AreHeldAfter (opening_state D.root)) context.now.has_kdc
         (opening_state D.root) D.workers staff.passes.items staff.workers.items result.workers.items
         c.history.items c.table D.prior (S.told c.sink)) }
     ensures refusal { IfErr result.closed (λ r. (b : _) × IsLinearized (opening_state D.root) D.workers D.prior b

@@ -1,7 +1,7 @@
 //! The workers of a service at a desk, each in a thread of its own.
 ghost use Rattle.std.specs.Prelude.{◌≡◌, ◌≤◌, ◌<◌, ◌++◌, ◌∷◌, [], length, vec_len, vec_capacity, IfOk, IfErr, ⊤};
 ghost use Rattle.chpw_changelog.specs.Pens.{opening_state};
-ghost use Rattle.chpw_book.specs.Newest.{IsHeldAfter};
+ghost use Rattle.chpw_book.specs.Newest.{AreHeldAfter};
 ghost use Rattle.chpw_workers.specs.Shifts.{AreShifts, IsShift};
 
 use crate::context::Context;
@@ -76,7 +76,7 @@ pub fn run_shift<
     meanwhile: W,
 ) -> Shift<D, I, G, C, X, W::Done>
     ensures shifts { AreShifts C.gives X.gives I.turns (M.error_frame context.now.service.now) (M.private_frame context.now.service.now)
-        (M.opens context.now.service.now) (IsHeldAfter (opening_state D.root)) context.now.has_kdc
+        (M.opens context.now.service.now) (AreHeldAfter (opening_state D.root)) context.now.has_kdc
         staff.passes.items staff.workers.items result.staff.passes.items result.staff.workers.items }
     ensures done { IfOk result.done (W.gives meanwhile) }
 {
@@ -85,7 +85,7 @@ pub fn run_shift<
         rt,
         move |scope| -> Shift<D, I, G, C, X, W::Done>
             ensures { AreShifts C.gives X.gives I.turns (M.error_frame context.entry.now.service.now)
-                (M.private_frame context.entry.now.service.now) (M.opens context.entry.now.service.now) (IsHeldAfter (opening_state D.root))
+                (M.private_frame context.entry.now.service.now) (M.opens context.entry.now.service.now) (AreHeldAfter (opening_state D.root))
                 context.entry.now.has_kdc
                 staff.passes.items staff.workers.items result.staff.passes.items result.staff.workers.items
                 × IfOk result.done (W.gives meanwhile) }
@@ -119,7 +119,7 @@ fn place_all<
     meanwhile: W,
 ) -> Shift<D, I, G, C, X, W::Done>
     ensures shifts { AreShifts C.gives X.gives I.turns (M.error_frame context.now.service.now) (M.private_frame context.now.service.now)
-        (M.opens context.now.service.now) (IsHeldAfter (opening_state D.root)) context.now.has_kdc
+        (M.opens context.now.service.now) (AreHeldAfter (opening_state D.root)) context.now.has_kdc
         staff.passes.items staff.workers.items result.staff.passes.items result.staff.workers.items }
     ensures done { IfOk result.done (W.gives meanwhile) }
     ensures lengths { (vec_len result.staff.passes ≡ vec_len staff.passes) × (vec_len result.staff.workers ≡ vec_len staff.workers) }
@@ -175,7 +175,7 @@ fn start<
     ensures started { IfOk result (λ h. (h.promise.service.value ≡ context.now.service.now)
         × (h.promise.has_kdc ≡ context.now.has_kdc) × (h.promise.placed.value ≡ placed)) }
     ensures refused { IfErr result (λ p. IsShift C.gives X.gives I.turns (M.error_frame context.now.service.now)
-        (M.private_frame context.now.service.now) (M.opens context.now.service.now) (IsHeldAfter (opening_state D.root)) context.now.has_kdc
+        (M.private_frame context.now.service.now) (M.opens context.now.service.now) (AreHeldAfter (opening_state D.root)) context.now.has_kdc
         placed.pass placed.worker p.pass p.worker) }
 {
     let promise = Serves {
@@ -224,11 +224,11 @@ struct Serves<M, D: DeskName, I, G, C, X> {
 impl<M: Messages, D: DeskName, I: Inbox, G, C: Clock, X: Words> Promise<Placed<D, I, G, C, X>>
     for Serves<M, D, I, G, C, X> {
     ghost use Rattle.chpw_changelog.specs.Pens.{opening_state};
-    ghost use Rattle.chpw_book.specs.Newest.{IsHeldAfter};
+    ghost use Rattle.chpw_book.specs.Newest.{AreHeldAfter};
     ghost use Rattle.chpw_workers.specs.Shifts.{IsShift};
 
     ghost kept_by = { λ p done. IsShift C.gives X.gives I.turns (M.error_frame p.service.value) (M.private_frame p.service.value)
-        (M.opens p.service.value) (IsHeldAfter (opening_state D.root)) p.has_kdc p.placed.value.pass p.placed.value.worker done.pass done.worker };
+        (M.opens p.service.value) (AreHeldAfter (opening_state D.root)) p.has_kdc p.placed.value.pass p.placed.value.worker done.pass done.worker };
 }
 
 // Answers the messages of a worker's inbox at a desk, in a thread of its own.
@@ -249,7 +249,7 @@ fn serve_placed<
     placed: Placed<D, I, G, C, X>,
 ) -> Placed<D, I, G, C, X>
     ensures shift { IsShift C.gives X.gives I.turns (M.error_frame context.now.service.now) (M.private_frame context.now.service.now)
-        (M.opens context.now.service.now) (IsHeldAfter (opening_state D.root)) context.now.has_kdc placed.pass placed.worker result.pass result.worker }
+        (M.opens context.now.service.now) (AreHeldAfter (opening_state D.root)) context.now.has_kdc placed.pass placed.worker result.pass result.worker }
 {
     let Placed {
         mut pass,
@@ -279,7 +279,7 @@ pub fn serve_at<
     worker: &mut Worker<I, G, C, X>,
 )
     ensures shift { IsShift C.gives X.gives I.turns (M.error_frame context.now.service.now) (M.private_frame context.now.service.now)
-        (M.opens context.now.service.now) (IsHeldAfter (opening_state D.root)) context.now.has_kdc pass.old worker.old pass.new worker.new }
+        (M.opens context.now.service.now) (AreHeldAfter (opening_state D.root)) context.now.has_kdc pass.old worker.old pass.new worker.new }
 {
     let mut decider = AtDesk { rt, desk, pass };
     work(rt, context, &mut decider, worker);

@@ -1,17 +1,18 @@
 //! What the KDC says of a principal, decided by a worker.
-ghost use Rattle.std.specs.Prelude.{◌≡◌, Option, IfOk, OnErr, IfSome, true};
+ghost use Rattle.std.specs.Prelude.{◌≡◌, List, Option, IfOk, OnErr, IfSome, true};
 ghost use Rattle.chpw_record.specs.declared.key.KeyRow.{KeyRow as key_spec};
 ghost use Rattle.chpw_rules.specs.declared.name.Name.{Name as name_spec};
 ghost use Rattle.chpw_table.specs.declared.history.Event.TheVariants.{Update};
 ghost use Rattle.chpw_table.specs.Times.{IsMoment};
 ghost use Rattle.chpw_table.specs.Updates.{update_fits};
 ghost use Rattle.chpw_decider.specs.Deciding.{AddsEvent};
+ghost use Rattle.chpw_book.specs.Newest.{IsMadeHeld, IsNewestHeld};
 
 use chpw_book::{AtDesk, DeskName, DeskUpdateFault, DeskUpdateRefused};
 use chpw_decider::Decider;
 use chpw_record::KeyRow;
 use chpw_rules::Name;
-use chpw_table::{JournalSink, KdcUpdate, Moment, UpdateVerdict};
+use chpw_table::{Digest, JournalSink, KdcUpdate, Moment, UpdateVerdict};
 use std::sync::Wait;
 
 /// What the KDC says of a principal, within the limits of a table.
@@ -52,10 +53,10 @@ pub struct UpdateTurn {
     pub newest: Option<KeyRow>,
 }
 
-/// A decider that also takes what the KDC says into its table, and tells the newest key of a name.
+/// A decider that also takes what the KDC says into its table, and tells keys of a name.
 pub trait KdcDecider: Decider {
-    /// This may be the newest key that is held of a name, or the name may not be held.
-    ghost holds: { Self → name_spec → Option key_spec → Type 0 };
+    /// These may be the keys that are held of a name, the newest first, or the name may not be held.
+    ghost holds: { Self → name_spec → Option (List key_spec) → Type 0 };
 
     /// Decides an update at a moment, whose seconds are 0 to `chpw_table::LAST_SECOND`, and adds a receipt of it at the
     /// end. A refusal adds none.
@@ -68,19 +69,23 @@ pub trait KdcDecider: Decider {
 
     /// The newest key that is held of a name; none if the name isn't held.
     fn newest_key(&mut self, name: &Name) -> Option<KeyRow>
-        ensures value { holds self.new name.now result }
+        ensures value { IsNewestHeld (holds self.new) name.now result }
         ensures receipts { Self.gathered self.new ≡ Self.gathered self.old }
         ensures follows { Self.follows self.old self.new };
 
+    /// The newest of the keys that are held of a name that is this password's; none if none of them is.
+    fn made_key(&self, name: &Name, digest: &Digest) -> Option<KeyRow>
+        ensures value { IsMadeHeld (holds self.now) name.now digest.now result };
+
     /// What might be held before, still might have been.
-    ghost still_holds: { (a b : Self) (name : name_spec) (key : Option key_spec) → Self.follows a b → holds a name key → holds b name key };
+    ghost still_holds: { (a b : Self) (name : name_spec) (keys : Option (List key_spec)) → Self.follows a b → holds a name keys → holds b name keys };
 }
 
 impl<'a, D: DeskName, S: JournalSink, R: Wait> KdcDecider for AtDesk<'a, D, S, R> {
     ghost use Rattle.chpw_changelog.specs.Pens.{opening_state};
-    ghost use Rattle.chpw_book.specs.Newest.{IsHeldAfter};
+    ghost use Rattle.chpw_book.specs.Newest.{AreHeldAfter};
 
-    ghost holds = { λ a name key. IsHeldAfter (opening_state D.root) name key };
+    ghost holds = { λ a name keys. AreHeldAfter (opening_state D.root) name keys };
 
     fn update(&mut self, now: Moment, update: KdcUpdate) -> Result<UpdateVerdict, DeskUpdateFault> {
         match self.desk.update(self.rt, self.pass, now, update) {
@@ -93,5 +98,9 @@ impl<'a, D: DeskName, S: JournalSink, R: Wait> KdcDecider for AtDesk<'a, D, S, R
         self.desk.newest_key(self.rt, name)
     }
 
-    ghost still_holds = { λ a b name key same h. h };
+    fn made_key(&self, name: &Name, digest: &Digest) -> Option<KeyRow> {
+        self.desk.made_key(self.rt, name, digest)
+    }
+
+    ghost still_holds = { λ a b name keys same h. h };
 }

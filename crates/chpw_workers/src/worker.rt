@@ -5,7 +5,7 @@ ghost use Rattle.chpw_serve.specs.Answering.{Answering, Unanswered};
 ghost use Rattle.chpw_serve.specs.Serving.{stream_state, message_too_long, IsServed};
 ghost use Rattle.chpw_serve.specs.declared.serving.Ended.{Ended};
 ghost use Rattle.chpw_workers.specs.declared.inbox.WorkerTurn.{WorkerTurn as turn_spec};
-ghost use Rattle.chpw_workers.specs.Replies.{IsKdcChange, IsReplyBehind, fills_at, name_changed_after};
+ghost use Rattle.chpw_workers.specs.Replies.{IsKdcChange, IsReplyBehind, change_made_after, change_made_by, fills_at, password_in};
 ghost use Rattle.chpw_workers.specs.Turns.{at, AreTurns, IsMessageTurn, IsToldTo, IsTurn, IsUpdated};
 ghost use Rattle.chpw_connections.specs.Turns.{message_of, peer_of};
 
@@ -15,11 +15,11 @@ use crate::undecided::Undecided;
 use crate::updates::{FittingUpdate, KdcDecider, UpdateTurn};
 use chpw_book::DeskUpdateFault;
 use chpw_connections::{KdcChange, Reply, TakenMessage, Turn};
-use chpw_decider::{Decider, changed_by};
+use chpw_decider::Decider;
 use chpw_record::Change;
 use chpw_rules::Name;
 use chpw_serve::{Clock, Ended, Gate, Messages, Observer, UpdateObserver, Words, serve_stream};
-use chpw_table::Receipt;
+use chpw_table::{Body, Digest, Event, Opened, Receipt, Verdict};
 use std::alloc::Global;
 use std::sync::Wait;
 
@@ -167,34 +167,60 @@ fn take_update<K: KdcDecider, I, G: UpdateObserver, C: Clock, X>(
 }
 
 // What is to be put into the KDC's database, if there is one, where the newest receipt is of a change and was not among the first
-// `before`.
-fn change_after<K: KdcDecider>(has_kdc: bool, decider: &mut K, before: usize) -> KdcChange
-    ensures value { IsKdcChange (K.holds decider.new) has_kdc before (K.gathered decider.new) result }
-    ensures receipts { K.gathered decider.new ≡ K.gathered decider.old }
-    ensures follows { K.follows decider.old decider.new }
+// `before`: that change's own key, whatever came in front of it meanwhile.
+fn change_after<K: KdcDecider>(has_kdc: bool, decider: &K, before: usize) -> KdcChange
+    ensures value { IsKdcChange (K.holds decider.now) has_kdc before (K.gathered decider.now) result }
 {
     if !has_kdc {
         return KdcChange::Nothing;
     }
-    let Some(changed) = name_changed(decider.receipts(), before) else {
+    let Some((name, digest)) = change_made(decider.receipts(), before) else {
         return KdcChange::Nothing;
     };
-    let Ok(name) = changed.clone() else {
-        return KdcChange::Lost;
-    };
-    match decider.newest_key(&name) {
-        None => KdcChange::Nothing,
-        Some(key) => KdcChange::Key(Change { name, key }),
+    let key = decider.made_key(name, digest);
+    match (name.clone(), key) {
+        (Ok(name), Some(key)) => KdcChange::Key(Change { name, key }),
+        _ => KdcChange::Lost,
     }
 }
 
-// The principal whose keys the newest of these receipts changed, if there are more than `before`.
-fn name_changed(receipts: &[Receipt], before: usize) -> Option<&Name>
-    ensures value { option_map (λ name. name.now) result ≡ name_changed_after before receipts.now }
+// The principal whose password the newest of these receipts changed, and the password's digest, if there are more than `before`.
+fn change_made(receipts: &[Receipt], before: usize) -> Option<(&Name, &Digest)>
+    ensures value { option_map (λ made. (made.0.now, made.1.now)) result ≡ change_made_after before receipts.now }
 {
     match receipts.last() {
-        Some(receipt) if receipts.len() > before => changed_by(&receipt.entry.event),
+        Some(receipt) if receipts.len() > before => change_of(&receipt.entry.event),
         _ => None,
+    }
+}
+
+// The principal whose password an event changed, and the password's digest.
+fn change_of(event: &Event) -> Option<(&Name, &Digest)>
+    ensures value { option_map (λ made. (made.0.now, made.1.now)) result ≡ change_made_by event.now }
+{
+    match event {
+        Event::Ask {
+            opened,
+            verdict: Verdict::Done,
+        } => password_of(opened),
+        _ => None,
+    }
+}
+
+// The principal whose password a request changes, and the password's digest.
+fn password_of(opened: &Opened) -> Option<(&Name, &Digest)>
+    ensures value { option_map (λ made. (made.0.now, made.1.now)) result ≡ password_in opened.now }
+{
+    match &opened.body {
+        Body::Ask {
+            target: Some(target),
+            digest,
+        } => Some((&target.name, digest)),
+        Body::Ask {
+            target: None,
+            digest,
+        } => Some((&opened.client, digest)),
+        Body::BadPrivate | Body::BadData => None,
     }
 }
 

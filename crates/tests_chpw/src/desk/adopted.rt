@@ -6,7 +6,9 @@ use crate::desk::desks::{change, close_desk, name, start_desk, table, verdict};
 use crate::desk::updates::update;
 use chpw_book::{AtDesk, Desk, DeskName, Pass, UnnamedDesk};
 use chpw_decider::Decider;
-use chpw_table::{KdcUpdate, KeyRow, Opened, Table, UpdateVerdict, Verdict};
+use chpw_table::{
+    Body, Digest, Event, KdcUpdate, KeyRow, Opened, Receipt, Table, UpdateVerdict, Verdict,
+};
 use std::alloc::Global;
 use std::marker::Brand;
 use std::process::Abort;
@@ -44,7 +46,8 @@ fn newest_of_alice(rt: &impl Abort, alloc: Global, table: &Table) -> KeyRow {
     }
 }
 
-// The KDC has that key under version 5. Its password is an old one then; another one makes version 6.
+// The KDC has that key under version 5. Its password is an old one then; another one makes version 6, which stays this change's
+// key where the KDC has a newer one.
 fn adopted_at<D: DeskName, R: Wait + Abort>(
     rt: &R,
     alloc: Global,
@@ -66,7 +69,40 @@ fn adopted_at<D: DeskName, R: Wait + Abort>(
     asked(rt, &desk, &mut pass, old, PASSWORD, Verdict::Reused, 5);
     let new = change(rt, alloc, 0, 2);
     asked(rt, &desk, &mut pass, new, b"New-pass3", Verdict::Done, 6);
+    let digest = digest_of_last(rt, pass.receipts());
+    let adopt = KdcUpdate::Adopt {
+        name: name(rt, alloc, 0),
+        key: KeyRow { kvno: 9, ..key },
+    };
+    let taken = update(rt, &desk, &mut pass, adopt);
+    assert!(rt; matches!(taken, Ok(UpdateVerdict::Taken)));
+    let alice = name(rt, alloc, 0);
+    let made = desk
+        .made_key(rt, &alice, &digest)
+        .expect(rt, "a key of that password");
+    let newest = desk.newest_key(rt, &alice).expect(rt, "a key of alice's");
+    assert!(rt; made.kvno == 6 && newest.kvno == 9);
     desk.abandon(rt);
+}
+
+// The digest of the password that was asked for last.
+fn digest_of_last(rt: &impl Abort, receipts: &[Receipt]) -> Digest {
+    let receipt = receipts.last().expect(rt, "a receipt");
+    match &receipt.entry.event {
+        Event::Ask { opened, .. } => digest_of(rt, &opened.body),
+        _ => panic!(rt; "a request"),
+    }
+}
+
+fn digest_of(rt: &impl Abort, body: &Body) -> Digest {
+    match body {
+        Body::Ask { digest, .. } => Digest {
+            length: digest.length,
+            classes: digest.classes,
+            derived: digest.derived.clone().ok().expect(rt, "memory"),
+        },
+        _ => panic!(rt; "a password"),
+    }
 }
 
 // The request for this password has this verdict, and the newest change that its worker made has this version.

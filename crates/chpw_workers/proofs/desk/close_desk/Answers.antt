@@ -1,4 +1,4 @@
-use Rattle.chpw_book.specs.Newest.{IsHeldAfter}
+use Rattle.chpw_book.specs.Newest.{AreHeldAfter}
 use Rattle.std.proofs.Common.{rules}
 use Rattle.chpw_book.specs.Closing.{is_full, IsRefusal}
 use Rattle.chpw_book.specs.Recorded.{IsLinearized}
@@ -13,11 +13,11 @@ returns-clause-served g c =
     let staff = c.args.staff in
     let close = c.close-closed.ensures in
     served_if_closed g.C.Clock.gives g.X.Words.gives g.I.Inbox.turns (g.M.Messages.error_frame service) (g.M.Messages.private_frame service)
-    (g.M.Messages.opens service) (IsHeldAfter (opening_state g.D.LogName.root)) c.args.context.now.has_kdc g.D.DeskName.workers c.close-closed.result
+    (g.M.Messages.opens service) (AreHeldAfter (opening_state g.D.LogName.root)) c.args.context.now.has_kdc g.D.DeskName.workers c.close-closed.result
     (λ a. a.history.items) (λ a. a.table) (λ a. g.S.JournalSink.told a.sink) g.D.DeskName.prior (opening_state g.D.LogName.root)
     staff.passes.items staff.workers.items staff.passes.items staff.workers.items c.requires.passes
     (shifts_none g.C.Clock.gives g.X.Words.gives g.I.Inbox.turns (g.M.Messages.error_frame service) (g.M.Messages.private_frame service)
-    (g.M.Messages.opens service) (IsHeldAfter (opening_state g.D.LogName.root)) c.args.context.now.has_kdc staff.passes.items
+    (g.M.Messages.opens service) (AreHeldAfter (opening_state g.D.LogName.root)) c.args.context.now.has_kdc staff.passes.items
     staff.workers.items (search (rules, staff.paired)))
     close.whole close.legal close.brings close.numbered close.told
 

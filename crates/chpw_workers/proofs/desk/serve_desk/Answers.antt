@@ -1,4 +1,4 @@
-use Rattle.chpw_book.specs.Newest.{IsHeldAfter}
+use Rattle.chpw_book.specs.Newest.{AreHeldAfter}
 use Rattle.chpw_book.specs.Closing.{is_full, IsRefusal}
 use Rattle.chpw_book.specs.Recorded.{IsLinearized}
 use Rattle.chpw_changelog.specs.Pens.{opening_state}
@@ -11,7 +11,7 @@ returns-clause-served g c =
     let staff = c.run_shift-staff.result.staff in
     let close = c.close-closed.ensures in
     served_if_closed g.C.Clock.gives g.X.Words.gives g.I.Inbox.turns (g.M.Messages.error_frame service) (g.M.Messages.private_frame service)
-    (g.M.Messages.opens service) (IsHeldAfter (opening_state g.D.LogName.root)) c.args.context.now.has_kdc g.D.DeskName.workers c.close-closed.result
+    (g.M.Messages.opens service) (AreHeldAfter (opening_state g.D.LogName.root)) c.args.context.now.has_kdc g.D.DeskName.workers c.close-closed.result
     (λ a. a.history.items) (λ a. a.table) (λ a. g.S.JournalSink.told a.sink) g.D.DeskName.prior (opening_state g.D.LogName.root)
     c.args.staff.passes.items c.args.staff.workers.items staff.passes.items staff.workers.items
     c.requires.passes c.run_shift-staff.ensures.shifts close.whole close.legal close.brings close.numbered close.told
@@ -27,6 +27,6 @@ returns-clause-turns g c =
     let service = c.args.context.now.service.now in
     let staff = c.run_shift-staff.result.staff in
     stands_if_refused g.C.Clock.gives g.X.Words.gives g.I.Inbox.turns (g.M.Messages.error_frame service) (g.M.Messages.private_frame service)
-    (g.M.Messages.opens service) (IsHeldAfter (opening_state g.D.LogName.root)) c.args.context.now.has_kdc g.D.DeskName.workers c.close-closed.result
+    (g.M.Messages.opens service) (AreHeldAfter (opening_state g.D.LogName.root)) c.args.context.now.has_kdc g.D.DeskName.workers c.close-closed.result
     (λ r. r.passes.items) c.args.staff.passes.items c.args.staff.workers.items staff.passes.items staff.workers.items
     c.run_shift-staff.ensures.shifts c.close-closed.ensures.back

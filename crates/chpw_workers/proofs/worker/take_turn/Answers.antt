@@ -1,9 +1,6 @@
-use Rattle.std.proofs.Common.{List, Some, [], refl, sym, subst, rules}
-use Rattle.chpw_table.specs.declared.history.Receipt.{Receipt}
+use Rattle.std.proofs.Common.{Some, [], refl, rules}
 use Rattle.chpw_serve.specs.Serving.{stream_state}
 use Rattle.chpw_connections.specs.Turns.{message_of, peer_of}
-use Rattle.chpw_workers.specs.Turns.{at, Comes}
-use Rattle.chpw_workers.proofs.ChainLemmas.{comes_lifts}
 use Rattle.chpw_workers.proofs.TurnLemmas.{comes}
 use Rattle.chpw_workers.proofs.FollowLemmas.{follows_on}
 use Rattle.chpw_workers.proofs.worker.take_turn.Goals as goal
@@ -15,25 +12,14 @@ returns-clause-turn g c =
     let new = c.reply_to-reply.new.worker in
     let r = c.reply_to-reply.ensures.replied in
     let mid = c.reply_to-reply.new.decider in
-    let end = c.change_after-change.new.decider in
     let opens = g.M.Messages.opens service in
-    let start = at (g.K.Decider.gathered c.args.decider.now) old.clock old.words in
     let replied = comes (g.M.Messages.error_frame service) (g.M.Messages.private_frame service) g.K.Decider.may_be_full g.K.Decider.gathered
     g.K.Decider.follows g.K.Decider.made g.G.Gate.passes g.G.Observer.hears opens g.C.Clock.gives g.X.Words.gives
     c.args.taken c.reply_to-reply.result
     (message_of c.args.taken) r.1 refl c.reply_to-reply.ensures.piece r.0
     (stream_state (Some (message_of c.args.taken)) c.args.decider.now (Some []) old.clock old.words old.gate)
     (stream_state r.2 mid (Some r.1) new.clock new.words new.gate) refl refl refl r.3 r.4 in
-    let lifted = comes_lifts g.C.Clock.gives g.X.Words.gives (g.M.Messages.error_frame service) (g.M.Messages.private_frame service) opens
-    (g.K.Decider.may_be_full mid) (g.K.Decider.may_be_full end)
-    (λ rs h. g.met.K.Decider.still_full mid end rs c.change_after-change.ensures.follows h)
-    c.args.taken c.reply_to-reply.result start (at (g.K.Decider.gathered mid) new.clock new.words) replied in
-    record {
-      comes = subst (λ (rs : List Receipt). Comes g.C.Clock.gives g.X.Words.gives (g.M.Messages.error_frame service) (g.M.Messages.private_frame service)
-          opens (g.K.Decider.may_be_full end) c.args.taken c.reply_to-reply.result start (at rs new.clock new.words))
-          (sym c.change_after-change.ensures.receipts) lifted;
-      change = search rules;
-    }
+    record { comes = replied; change = search rules }
 
 pub returns-clause-follows : goal.returns-clause-follows
 returns-clause-follows g c =
@@ -41,10 +27,8 @@ returns-clause-follows g c =
     let old = c.args.worker.now in
     let new = c.reply_to-reply.new.worker in
     let r = c.reply_to-reply.ensures.replied in
-    g.met.K.Decider.goes_on c.args.decider.now c.reply_to-reply.new.decider c.change_after-change.new.decider
-    (follows_on (g.M.Messages.error_frame service) (g.M.Messages.private_frame service) g.K.Decider.may_be_full g.K.Decider.gathered
+    follows_on (g.M.Messages.error_frame service) (g.M.Messages.private_frame service) g.K.Decider.may_be_full g.K.Decider.gathered
     g.K.Decider.follows g.K.Decider.made g.G.Gate.passes g.G.Observer.hears (g.M.Messages.opens service (peer_of c.args.taken))
     g.C.Clock.gives g.X.Words.gives (peer_of c.args.taken) g.met.K.Decider.stays g.met.K.Decider.goes_on r.0
     (stream_state (Some (message_of c.args.taken)) c.args.decider.now (Some []) old.clock old.words old.gate)
-    (stream_state r.2 c.reply_to-reply.new.decider (Some r.1) new.clock new.words new.gate) r.3)
-    c.change_after-change.ensures.follows
+    (stream_state r.2 c.reply_to-reply.new.decider (Some r.1) new.clock new.words new.gate) r.3

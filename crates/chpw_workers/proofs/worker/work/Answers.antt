@@ -32,7 +32,7 @@ loop-preserved g c =
             so_far.0 mid turn end
             (turns_lift moments random error_frame private_frame opens (g.K.Decider.may_be_full before) (g.K.Decider.may_be_full after)
             (λ rs h. g.met.K.Decider.still_full before after rs goes h) (g.K.KdcDecider.holds before) (g.K.KdcDecider.holds after)
-            (λ name key h. g.met.K.KdcDecider.still_holds before after name key goes h) has_kdc start so_far.0 mid so_far.2)
+            (λ name keys h. g.met.K.KdcDecider.still_holds before after name keys goes h) has_kdc start so_far.0 mid so_far.2)
             c.do_task-turn.ensures.turn,
       ),
       g.met.K.Decider.goes_on c.args.decider.now before after c.loop.invariant.3 goes,
