@@ -24,7 +24,7 @@ use Rattle.chpw_kdc.specs.declared.update.KdcUpdate.TheVariants as update
 use Rattle.chpw_kdc.specs.Mirrors.{key_of, judgement, may_adopt, adopted, is_same}
 use Rattle.chpw_kdc.specs.Dialogs.{State}
 use Rattle.chpw_kdc.specs.Answering.{after_answer, of_asked, of_list, of_get, of_put, compared, after_judgement, with_listed}
-use Rattle.chpw_kdc.specs.Answering.{with_lacked, lacked_in, is_many, refused_if_held, list_retried, with_update, settled, lifted, after_higher, is_newest}
+use Rattle.chpw_kdc.specs.Answering.{with_lacked, lacked_in, is_many, refused_if_held, list_postponed, with_update, settled, lifted, after_higher, is_newest}
 use Rattle.chpw_kdc.specs.Answering.{accepted, refused, has_version, is_listed, is_first, is_put_for, if_named, without_first}
 use Rattle.chpw_kdc.specs.Answering.{confirmed_with}
 use Rattle.chpw_kdc.specs.Runs.{Settles, IsNews, HasVersion, IsAskedFor}
@@ -182,7 +182,7 @@ of_the_list ours now s t (answer.End count) h =
     subst (λ (u : State). Effect ours s (answer.End count) u) (from_test (not (length s.listed == count)) _ _ t h).1
     (c.0, c.1, c.2, inl (c.3, c.4, inl refl))
 of_the_list ours now s t (answer.ListFailed text) h =
-    let e : list_retried text now s ≡ t = cc in
+    let e : list_postponed text now s ≡ t = cc in
     subst (λ (u : State). Effect ours s (answer.ListFailed text) u) e (refl, refl, inl refl, inl (inl refl, refl, inl refl))
 of_the_list ours now s t (answer.None name) h = absurd cc
 of_the_list ours now s t (answer.Put name kvno) h = absurd cc

@@ -9,12 +9,23 @@ use Rattle.chpw_kdc.specs.declared.put.Asked.{Asked}
 use Rattle.chpw_kdc.specs.declared.put.Put.{Put}
 use Rattle.chpw_kdc.specs.Lines.{Request, list_keys, get}
 use Rattle.chpw_kdc.specs.Paces.{may_ask}
-use Rattle.chpw_kdc.specs.Dialogs.{State, after_loss, first_request, put_in, get_in, or_else, is_list_due}
+use Rattle.chpw_kdc.specs.Dialogs.{State, is_of_change, changes_of, after_loss, first_request, put_in, get_in, or_else, is_list_due}
 use Rattle.chpw_kdc.specs.Answering.{after_byte, and_then, each}
 use Rattle.chpw_kdc.specs.Runs.{Event, hears, or_lost, behind, run, SameKeys, FaultsChangeNothing, OneAtATime, Piecewise, PutsComeFirst}
 
+kept_if : (b : Bool) (p : Put) (rest : List Put) → is_of_change p ≡ b → changes_of rest ≡ rest
+    → changes_of (if b then p ∷ rest else rest) ≡ (if b then p ∷ rest else rest)
+kept_if true p rest is same =
+    ap (λ (c : Bool). if c then p ∷ changes_of rest else changes_of rest) is ∙ ap (λ (ps : List Put). p ∷ ps) same
+kept_if false p rest is same = same
+
+-- the puts of changes are all of changes
+kept_twice : (ps : List Put) → changes_of (changes_of ps) ≡ changes_of ps
+kept_twice [] = refl
+kept_twice (p ∷ ps) = kept_if (is_of_change p) p (changes_of ps) refl (kept_twice ps)
+
 lost_same : (now : ℕ) (s : State) → SameKeys s (after_loss now s)
-lost_same now s = record { mirror = refl; puts = refl; issued = refl; confirmed = refl }
+lost_same now s = record { mirror = refl; puts = kept_twice s.puts; issued = refl; confirmed = refl }
 
 pub faults_change_nothing : FaultsChangeNothing
 faults_change_nothing s ours now byte why = (

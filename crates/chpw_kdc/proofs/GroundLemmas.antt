@@ -171,10 +171,10 @@ lifted_gets true true u s = refl
 lifted_gets true false u s = refl
 lifted_gets false c u s = refl
 
-lacked_gets : (b : Bool) (s : State) (x : State) → is_many (length (lacked_in s.listed s.mirror)) (length s.mirror) ≡ b → x.gets ≡ s.gets
-    → AsksFew s (if b then x else record s { gets = lacked_in s.listed s.mirror })
-lacked_gets true s x is same = inl same
-lacked_gets false s x is same = inr (inr (inr (refl, is)))
+lacked_gets : (b : Bool) (s x y : State) → is_many (length (lacked_in s.listed s.mirror)) (length s.mirror) ≡ b → x.gets ≡ s.gets
+    → y.gets ≡ lacked_in s.listed s.mirror → AsksFew s (if b then x else y)
+lacked_gets true s x y is same lacked = inl same
+lacked_gets false s x y is same lacked = inr (inr (inr (lacked, is)))
 
 list_gets : (ours : Name → Bool) (now : ℕ) (s t : State) (a : Answer) → of_list ours now s a ≡ Ok t → AsksFew s t
 list_gets ours now s t (answer.Has name kvno keys) h =
@@ -184,7 +184,7 @@ list_gets ours now s t (answer.Other name why) h =
     subst (AsksFew s) (from_test (is_listed s.listed name) _ _ t h).1 (inl (refused_gets (is_some (key_of s.mirror name)) name why (with_listed name s)))
 list_gets ours now s t (answer.End count) h =
     let names : List Name = lacked_in s.listed s.mirror in
-    let few : AsksFew s (with_lacked names s) = lacked_gets (is_many (length names) (length s.mirror)) s _ refl refl in
+    let few : AsksFew s (with_lacked names s) = lacked_gets (is_many (length names) (length s.mirror)) s _ _ refl refl refl in
     subst (AsksFew s) (from_test (not (length s.listed == count)) _ _ t h).1 few
 list_gets ours now s t (answer.ListFailed text) h =
     let same : s.gets ≡ t.gets = cc in
@@ -202,7 +202,7 @@ get_gets ours now s t (answer.Has name kvno keys) h =
 get_gets ours now s t (answer.Other name why) h =
     subst (AsksFew s) (from_named (is_first s.gets name) _ t h).1 (inr (inl (ap without_first (refused_gets (is_some (key_of s.mirror name)) name why s))))
 get_gets ours now s t (answer.None name) h = subst (AsksFew s) (from_named (is_first s.gets name) _ t h).1 (inr (inl refl))
-get_gets ours now s t (answer.Failed name text) h = subst (AsksFew s) (from_named (is_first s.gets name) _ t h).1 (inl refl)
+get_gets ours now s t (answer.Failed name text) h = subst (AsksFew s) (from_named (is_first s.gets name) _ t h).1 (inr (inl refl))
 get_gets ours now s t (answer.End count) h = absurd cc
 get_gets ours now s t (answer.ListFailed text) h = absurd cc
 get_gets ours now s t (answer.Put name kvno) h = absurd cc

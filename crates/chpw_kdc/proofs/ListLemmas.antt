@@ -22,8 +22,9 @@ use Rattle.chpw_kdc.specs.declared.put.Asked.{Asked}
 use Rattle.chpw_kdc.specs.declared.put.Asked.TheVariants as asked
 use Rattle.chpw_kdc.specs.declared.update.KdcUpdate.{KdcUpdate}
 use Rattle.chpw_kdc.specs.Mirrors.{Mirror, key_of}
+use Rattle.chpw_kdc.specs.declared.update.Notice.{Notice}
 use Rattle.chpw_kdc.specs.declared.update.Notice.TheVariants.{TooManyGone}
-use Rattle.chpw_kdc.specs.Tellings.{after_missing}
+use Rattle.chpw_kdc.specs.Tellings.{Tellings, after_missing, after_few, after_told, with_refusal, is_told}
 use Rattle.chpw_kdc.specs.Paces.{pace_ended}
 use Rattle.chpw_kdc.specs.Dialogs.{State}
 use Rattle.chpw_kdc.specs.Answering.{after_answer, after_judgement, each, and_then, is_listed, is_many, lacked_in, of_asked, of_list, refused}
@@ -95,6 +96,7 @@ record IsRow (ours : Name → Bool) (s : State) (row : Row) (t : State) : Type 0
   updates : t.updates ≡ s.updates ++ adoption_by (name_of row) (judgement_of ours s.mirror row)
   gets : t.gets ≡ s.gets
   began : t.pace.began ≡ s.pace.began
+  many : t.tellings.is_many_told ≡ s.tellings.is_many_told
   asked : t.asked ≡ s.asked
 
 judged_puts : (name : Name) (j : Judgement) (s : State) → (after_judgement name j s).puts ≡ s.puts ++ put_by s.pace.began name j
@@ -113,12 +115,18 @@ record IsBeside (s t : State) : Type 0 where
   mirror : t.mirror ≡ s.mirror
   gets : t.gets ≡ s.gets
   began : t.pace.began ≡ s.pace.began
+  many : t.tellings.is_many_told ≡ s.tellings.is_many_told
   asked : t.asked ≡ s.asked
 
 judged_beside : (name : Name) (j : Judgement) (s : State) → IsBeside s (after_judgement name j s)
-judged_beside name judged.Leave s = record { listed = refl; mirror = refl; gets = refl; began = refl; asked = refl }
-judged_beside name (judged.Adopt key) s = record { listed = refl; mirror = refl; gets = refl; began = refl; asked = refl }
-judged_beside name (judged.Put key) s = record { listed = refl; mirror = refl; gets = refl; began = refl; asked = refl }
+judged_beside name judged.Leave s = record { listed = refl; mirror = refl; gets = refl; began = refl; many = refl; asked = refl }
+judged_beside name (judged.Adopt key) s = record { listed = refl; mirror = refl; gets = refl; began = refl; many = refl; asked = refl }
+judged_beside name (judged.Put key) s = record { listed = refl; mirror = refl; gets = refl; began = refl; many = refl; asked = refl }
+
+refused_many : (b : Bool) (name : Name) (why : Reason) (t : Tellings)
+    → (with_refusal name why (if b then t else after_told name why t)).is_many_told ≡ t.is_many_told
+refused_many true name why t = refl
+refused_many false name why t = refl
 
 left_row : (ours : Name → Bool) (b : Bool) (name : Name) (why : Reason) (s : State) → is_listed s.listed name ≡ false
     → IsRow ours s (other name why) (if b then refused name why (with_listed name s) else with_listed name s)
@@ -130,6 +138,7 @@ left_row ours true name why s new = record {
   updates = sym (append-nil s.updates);
   gets = refl;
   began = refl;
+  many = refused_many (is_told s.tellings name why) name why s.tellings;
   asked = refl;
 }
 left_row ours false name why s new = record {
@@ -140,6 +149,7 @@ left_row ours false name why s new = record {
   updates = sym (append-nil s.updates);
   gets = refl;
   began = refl;
+  many = refl;
   asked = refl;
 }
 
@@ -157,6 +167,7 @@ row_of_list ours now s t (has name kvno keys) h =
       updates = judged_updates name j u;
       gets = b.gets;
       began = b.began;
+      many = b.many;
       asked = b.asked;
     })
 row_of_list ours now s t (other name why) h =
@@ -181,6 +192,7 @@ record AreRows (ours : Name → Bool) (before : List Name) (s : State) (rows : L
   puts : t.puts ≡ s.puts ++ puts_for ours s.pace.began s.mirror rows
   updates : t.updates ≡ s.updates ++ adoptions_for ours s.mirror rows
   gets : t.gets ≡ s.gets
+  many : t.tellings.is_many_told ≡ s.tellings.is_many_told
   asked : t.asked ≡ s.asked
 
 parted : (r : Result State ProtocolFault) (f : State → Result State ProtocolFault) (t : State)
@@ -198,6 +210,7 @@ rows_heard ours now [] before s t list are h =
       puts = sym (append-nil s.puts);
       updates = sym (append-nil s.updates);
       gets = refl;
+      many = refl;
       asked = refl;
     })
 rows_heard ours now (row ∷ rows) before s t list are h =
@@ -222,6 +235,7 @@ rows_heard ours now (row ∷ rows) before s t list are h =
           ∙ ap (λ (m : Mirror). (s.updates ++ adoption_by (name_of row) (judgement_of ours s.mirror row)) ++ adoptions_for ours m rows) one.mirror
           ∙ append_assoc s.updates (adoption_by (name_of row) (judgement_of ours s.mirror row)) (adoptions_for ours s.mirror rows);
       gets = more.gets ∙ one.gets;
+      many = more.many ∙ one.many;
       asked = more.asked ∙ one.asked;
     }
 
@@ -237,10 +251,34 @@ record IsEnded (many : Bool) (names : List Name) (s t : State) : Type 0 where
 abbrev ended : ℕ → State → State
 ended now s = succeeded (record s { listed = []; pace = pace_ended now s.pace })
 
+many_told : (b : Bool) (gone of : ℕ) (t : Tellings) → t.is_many_told ≡ b
+    → (if b then t else record t { notices = t.notices ++ TooManyGone gone of ∷ []; is_many_told = true }).is_many_told ≡ true
+many_told true gone of t is = is
+many_told false gone of t is = refl
+
+many_first : (b : Bool) (gone of : ℕ) (t : Tellings) → b ≡ false
+    → (before : List Notice) × ((if b then t else record t { notices = t.notices ++ TooManyGone gone of ∷ []; is_many_told = true }).notices
+    ≡ before ++ TooManyGone gone of ∷ [])
+many_first true gone of t is = absurd cc
+many_first false gone of t is = (t.notices, refl)
+
 ended_if : (many : Bool) (names : List Name) (now : ℕ) (s : State)
     → IsEnded many names s
-    (ended now (if many then record s { tellings = after_missing (length names) (length s.mirror) s.tellings } else record s { gets = names }))
-ended_if true names now s = record { mirror = refl; puts = refl; updates = refl; lacked = (refl, (s.tellings.notices, refl)); over = refl }
+    (ended now (if many then record s { tellings = after_missing (length names) (length s.mirror) s.tellings }
+    else record s { gets = names; tellings = after_few s.tellings }))
+ended_if true names now s = record {
+  mirror = refl;
+  puts = refl;
+  updates = refl;
+  lacked = (
+    refl,
+    (
+      many_told s.tellings.is_many_told (length names) (length s.mirror) s.tellings refl,
+      many_first s.tellings.is_many_told (length names) (length s.mirror) s.tellings,
+    ),
+  );
+  over = refl;
+}
 ended_if false names now s = record { mirror = refl; puts = refl; updates = refl; lacked = refl; over = refl }
 
 end_of_list : (ours : Name → Bool) (now count : ℕ) (s t : State) → of_list ours now s (answer.End count) ≡ Ok t
@@ -251,10 +289,17 @@ end_of_list ours now count s t h =
     subst (λ (x : State). IsEnded (is_many (length names) (length s.mirror)) names s x) d.1
     (ended_if (is_many (length names) (length s.mirror)) names now s)
 
-alone_over : (many : Bool) (names : List Name) (s u t : State) → u.mirror ≡ s.mirror → u.gets ≡ s.gets → AskedAlone many names u t → AskedAlone many names s t
-alone_over false names s u t mirror gets h = h
-alone_over true names s u t mirror gets h =
-    (h.0 ∙ gets, (h.1.0, subst (λ (n : ℕ). t.tellings.notices ≡ h.1.0 ++ TooManyGone (length names) n ∷ []) (ap length mirror) h.1.1))
+alone_over : (many : Bool) (names : List Name) (s u t : State) → u.mirror ≡ s.mirror → u.gets ≡ s.gets
+    → u.tellings.is_many_told ≡ s.tellings.is_many_told → AskedAlone many names u t → AskedAlone many names s t
+alone_over false names s u t mirror gets told h = h
+alone_over true names s u t mirror gets told h = (
+  h.0 ∙ gets,
+  (
+    h.1.0,
+    λ first. subst (λ (n : ℕ). (before : List Notice) × (t.tellings.notices ≡ before ++ TooManyGone (length names) n ∷ [])) (ap length mirror)
+        (h.1.1 (told ∙ first)),
+  ),
+)
 
 pub lists_put_right : ListsPutRight
 lists_put_right ours now s t rows count list none h =
@@ -276,6 +321,6 @@ lists_put_right ours now s t rows count list none h =
       puts = end.puts ∙ all.puts;
       updates = end.updates ∙ all.updates;
       lacked = subst (λ (m : Mirror). AskedAlone (is_many (length (lacked_in names m)) (length m)) (lacked_in names m) s t) all.mirror
-          (alone_over (is_many (length (lacked_in names u.mirror)) (length u.mirror)) (lacked_in names u.mirror) s u t all.mirror all.gets by_names);
+          (alone_over (is_many (length (lacked_in names u.mirror)) (length u.mirror)) (lacked_in names u.mirror) s u t all.mirror all.gets all.many by_names);
       over = end.over;
     }

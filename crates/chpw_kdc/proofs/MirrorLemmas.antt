@@ -1,5 +1,5 @@
 -- Names that compare as equal are, and what is found in a mirror is in it.
-use Rattle.std.proofs.Common.{◌≡◌, ◌∙◌, sym, ap, refl, subst, ◌≤◌, Bool, true, false, nat_lt, if◌then◌else◌, [], ◌∷◌, Option, Some, None, cond, arith}
+use Rattle.std.proofs.Common.{◌≡◌, ◌∙◌, sym, ap, refl, subst, Bool, true, false, nat_lt, if◌then◌else◌, [], ◌∷◌, Option, Some, None, cond}
 use Rattle.std.specs.List.{AllByRecursion}
 use Rattle.std.specs.Map.{lookup}
 use Rattle.std.specs.BTreeMap.{is_at}
@@ -7,8 +7,6 @@ use Rattle.std.specs.Cmp.Lexicographic.{slice_cmp, lists_ties, texts_ties}
 use Rattle.std.specs.Ordering.{nat_cmp, is_eq, match_ordering}
 use Rattle.std.specs.declared.cmp.Ordering.{Ordering}
 use Rattle.std.specs.declared.cmp.Ordering.TheVariants.{Less, Equal, Greater}
-use Rattle.std.proofs.lemmas.Bool.Decides.{nat_tests}
-use Rattle.std.proofs.lemmas.Grind.{common_steps}
 use Rattle.chpw_rules.specs.declared.name.Name.{Name}
 use Rattle.chpw_rules.specs.Names.{is_same_name, name_cmp, name_from}
 use Rattle.chpw_rules.proofs.NameLemmas.{is_same_name-Decides}
@@ -81,15 +79,3 @@ of_newest Q es name key all q = newer_of_found Q name (key_of es name) key (λ h
 
 pub of_told : (Q : Name → KeyRow → Type 0) (es : Mirror) (name : Name) (key : KeyRow) → AllKeys Q es → Q name key → AllKeys Q (told es name key)
 of_told Q es name key all q = of_with_key Q es name (newest es name key) all (of_newest Q es name key all q)
-
-no_older_if : (b : Bool) (held key : KeyRow) → nat_lt key.kvno held.kvno ≡ b → key.kvno ≤ (if b then held else key).kvno
-no_older_if true held key h = grind (arith, nat_tests, common_steps)
-no_older_if false held key h = omega arith
-
-no_older_of : (o : Option KeyRow) (key : KeyRow) → key.kvno ≤ (newer_of o key).kvno
-no_older_of None key = omega arith
-no_older_of (Some held) key = no_older_if (nat_lt key.kvno held.kvno) held key refl
-
--- the newest key of a name is no older than one that is given
-pub newest_no_older : (es : Mirror) (name : Name) (key : KeyRow) → key.kvno ≤ (newest es name key).kvno
-newest_no_older es name key = no_older_of (key_of es name) key

@@ -9,7 +9,7 @@ use Rattle.chpw_kdc.specs.declared.update.KdcUpdate.{KdcUpdate}
 use Rattle.chpw_kdc.specs.Lines.{Request, list_keys, get, put}
 use Rattle.chpw_kdc.specs.Mirrors.{Mirror}
 use Rattle.chpw_kdc.specs.Paces.{may_ask}
-use Rattle.chpw_kdc.specs.Dialogs.{State, ticketed, after_loss, after_request, request_by, first_request, put_in, get_in, or_else}
+use Rattle.chpw_kdc.specs.Dialogs.{State, ticketed, is_of_change, changes_of, after_loss, after_request, request_by, first_request, put_in, get_in, or_else}
 use Rattle.chpw_kdc.specs.Dialogs.{is_late, without_update}
 use Rattle.chpw_kdc.specs.Answering.{without_first}
 use Rattle.chpw_kdc.specs.Runs.{Event, holds, holds_none, fills, wants, loses_want, wants_comparison, connects, loses, asks, hears}
@@ -42,6 +42,16 @@ puts_if : (Q R : Name → KeyRow → Type 0) → ((n : Name) (k : KeyRow) → Q 
 puts_if Q R f [] all = tt
 puts_if Q R f (p ∷ ps) all = (f p.name p.key all.0, puts_if Q R f ps all.1)
 
+puts_kept_if : (Q : Name → KeyRow → Type 0) (b : Bool) (p : Put) (rest : List Put) → Q p.name p.key → AllPuts Q rest
+    → AllPuts Q (if b then p ∷ rest else rest)
+puts_kept_if Q true p rest one all = (one, all)
+puts_kept_if Q false p rest one all = all
+
+-- those of changes alone
+puts_kept : (Q : Name → KeyRow → Type 0) (ps : List Put) → AllPuts Q ps → AllPuts Q (changes_of ps)
+puts_kept Q [] all = tt
+puts_kept Q (p ∷ ps) all = puts_kept_if Q (is_of_change p) p (changes_of ps) all.0 (puts_kept Q ps all.1)
+
 -- ---- behind an event
 
 request_keeps : (Q : Name → KeyRow → Type 0) (now : ℕ) (s : State) (o : Option Request) → Keeps Q s → Keeps Q (after_request now o s)
@@ -51,7 +61,7 @@ request_keeps Q now s (Some (get name)) k = record { mirror = k.mirror; puts = k
 request_keeps Q now s (Some (put name key)) k = record { mirror = k.mirror; puts = k.puts }
 
 loss_keeps : (Q : Name → KeyRow → Type 0) (now : ℕ) (s : State) → Keeps Q s → Keeps Q (after_loss now s)
-loss_keeps Q now s k = record { mirror = k.mirror; puts = k.puts }
+loss_keeps Q now s k = record { mirror = k.mirror; puts = puts_kept Q s.puts k.puts }
 
 tick_keeps : (Q : Name → KeyRow → Type 0) (now : ℕ) (s : State) (b : Bool) → Keeps Q s → Keeps Q (if b then after_loss now s else s)
 tick_keeps Q now s true k = loss_keeps Q now s k
@@ -88,7 +98,7 @@ kept_behind Q s (wants now name key) told k = record {
 }
 kept_behind Q s loses_want told k = record { mirror = k.mirror; puts = k.puts }
 kept_behind Q s wants_comparison told k = record { mirror = k.mirror; puts = k.puts }
-kept_behind Q s (connects now) told k = record { mirror = k.mirror; puts = k.puts }
+kept_behind Q s (connects now) told k = record { mirror = k.mirror; puts = puts_kept Q s.puts k.puts }
 kept_behind Q s (loses now) told k = loss_keeps Q now s k
 kept_behind Q s (asks now) told k = request_keeps Q now s (request_by now s) k
 kept_behind Q s (hears ours now byte) told k =

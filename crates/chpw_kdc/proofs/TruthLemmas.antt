@@ -1,5 +1,5 @@
 -- A ticket is confirmed only by an answer to its put, or to a later one.
-use Rattle.std.proofs.Common.{◌≡◌, ℕ, ◌+◌, ◌≤◌, ◌<◌, max, nat_lt, List, [], ◌∷◌, ◌++◌, Bool, true, false, ◌&&◌, is_none, Option}
+use Rattle.std.proofs.Common.{◌≡◌, ℕ, ◌+◌, ◌≤◌, ◌<◌, max, nat_lt, List, [], ◌∷◌, ◌++◌, Bool, true, false, ◌&&◌, is_none, is_some, Option}
 use Rattle.std.proofs.Common.{Some, None, Ok, inl, inr, ◌⊎◌, refl, sym, ◌∙◌, ap, subst, append_assoc, if◌then◌else◌, arith}
 use Rattle.std.proofs.lemmas.Bool.Decides.{nat_tests}
 use Rattle.std.proofs.lemmas.Grind.{common_steps}
@@ -12,7 +12,7 @@ use Rattle.chpw_kdc.specs.declared.put.Asked.TheVariants as asked
 use Rattle.chpw_kdc.specs.declared.update.KdcUpdate.{KdcUpdate}
 use Rattle.chpw_kdc.specs.Lines.{Request, list_keys, get, put, answer_of}
 use Rattle.chpw_kdc.specs.Paces.{may_ask}
-use Rattle.chpw_kdc.specs.Dialogs.{State, at_start, ticketed, after_loss, after_request, request_by, first_request, put_in}
+use Rattle.chpw_kdc.specs.Dialogs.{State, at_start, ticketed, is_of_change, changes_of, after_loss, after_request, request_by, first_request, put_in}
 use Rattle.chpw_kdc.specs.Dialogs.{get_in, or_else, is_late, without_update}
 use Rattle.chpw_kdc.specs.Answering.{without_first, confirmed_with, later_ticket, is_put_for}
 use Rattle.chpw_kdc.specs.Runs.{Event, holds, holds_none, fills, wants, loses_want, wants_comparison, connects, loses, asks, hears}
@@ -52,6 +52,17 @@ run_later low high None ps n r = r
 run_later low high (Some t) ps n r =
     let same : t ≡ max low t = omega arith in
     subst (λ (l : ℕ). IsRun l ps high) same r
+
+run_kept_if : (o : Option ℕ) (low high : ℕ) (p : Put) (rest : List Put) → p.ticket ≡ o → IsNext low o → IsRun (ticket_or low o) rest high
+    → IsRun low (if is_some o then p ∷ rest else rest) high
+run_kept_if None low high p rest is next r = r
+run_kept_if (Some t) low high p rest is next r =
+    (subst (IsNext low) (sym is) next, subst (λ (o : Option ℕ). IsRun (ticket_or low o) rest high) (sym is) r)
+
+-- those of changes alone
+run_kept : (low high : ℕ) (ps : List Put) → IsRun low ps high → IsRun low (changes_of ps) high
+run_kept low high [] r = r
+run_kept low high (p ∷ ps) r = run_kept_if p.ticket low high p (changes_of ps) refl r.0 (run_kept (ticket_or low p.ticket) high ps r.1)
 
 run_popped : (low high : ℕ) (ps : List Put) → IsRun low ps high → IsRun (confirmed_with low ps) (without_first ps) high
 run_popped low high [] r = r
@@ -97,6 +108,15 @@ all_more start events (x ∷ xs) p all w = (all.0, all_more start events xs p al
 all_less : (start : ℕ) (events : List Event) (ps : List Put) → AllWanted start events ps → AllWanted start events (without_first ps)
 all_less start events [] all = tt
 all_less start events (p ∷ ps) all = all.1
+
+all_kept_if : (start : ℕ) (events : List Event) (b : Bool) (p : Put) (rest : List Put) → TicketWanted start events p.ticket p.name p.key
+    → AllWanted start events rest → AllWanted start events (if b then p ∷ rest else rest)
+all_kept_if start events true p rest one all = (one, all)
+all_kept_if start events false p rest one all = all
+
+all_kept : (start : ℕ) (events : List Event) (ps : List Put) → AllWanted start events ps → AllWanted start events (changes_of ps)
+all_kept start events [] all = tt
+all_kept start events (p ∷ ps) all = all_kept_if start events (is_of_change p) p (changes_of ps) all.0 (all_kept start events ps all.1)
 
 -- ---- what is under way
 
@@ -158,6 +178,16 @@ on start events e c ps i o h = record {
 -- a request is done with
 unasked : (start : ℕ) (events : List Event) (c : ℕ) (ps : List Put) (i : ℕ) (o : Option Asked) → Holds start events c ps i o → Holds start events c ps i None
 unasked start events c ps i o h = record { tickets = h.tickets; wanted = h.wanted; first = tt; confirmed = h.confirmed }
+
+-- all that belongs to one connection is forgotten
+forgets : (start : ℕ) (events : List Event) (c : ℕ) (ps : List Put) (i : ℕ) (o : Option Asked) → Holds start events c ps i o
+    → Holds start events c (changes_of ps) i None
+forgets start events c ps i o h = record {
+  tickets = run_kept c i ps h.tickets;
+  wanted = all_kept start events ps h.wanted;
+  first = tt;
+  confirmed = h.confirmed;
+}
 
 wanted_more : (start : ℕ) (done : List Event) (s : State) (now : ℕ) (name : Name) (key : KeyRow) → s ≡ state_after start done
     → Holds start done s.confirmed s.puts s.issued s.asked
@@ -297,7 +327,7 @@ request_holds start events now s (Some (put name key)) is h = record {
 
 tick_holds : (start : ℕ) (events : List Event) (now : ℕ) (s : State) (b : Bool) → Always start events s
     → Always start events (if b then after_loss now s else s)
-tick_holds start events now s true h = unasked start events s.confirmed s.puts s.issued s.asked h
+tick_holds start events now s true h = forgets start events s.confirmed s.puts s.issued s.asked h
 tick_holds start events now s false h = h
 
 take_holds : (start : ℕ) (events : List Event) (s : State) (us : List KdcUpdate) → Always start events s → Always start events (without_update s us)
@@ -313,14 +343,15 @@ holds_behind start done s (wants now name key) is h = wanted_more start done s n
 holds_behind start done s loses_want is h = on start done loses_want s.confirmed s.puts s.issued s.asked h
 holds_behind start done s wants_comparison is h = on start done wants_comparison s.confirmed s.puts s.issued s.asked h
 holds_behind start done s (connects now) is h =
-    on start done (connects now) s.confirmed s.puts s.issued None (unasked start done s.confirmed s.puts s.issued s.asked h)
+    on start done (connects now) s.confirmed (changes_of s.puts) s.issued None (forgets start done s.confirmed s.puts s.issued s.asked h)
 holds_behind start done s (loses now) is h =
-    on start done (loses now) s.confirmed s.puts s.issued None (unasked start done s.confirmed s.puts s.issued s.asked h)
+    on start done (loses now) s.confirmed (changes_of s.puts) s.issued None (forgets start done s.confirmed s.puts s.issued s.asked h)
 holds_behind start done s (asks now) is h =
     request_holds start (done ++ asks now ∷ []) now s (request_by now s) refl (on start done (asks now) s.confirmed s.puts s.issued s.asked h)
 holds_behind start done s (hears ours now byte) is h =
     by_byte (Always start (done ++ hears ours now byte ∷ [])) ours now s byte
-    (on start done (hears ours now byte) s.confirmed s.puts s.issued None (unasked start done s.confirmed s.puts s.issued s.asked h))
+    (on start done (hears ours now byte) s.confirmed (changes_of s.puts) s.issued None
+    (forgets start done s.confirmed s.puts s.issued s.asked h))
     (λ t f x. heard_holds start done s t ours now byte is h x)
 holds_behind start done s (ticks now) is h =
     tick_holds start (done ++ ticks now ∷ []) now s (is_late now s) (on start done (ticks now) s.confirmed s.puts s.issued s.asked h)

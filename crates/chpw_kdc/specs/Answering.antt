@@ -24,8 +24,8 @@ use Rattle.chpw_kdc.specs.declared.update.KdcUpdate.TheVariants as update
 use Rattle.chpw_kdc.specs.Faults.{fault_of_line}
 use Rattle.chpw_kdc.specs.Lines.{answer_of, is_changed}
 use Rattle.chpw_kdc.specs.Mirrors.{Mirror, key_of, judgement}
-use Rattle.chpw_kdc.specs.Paces.{pace_awaiting, pace_failed, pace_succeeded, pace_ended, pace_due}
-use Rattle.chpw_kdc.specs.Tellings.{after_refusal, after_accepted, after_missing, after_failure, after_success}
+use Rattle.chpw_kdc.specs.Paces.{pace_awaiting, pace_failed, pace_postponed, pace_succeeded, pace_ended, pace_due}
+use Rattle.chpw_kdc.specs.Tellings.{after_refusal, after_accepted, after_missing, after_few, after_failure, after_success}
 use Rattle.chpw_kdc.specs.Dialogs.{State}
 
 -- ---- the parts of an answer's effect
@@ -56,9 +56,13 @@ refused_if_held name why s = if is_some (key_of s.mirror name) then refused name
 abbrev pub succeeded : State → State
 succeeded s = record s { asked = None; tellings = after_success s.tellings; pace = pace_succeeded s.pace }
 
--- the request failed, and is made again after a pause
+-- a put failed, and is made again after a pause, before anything else is asked
 abbrev pub retried : List ℕ → ℕ → State → State
 retried text now s = record s { asked = None; tellings = after_failure text s.tellings; pace = pace_failed now s.pace }
+
+-- a list failed, or a look at one name: there is a list again, after a pause
+abbrev pub postponed : List ℕ → ℕ → State → State
+postponed text now s = record s { asked = None; tellings = after_failure text s.tellings; pace = pace_postponed now s.pace }
 
 -- ---- the list
 
@@ -81,16 +85,15 @@ is_many gone of = nat_lt 10 gone && nat_lt (of / 10) gone
 abbrev pub with_lacked : List Name → State → State
 with_lacked lacked s =
     if is_many (length lacked) (length s.mirror) then record s { tellings = after_missing (length lacked) (length s.mirror) s.tellings }
-    else record s { gets = lacked }
+    else record s { gets = lacked; tellings = after_few s.tellings }
 
 abbrev pub after_end : ℕ → ℕ → State → Result State ProtocolFault
 after_end count now s =
     if not (length s.listed == count) then Err fault.WrongCount
     else let t = with_lacked (lacked_in s.listed s.mirror) s in Ok (succeeded (record t { listed = []; pace = pace_ended now t.pace }))
 
--- a list that failed is asked for again
-abbrev pub list_retried : List ℕ → ℕ → State → State
-list_retried text now s = let t = retried text now s in record t { listed = []; pace = pace_due t.pace }
+abbrev pub list_postponed : List ℕ → ℕ → State → State
+list_postponed text now s = record (postponed text now s) { listed = [] }
 
 -- a line of the list
 abbrev pub of_list : (Name → Bool) → ℕ → State → Answer → Result State ProtocolFault
@@ -99,7 +102,7 @@ of_list ours now s (answer.Has name kvno keys) =
 of_list ours now s (answer.Other name why) =
     if is_listed s.listed name then Err fault.NamedTwice else Ok (refused_if_held name why (with_listed name s))
 of_list ours now s (answer.End count) = after_end count now s
-of_list ours now s (answer.ListFailed text) = Ok (list_retried text now s)
+of_list ours now s (answer.ListFailed text) = Ok (list_postponed text now s)
 of_list ours now s a = Err fault.OutOfTurn
 
 -- ---- a name that was asked for alone
@@ -121,11 +124,15 @@ abbrev pub if_named : Bool → State → Result State ProtocolFault
 if_named true s = Ok s
 if_named false s = Err fault.OtherName
 
+-- the next name is asked for; this one is, where the next list lacks it, too
+abbrev pub unknown : List ℕ → ℕ → State → State
+unknown text now s = postponed text now (record s { gets = without_first s.gets })
+
 abbrev pub of_get : (Name → Bool) → ℕ → State → Answer → Result State ProtocolFault
 of_get ours now s (answer.Has name kvno keys) = if_named (is_first s.gets name) (got (compared ours name kvno keys s))
 of_get ours now s (answer.Other name why) = if_named (is_first s.gets name) (got (refused_if_held name why s))
 of_get ours now s (answer.None name) = if_named (is_first s.gets name) (got (with_update (update.Remove name) s))
-of_get ours now s (answer.Failed name text) = if_named (is_first s.gets name) (retried text now s)
+of_get ours now s (answer.Failed name text) = if_named (is_first s.gets name) (unknown text now s)
 of_get ours now s a = Err fault.OutOfTurn
 
 -- ---- a put

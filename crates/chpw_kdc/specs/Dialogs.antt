@@ -1,7 +1,7 @@
 -- What the service says to the agent at the KDC's database: what is kept, and what happens to it when the service tells it
 -- something.
 use Rattle.std.specs.Prelude.{ℕ, ◌+◌, ◌-◌, ◌^◌, min, Bool, true, false, not, ◌&&◌, ◌==◌, is_some, is_none, nat_le, if◌then◌else◌, List, [], ◌∷◌}
-use Rattle.std.specs.Prelude.{◌++◌, length, Option, Some, None}
+use Rattle.std.specs.Prelude.{◌++◌, length, filter, Option, Some, None}
 use Rattle.chpw_rules.specs.declared.name.Name.{Name}
 use Rattle.chpw_record.specs.declared.key.KeyRow.{KeyRow}
 use Rattle.chpw_kdc.specs.declared.pace.Pace.{Pace}
@@ -91,9 +91,16 @@ after_lost_want s = record s { tellings = after_lost_change s.tellings; pace = p
 
 -- ---- the connection
 
--- all that belongs to one connection is forgotten
+-- the puts that changes wait for; the others come from comparisons
+abbrev pub is_of_change : Put → Bool
+is_of_change p = is_some p.ticket
+
+abbrev pub changes_of : List Put → List Put
+changes_of puts = filter is_of_change puts
+
+-- all that belongs to one connection is forgotten, and what a comparison was to put: the next one finds it again, or something newer
 abbrev pub forgotten : State → State
-forgotten s = record s { asked = None; heard = []; listed = []; gets = []; updates = [] }
+forgotten s = record s { puts = changes_of s.puts; asked = None; heard = []; listed = []; gets = []; updates = [] }
 
 abbrev pub after_connect : ℕ → State → State
 after_connect now s = record (forgotten s) { pace = pace_connected now s.pace }

@@ -71,11 +71,16 @@ abbrev pub adoptions_for : (Name → Bool) → Mirror → List Row → List KdcU
 adoptions_for ours mirror [] = []
 adoptions_for ours mirror (row ∷ rows) = adoption_by (name_of row) (judgement_of ours mirror row) ++ adoptions_for ours mirror rows
 
+-- that so many are gone is told, unless it was told of the list before
+abbrev pub IsManyTold : ℕ → ℕ → State → State → Type 0
+IsManyTold gone of s t =
+    (t.tellings.is_many_told ≡ true)
+    × (s.tellings.is_many_told ≡ false → (before : List Notice) × (t.tellings.notices ≡ before ++ TooManyGone gone of ∷ []))
+
 -- the names that the KDC lacks are asked for alone; or they are too many, which is told
 abbrev pub AskedAlone : Bool → List Name → State → State → Type 0
 AskedAlone false names s t = t.gets ≡ names
-AskedAlone true names s t =
-    (t.gets ≡ s.gets) × ((before : List Notice) × (t.tellings.notices ≡ before ++ TooManyGone (length names) (length s.mirror) ∷ []))
+AskedAlone true names s t = (t.gets ≡ s.gets) × IsManyTold (length names) (length s.mirror) s t
 
 -- after the whole list of these rows, which was asked for at this moment
 pub record IsPutRight (ours : Name → Bool) (s : State) (rows : List Row) (count : ℕ) (t : State) : Type 0 where

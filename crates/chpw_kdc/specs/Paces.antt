@@ -55,6 +55,15 @@ pace_failed now p = record p { ask_at = later now p.retry_pause; retry_pause = m
 abbrev pub pace_succeeded : Pace → Pace
 pace_succeeded p = record p { retry_pause = 100 }
 
+-- a list failed, or a look at one name: the next list begins after a pause, which doubles, up to five seconds, and no put waits
+-- for that
+abbrev pub pace_postponed : ℕ → Pace → Pace
+pace_postponed now p = record p {
+  compare_at = max p.compare_at (later now p.retry_pause);
+  retry_pause = min (times p.retry_pause 2) 5000;
+  is_due = true;
+}
+
 -- a list was heard to its end: the next one begins after a second at least, and after ten times as long as this one took
 abbrev pub pace_ended : ℕ → Pace → Pace
 pace_ended now p = record p { compare_at = later now (max (times (now - p.began) 10) 1000); call_pause = 100 }

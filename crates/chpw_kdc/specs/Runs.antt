@@ -15,7 +15,7 @@ use Rattle.chpw_kdc.specs.Lines.{Request, list_keys, get, put, answer_of, is_say
 use Rattle.chpw_kdc.specs.Mirrors.{key_of, may_adopt, adopted}
 use Rattle.chpw_kdc.specs.Dialogs.{State, at_start, after_hold, after_none, after_full_table, after_want, after_want_comparison, after_lost_want}
 use Rattle.chpw_kdc.specs.Dialogs.{after_connect, after_loss, after_ask, after_tick, after_take, after_decision, after_telling}
-use Rattle.chpw_kdc.specs.Dialogs.{request_by, is_late, first_update}
+use Rattle.chpw_kdc.specs.Dialogs.{changes_of, request_by, is_late, first_update}
 use Rattle.chpw_kdc.specs.Answering.{after_byte, after_bytes, is_first, is_put_for, is_many, lacked_in, without_first}
 
 -- ---- what happens
@@ -211,7 +211,7 @@ FewAreAsked = (s : State) (e : Event) → AsksFew s (behind s e)
 -- no key, no change on its way and no ticket is another
 pub record SameKeys (s t : State) : Type 0 where
   pub mirror : t.mirror ≡ s.mirror
-  pub puts : t.puts ≡ s.puts
+  pub puts : changes_of t.puts ≡ changes_of s.puts
   pub issued : t.issued ≡ s.issued
   pub confirmed : t.confirmed ≡ s.confirmed
 

@@ -11,7 +11,8 @@ use Rattle.chpw_kdc.specs.declared.update.Notice.TheVariants.{Lost, Refused, Too
 use Rattle.chpw_kdc.specs.declared.update.Refusal.{Refusal}
 
 -- what is to be told, the reason that was told last for each name, the last refusal; a change was lost and that isn't told
--- yet; a failure was told and nothing has succeeded since; it was told that the table is full, and no name has gone since
+-- yet; a failure was told and nothing has succeeded since; it was told that the table is full, and no name has gone since; it was
+-- told that many names are gone, and the lists since were so, too
 pub record Tellings : Type 0 where
   pub notices : List Notice
   pub told : List (Name × Reason)
@@ -19,9 +20,18 @@ pub record Tellings : Type 0 where
   pub is_lost : Bool
   pub is_failing : Bool
   pub is_full_told : Bool
+  pub is_many_told : Bool
 
 abbrev pub nothing_told : Tellings
-nothing_told = record { notices = []; told = []; refusal = None; is_lost = false; is_failing = false; is_full_told = false }
+nothing_told = record {
+  notices = [];
+  told = [];
+  refusal = None;
+  is_lost = false;
+  is_failing = false;
+  is_full_told = false;
+  is_many_told = false;
+}
 
 abbrev pub same_reason : Reason → Reason → Bool
 same_reason reason.Reserved reason.Reserved = true
@@ -54,8 +64,14 @@ after_refusal name why t = with_refusal name why (if is_told t name why then t e
 abbrev pub after_accepted : Name → Tellings → Tellings
 after_accepted name t = record t { told = remove_entry (is_at (name_cmp name)) t.told }
 
+-- a list lacks many names: told unless that was told, and the lists since were so, too
 abbrev pub after_missing : ℕ → ℕ → Tellings → Tellings
-after_missing gone of t = record t { notices = t.notices ++ TooManyGone gone of ∷ [] }
+after_missing gone of t =
+    if t.is_many_told then t else record t { notices = t.notices ++ TooManyGone gone of ∷ []; is_many_told = true }
+
+-- a list lacks few
+abbrev pub after_few : Tellings → Tellings
+after_few t = record t { is_many_told = false }
 
 -- a failure is told unless one was told and nothing has succeeded since, or another program has the database locked
 abbrev pub after_failure : List ℕ → Tellings → Tellings

@@ -1,7 +1,6 @@
-//! Whether there is something for the desk, another comparison, and the word of a reason.
+//! Whether there is something for the desk, and the word of a reason.
 ghost use Rattle.std.specs.Prelude.{◌≡◌, not, ◌==◌, length, Ok};
 ghost use Rattle.chpw_kdc.specs.Lines.{reason_in};
-ghost use Rattle.chpw_kdc.specs.Paces.{pace_due};
 ghost use Rattle.chpw_kdc.specs.Spelling.{reason_word};
 
 use crate::answer::Reason;
@@ -29,12 +28,5 @@ impl KdcDialog {
         ensures value { result ≡ not (length self.now.updates == 0) }
     {
         !self.updates.is_empty()
-    }
-
-    /// Table and KDC are to be compared again, since the desk has refused what the KDC said.
-    pub fn compare_again(&mut self)
-        ensures step { self.new ≡ record self.old { pace = pace_due self.old.pace } }
-    {
-        self.pace.is_due = true;
     }
 }

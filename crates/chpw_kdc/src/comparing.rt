@@ -43,9 +43,8 @@ impl KdcDialog {
             }
             Answer::End { count } => self.end_list(count, now),
             Answer::ListFailed { text } => {
-                self.retry(text, now)?;
+                self.postpone(text, now)?;
                 self.listed.clear();
-                self.pace.is_due = true;
                 Ok(())
             }
             _ => Err(ProtocolFault::OutOfTurn),
@@ -116,6 +115,7 @@ impl KdcDialog {
             self.tellings.miss(gone, of)?;
         } else {
             self.gets = lacked;
+            self.tellings.miss_few();
         }
         self.listed.clear();
         self.pace.end(now);

@@ -5,7 +5,7 @@ ghost use Rattle.chpw_kdc.specs.Lines.{is_sayable};
 ghost use Rattle.chpw_kdc.specs.Mirrors.{key_of, newest};
 ghost use Rattle.chpw_kdc.specs.Dialogs.{at_start, after_hold, after_none, after_full_table, after_want, after_want_comparison, after_lost_want};
 ghost use Rattle.chpw_kdc.specs.Dialogs.{forgotten, after_connect, after_loss, first_update, after_take, after_decision};
-ghost use Rattle.chpw_kdc.specs.Dialogs.{after_telling, is_in_reach};
+ghost use Rattle.chpw_kdc.specs.Dialogs.{after_telling, changes_of, is_in_reach};
 ghost use Rattle.chpw_kdc.specs.Tellings.{next_notice};
 ghost use Rattle.chpw_kdc.specs.declared.fault.HoldFault.TheVariants.{LongName, Memory};
 
@@ -178,7 +178,7 @@ impl KdcDialog {
     }
 
     /// A change was accepted: the KDC is to get this key of the name. The change's ticket, one more than the last one;
-    /// `confirmed` says when it has arrived. If the mirror has a newer version, that one is put in its place.
+    /// `confirmed` says when it has arrived. It is put whatever newer key the mirror has.
     ///
     /// Refused with nothing changed as `LongName`, `NoTicket` or `Memory`. After `Memory` the caller hands the key to
     /// `hold`, which takes no memory for a name that the mirror has, and calls `want_lost`; there is no ticket then.
@@ -209,7 +209,8 @@ impl KdcDialog {
         Ok(ticket)
     }
 
-    /// Table and KDC are to be compared: the table has changed otherwise than by what `want` told.
+    /// Table and KDC are to be compared: the table has changed otherwise than by what `want` told, or the desk has refused
+    /// what the KDC said.
     pub fn want_comparison(&mut self)
         ensures step { self.new ≡ after_want_comparison self.old }
     {
@@ -287,9 +288,9 @@ impl KdcDialog {
         self.pace.connect(now);
     }
 
-    /// The connection has ended, or couldn't be made. What was asked is asked again over the next one, puts before the
-    /// next comparison; what the agent said that the desk wasn't asked yet is forgotten. No key of the mirror and no
-    /// ticket changes.
+    /// The connection has ended, or couldn't be made. The changes that are on their way are put over the next one, before the
+    /// next comparison; what the last one was to put is forgotten, since somebody may set a newer key meanwhile, and so is what
+    /// the agent said that the desk wasn't asked yet. No key of the mirror and no ticket changes.
     pub fn lose(&mut self, now: u64)
         ensures step { self.new ≡ after_loss now self.old }
     {
@@ -297,10 +298,11 @@ impl KdcDialog {
         self.pace.lose(now);
     }
 
-    // Forgets all that belongs to one connection.
+    // Forgets all that belongs to one connection, and what a comparison was to put.
     fn forget(&mut self)
         ensures step { self.new ≡ forgotten self.old }
     {
+        keep_changes(&mut self.puts);
         self.asked = None;
         self.heard.clear();
         self.listed.clear();
@@ -348,4 +350,11 @@ impl KdcDialog {
             refusal: self.tellings.refusal(),
         }
     }
+}
+
+// Drops the puts that no change waits for.
+fn keep_changes(puts: &mut VecDeque<Put>)
+    ensures value { puts.new.items ≡ changes_of puts.old.items }
+{
+    puts.retain(|put| put.ticket.is_some());
 }

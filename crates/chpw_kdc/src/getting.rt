@@ -3,7 +3,7 @@ ghost use Rattle.std.specs.Prelude.{◌≡◌, OnOk, OnErr, IfErr, Ok, true, fal
 ghost use Rattle.chpw_kdc.specs.declared.fault.ProtocolFault.TheVariants.{OtherName};
 ghost use Rattle.chpw_kdc.specs.Faults.{IsFault};
 ghost use Rattle.chpw_kdc.specs.Answers.{SameLost};
-ghost use Rattle.chpw_kdc.specs.Answering.{of_get, is_first, retried, succeeded};
+ghost use Rattle.chpw_kdc.specs.Answering.{of_get, is_first, postponed, succeeded};
 
 use crate::answer::Answer;
 use crate::dialog::KdcDialog;
@@ -40,7 +40,8 @@ impl KdcDialog {
             }
             Answer::Failed { name, text } => {
                 self.is_asked_for(&name)?;
-                self.retry(text, now)?;
+                self.postpone(text, now)?;
+                self.gets.pop_front();
                 return Ok(());
             }
             _ => return Err(ProtocolFault::OutOfTurn),
@@ -62,14 +63,14 @@ impl KdcDialog {
         }
     }
 
-    // The request failed, and is made again after a pause.
-    pub(crate) fn retry(&mut self, text: Items<u8>, now: u64) -> Result<(), AllocError>
-        ensures step { OnOk result (self.new ≡ retried text now self.old) }
+    // A list failed, or a look at one name: there is a list again, after a pause.
+    pub(crate) fn postpone(&mut self, text: Items<u8>, now: u64) -> Result<(), AllocError>
+        ensures step { OnOk result (self.new ≡ postponed text now self.old) }
         ensures unchanged { OnErr result (self.new ≡ self.old) }
     {
         self.tellings.fail(text)?;
         self.asked = None;
-        self.pace.fail(now);
+        self.pace.postpone(now);
         Ok(())
     }
 

@@ -10,8 +10,8 @@ pub fn only_what_was_told()
     ensures { PutsAreTold }
 {}
 
-/// A ticket is confirmed only if the put of its change, or of a later one of that name, was answered by a whole line,
-/// over the connection that it was asked on.
+/// A ticket is confirmed only if the put of its own change's key was answered by a whole line, over the connection that it was
+/// asked on.
 #[tactic(auto, using(crate::proofs::TruthLemmas::truthful))]
 pub fn only_what_was_answered()
     ensures { Truthful }
@@ -42,7 +42,6 @@ pub fn never_in_mass()
 {}
 
 /// After a loss or a fault no key and no confirmation is another.
-#[tactic(auto, using(crate::proofs::FaultLemmas::faults_change_nothing))]
 pub fn nothing_by_a_fault()
     ensures { FaultsChangeNothing }
 {}

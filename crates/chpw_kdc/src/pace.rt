@@ -1,7 +1,7 @@
 //! When the agent is called, asked and asked again.
 ghost use Rattle.std.specs.Prelude.{◌≡◌};
 ghost use Rattle.chpw_kdc.specs.Paces.{pace_at_start, pace_connected, pace_lost, pace_awaiting, pace_begun, pace_failed};
-ghost use Rattle.chpw_kdc.specs.Paces.{pace_succeeded, pace_ended, may_ask};
+ghost use Rattle.chpw_kdc.specs.Paces.{pace_postponed, pace_succeeded, pace_ended, may_ask};
 
 /// The first pause before another try, in milliseconds.
 pub const FIRST_PAUSE: u64 = 100;
@@ -110,12 +110,23 @@ impl Pace {
         self.late_at = now.saturating_add(ANSWER_TIME);
     }
 
-    /// The request failed. The next pause is twice as long, up to five seconds.
+    /// A put failed: nothing is asked before it is put again, after a pause. The next pause is twice as long, up to five seconds.
     pub fn fail(&mut self, now: u64)
         ensures value { self.new ≡ pace_failed now self.old }
     {
         self.ask_at = now.saturating_add(self.retry_pause);
         self.retry_pause = self.retry_pause.saturating_mul(2).min(LONGEST_RETRY_PAUSE);
+    }
+
+    /// A list failed, or a look at one name: the next list begins after a pause. The next pause is twice as long, up to five
+    /// seconds.
+    pub fn postpone(&mut self, now: u64)
+        ensures value { self.new ≡ pace_postponed now self.old }
+    {
+        let again = now.saturating_add(self.retry_pause);
+        self.compare_at = self.compare_at.max(again);
+        self.retry_pause = self.retry_pause.saturating_mul(2).min(LONGEST_RETRY_PAUSE);
+        self.is_due = true;
     }
 
     /// The request was answered.

@@ -3,7 +3,7 @@ ghost use Rattle.std.specs.Prelude.{◌≡◌, OnOk, OnErr, IfErr, Ok, true, fal
 ghost use Rattle.chpw_kdc.specs.declared.fault.ProtocolFault.TheVariants.{OtherName};
 ghost use Rattle.chpw_kdc.specs.Faults.{IsFault};
 ghost use Rattle.chpw_kdc.specs.Answers.{SameLost};
-ghost use Rattle.chpw_kdc.specs.Answering.{of_put, is_put_for, is_newest, lifted, has_version, popped};
+ghost use Rattle.chpw_kdc.specs.Answering.{of_put, is_put_for, is_newest, lifted, has_version, popped, retried};
 ghost use Rattle.chpw_kdc.specs.Mirrors.{key_of};
 
 use crate::answer::Answer;
@@ -11,7 +11,7 @@ use crate::dialog::KdcDialog;
 use crate::fault::ProtocolFault;
 use crate::update::KdcUpdate;
 use chpw_record::KeyRow;
-use chpw_rules::Name;
+use chpw_rules::{Items, Name};
 use std::alloc::AllocError;
 
 impl KdcDialog {
@@ -55,6 +55,17 @@ impl KdcDialog {
         };
         self.settle(is_written);
         self.succeed();
+        Ok(())
+    }
+
+    // The put failed, and is made again after a pause, before anything else is asked.
+    fn retry(&mut self, text: Items<u8>, now: u64) -> Result<(), AllocError>
+        ensures step { OnOk result (self.new ≡ retried text now self.old) }
+        ensures unchanged { OnErr result (self.new ≡ self.old) }
+    {
+        self.tellings.fail(text)?;
+        self.asked = None;
+        self.pace.fail(now);
         Ok(())
     }
 

@@ -1,7 +1,7 @@
 //! What is to be told, and what was told already.
 ghost use Rattle.std.specs.Prelude.{◌≡◌, OnOk, OnErr};
 ghost use Rattle.std.specs.Option.{option_copied};
-ghost use Rattle.chpw_kdc.specs.Tellings.{nothing_told, after_refusal, after_told, is_told, after_accepted, after_missing};
+ghost use Rattle.chpw_kdc.specs.Tellings.{nothing_told, after_refusal, after_told, is_told, after_accepted, after_missing, after_few};
 ghost use Rattle.chpw_kdc.specs.Tellings.{after_failure, after_success, after_lost_change, after_full, after_room, next_notice, after_notice};
 
 use crate::answer::Reason;
@@ -27,6 +27,8 @@ pub(crate) struct Tellings {
     is_failing: bool,
     // It was told that the table is full, and no name has gone since.
     is_full_told: bool,
+    // It was told that many names are gone, and the lists since were so, too.
+    is_many_told: bool,
 }
 
 impl Model for Tellings {
@@ -41,6 +43,7 @@ impl Model for Tellings {
       is_lost = t.is_lost;
       is_failing = t.is_failing;
       is_full_told = t.is_full_told;
+      is_many_told = t.is_many_told;
     } };
 }
 
@@ -55,6 +58,7 @@ impl Tellings {
             is_lost: false,
             is_failing: false,
             is_full_told: false,
+            is_many_told: false,
         }
     }
 
@@ -129,13 +133,24 @@ impl Tellings {
         self.told.remove(name);
     }
 
-    /// Many names are gone from the KDC.
+    /// A list lacks many names. It is told unless that was told, and the lists since were so, too.
     pub fn miss(&mut self, gone: usize, of: usize) -> Result<(), AllocError>
         ensures step { OnOk result (self.new ≡ after_missing gone of self.old) }
         ensures unchanged { OnErr result (self.new ≡ self.old) }
     {
+        if self.is_many_told {
+            return Ok(());
+        }
         self.notices.push_back(Notice::TooManyGone { gone, of })?;
+        self.is_many_told = true;
         Ok(())
+    }
+
+    /// A list lacks few names.
+    pub fn miss_few(&mut self)
+        ensures step { self.new ≡ after_few self.old }
+    {
+        self.is_many_told = false;
     }
 
     /// A request failed. It is told unless nothing has succeeded since a failure was told, or another program has the
