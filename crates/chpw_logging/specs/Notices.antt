@@ -22,7 +22,7 @@ notice_line (KdcLacks socket gone of) =
     socket.now ++ (codes ": the KDC lacks " ++ (decimal gone ++ (codes " of " ++ (decimal of ++ codes " principals; none is removed"))))
 notice_line (KdcTableFull socket name) =
     socket.now ++ (codes ": " ++ (name.now ++ codes " is not adopted from the KDC: there are 10000 principals already"))
-notice_line (KdcLost socket) = socket.now ++ codes ": memory ran out for a change on its way to the KDC; both are compared"
+notice_line (KdcLost socket) = socket.now ++ codes ": a change was lost on its way to the KDC; both are compared"
 notice_line (Shared file) = file.now ++ codes ": other users may read or write it"
 notice_line ManagerNotTold = codes "NOTIFY_SOCKET: the service manager could not be told that the service is ready"
 notice_line (Lacked count) = codes "principals missing from the configuration: "

@@ -106,7 +106,7 @@ impl fmt::Display for Notice<'_> {
             Notice::KdcLost(socket) => {
                 write!(
                     f,
-                    "{socket}: memory ran out for a change on its way to the KDC; both are compared"
+                    "{socket}: a change was lost on its way to the KDC; both are compared"
                 )
             }
             Notice::Shared(file) => write!(f, "{file}: other users may read or write it"),

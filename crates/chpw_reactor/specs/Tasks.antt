@@ -5,6 +5,7 @@ use Rattle.std.specs.Option.{option_map}
 use Rattle.chpw_table.specs.declared.updating.KdcUpdate.{KdcUpdate}
 use Rattle.chpw_table.specs.declared.updating.KdcUpdate.TheVariants as table
 use Rattle.chpw_table.specs.declared.updating.UpdateVerdict.{UpdateVerdict}
+use Rattle.chpw_table.specs.declared.updating.UpdateVerdict.TheVariants.{NotNewer}
 use Rattle.chpw_book.specs.declared.updating.DeskUpdateFault.{DeskUpdateFault}
 use Rattle.chpw_book.specs.declared.updating.DeskUpdateFault.TheVariants.{Full, TooMany, Composite, NoRoom, Memory}
 use Rattle.chpw_rules.specs.declared.name.Name.{Name}
@@ -39,8 +40,10 @@ IsTaskOf said decides (task.Undecided taken) = decides ≡ false
 IsTaskOf None decides (task.Update u) = ⊥
 IsTaskOf (Some s) decides (task.Update u) = u.update ≡ table_update s
 
--- what came of it: another try may take what the next history has room for, or memory that there is then
+-- what came of it: another try may take what the next history has room for, or memory that there is then; and what wasn't newer
+-- than what the table has is judged again by that
 abbrev pub end_of : Result UpdateVerdict DeskUpdateFault → UpdateEnd
+end_of (Ok NotNewer) = end.Postponed
 end_of (Ok verdict) = end.Over
 end_of (Err Full) = end.Postponed
 end_of (Err NoRoom) = end.Postponed

@@ -12,8 +12,11 @@ pub trait KdcTerms {
     /// A connection to it; none if nobody listens.
     fn connect(&mut self) -> Option<UnixStream>;
 
-    /// A connection was made.
+    /// The agent has answered over a new connection: it has sent something, and nothing that it may not.
     fn connected(&mut self);
+
+    /// The agent has confirmed a change.
+    fn confirmed(&mut self);
 
     /// The connection has ended, or couldn't be made; for this reason if the agent has said what it may not.
     fn lost(&mut self, fault: Option<ProtocolFault>);
@@ -40,6 +43,8 @@ impl KdcTerms for NoKdc {
     }
 
     fn connected(&mut self) {}
+
+    fn confirmed(&mut self) {}
 
     fn lost(&mut self, _fault: Option<ProtocolFault>) {}
 

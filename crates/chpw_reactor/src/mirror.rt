@@ -1,9 +1,8 @@
 //! What is told of a table to the dialog with the agent at the KDC's database.
-ghost use Rattle.std.specs.Prelude.{◌≡◌, ℕ, IfSome, Some};
+ghost use Rattle.std.specs.Prelude.{◌≡◌, ℕ, IfSome, None, Some};
 ghost use Rattle.chpw_table.specs.State.{keys_held};
 ghost use Rattle.chpw_book.specs.Newest.{newest_of};
-ghost use Rattle.chpw_kdc.specs.Dialogs.{State as Dialog, at_start};
-ghost use Rattle.chpw_transfers.specs.Kdc.{compared_anew};
+ghost use Rattle.chpw_kdc.specs.Dialogs.{State as Dialog, after_want_comparison, at_start};
 ghost use Rattle.chpw_reactor.specs.Tasks.{IsNewestTold, IsTableTold};
 
 use crate::engine::{Engine, milliseconds};
@@ -25,13 +24,14 @@ impl Engine {
 fn open_with(state: &mut State, table: &Table, names: NamePatterns)
     ensures names { state.new.names ≡ Some names }
     ensures told { IfSome state.old.kdc (λ old. (told : Dialog) × IsTableTold table.now.state old told
-        × (state.new.kdc ≡ Some (compared_anew told))) }
+        × (state.new.kdc ≡ Some (after_want_comparison told))) }
+    ensures none { state.old.kdc ≡ None → state.new.kdc ≡ None }
     ensures rest { state.new ≡ record state.old { kdc = state.new.kdc; names = state.new.names } }
 {
     state.names = Some(names);
     if let Some(kdc) = &mut state.kdc {
         hold_table(kdc, table);
-        kdc.compare_again();
+        kdc.want_comparison();
     }
 }
 

@@ -31,6 +31,8 @@ pub(crate) struct KdcLink<F> {
     pub stream: Option<UnixStream>,
     /// Whether something may be read there.
     pub is_reported: bool,
+    /// Whether the agent has answered over this connection.
+    pub has_answered: bool,
 }
 
 impl<F: KdcTerms + Drop> KdcLink<F> {
@@ -42,6 +44,7 @@ impl<F: KdcTerms + Drop> KdcLink<F> {
             terms,
             stream: None,
             is_reported: false,
+            has_answered: false,
         }
     }
 
@@ -50,6 +53,7 @@ impl<F: KdcTerms + Drop> KdcLink<F> {
         ensures open { result ≡ is_some self.new.stream }
     {
         self.stream = None;
+        self.has_answered = false;
         if let Some(mut stream) = self.terms.connect() {
             let both = Interest::READABLE | Interest::WRITABLE;
             if registry.register(&mut stream, KDC, both).is_ok() {
@@ -133,7 +137,6 @@ impl<
             if let Some(kdc) = &mut self.engine.hub.lock(self.rt).state.kdc {
                 kdc.connect(now);
             }
-            self.link.terms.connected();
         } else {
             self.lose(None);
         }
@@ -171,8 +174,21 @@ impl<
     // The agent sent these bytes. One that says what it may not is disconnected.
     fn hear_bytes(&mut self, bytes: &[u8]) {
         let now = milliseconds(self.rt);
+        let before = self.confirmed();
         let heard = self.engine.hub.lock(self.rt).state.hear(bytes, now);
+        if heard.is_ok() && !self.link.has_answered {
+            self.link.has_answered = true;
+            self.link.terms.connected();
+        }
         self.note_heard(heard);
+        if before < self.confirmed() {
+            self.link.terms.confirmed();
+        }
+    }
+
+    // The last ticket that is confirmed. Only this thread confirms any.
+    fn confirmed(&self) -> u64 {
+        self.engine.hub.lock(self.rt).state.confirmed()
     }
 
     // What the agent said meant this.

@@ -60,14 +60,16 @@ pub(crate) fn note_update(state: &mut State, turn: UpdateTurn)
     state.updated(name_of(update), newest, end_of(outcome));
 }
 
-// What came of it. Another try may take what the next history has room for, or memory that there is then.
+// What came of it. Another try may take what the next history has room for, or memory that there is then; and what wasn't newer
+// than what the table has is judged again by that.
 fn end_of(outcome: Result<UpdateVerdict, DeskUpdateFault>) -> UpdateEnd
     ensures value { result ≡ end_of outcome }
 {
     match outcome {
-        Ok(_) | Err(DeskUpdateFault::Composite) => UpdateEnd::Over,
-        Err(DeskUpdateFault::Full | DeskUpdateFault::NoRoom | DeskUpdateFault::Memory) =>
+        Ok(UpdateVerdict::NotNewer)
+        | Err(DeskUpdateFault::Full | DeskUpdateFault::NoRoom | DeskUpdateFault::Memory) =>
             UpdateEnd::Postponed,
+        Ok(_) | Err(DeskUpdateFault::Composite) => UpdateEnd::Over,
         Err(DeskUpdateFault::TooMany) => UpdateEnd::TableFull,
     }
 }

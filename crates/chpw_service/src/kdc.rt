@@ -112,8 +112,11 @@ impl<R: Net<Listener = TcpListener, Stream = TcpStream> + Wait + Eprint, T: Cloc
 
     fn connected(&mut self) {
         self.is_down_told = false;
-        self.is_late_told = false;
         self.changed = time_of(self.clock.now());
+    }
+
+    fn confirmed(&mut self) {
+        self.is_late_told = false;
     }
 
     fn lost(&mut self, fault: Option<ProtocolFault>) {

@@ -8,10 +8,9 @@ use Rattle.chpw_rules.specs.declared.pattern.NamePatterns.{NamePatterns}
 use Rattle.chpw_record.specs.declared.key.KeyRow.{KeyRow}
 use Rattle.chpw_record.specs.declared.record.Change.{Change}
 use Rattle.chpw_kdc.specs.declared.fault.ProtocolFault.{ProtocolFault}
-use Rattle.chpw_kdc.specs.Dialogs.{State, after_hold, after_none, after_full_table, after_want, after_lost_want, after_decision, is_in_reach}
+use Rattle.chpw_kdc.specs.Dialogs.{State, after_hold, after_none, after_full_table, after_want, after_want_comparison, after_lost_want, after_decision, is_in_reach}
 use Rattle.chpw_kdc.specs.Answering.{after_bytes}
 use Rattle.chpw_kdc.specs.Answers.{FaultsIn}
-use Rattle.chpw_kdc.specs.Paces.{pace_due}
 use Rattle.chpw_connection.specs.Confirming.{Confirms, Withdraws}
 use Rattle.chpw_connection.specs.Stages.{failed, released}
 use Rattle.chpw_connections.specs.Confirming.{EndsOverdue}
@@ -74,7 +73,7 @@ abbrev pub LeavesChange : Bool → ℕ → Option State → KdcChange → Option
 LeavesChange needed now None c new r = (new ≡ None) × (r ≡ release.Now)
 LeavesChange needed now (Some s) change.Nothing new r = (new ≡ Some s) × (r ≡ release.Now)
 LeavesChange needed now (Some s) (change.Key c) new r = (t : State) × (new ≡ Some t) × LeavesKey needed now c s t r
-LeavesChange needed now (Some s) change.Lost new r = (new ≡ Some (after_lost_want s)) × (r ≡ release_of_lost needed)
+LeavesChange needed now (Some s) change.Lost new r = (new ≡ Some (after_lost_want s)) × (r ≡ release.Never)
 
 -- ---- whether requests are decided
 
@@ -119,18 +118,14 @@ abbrev pub IsToldTo : Name → Option KeyRow → State → State → Type 0
 IsToldTo name None s t = t ≡ after_none name s
 IsToldTo name (Some key) s t = (t ≡ after_hold name key s) ⊎ (t ≡ after_lost_want s)
 
--- they are compared anew
-abbrev pub compared_anew : State → State
-compared_anew s = record s { pace = pace_due s.pace }
-
 -- the table has no room for the name, which is told; or memory ran out for that, and they are compared anew
 abbrev pub IsToldFull : Name → State → State → Type 0
-IsToldFull name s t = (t ≡ after_full_table name (after_none name s)) ⊎ (t ≡ compared_anew (after_none name s))
+IsToldFull name s t = (t ≡ after_full_table name (after_none name s)) ⊎ (t ≡ after_want_comparison (after_none name s))
 
 -- what came of an update is told
 abbrev pub IsEnded : Name → Option KeyRow → UpdateEnd → State → State → Type 0
 IsEnded name newest end.Over s t = IsToldTo name newest s t
-IsEnded name newest end.Postponed s t = (u : State) × IsToldTo name newest s u × (t ≡ compared_anew u)
+IsEnded name newest end.Postponed s t = (u : State) × IsToldTo name newest s u × (t ≡ after_want_comparison u)
 IsEnded name newest end.TableFull s t = IsToldFull name s t
 
 -- a worker has decided what the KDC said, or it was refused

@@ -100,9 +100,19 @@ impl State {
             KdcChange::Nothing => Release::Now,
             KdcChange::Lost => {
                 kdc.want_lost();
-                release_of_lost(is_needed)
+                Release::Never
             }
             KdcChange::Key(change) => want(kdc, change, is_needed, now),
+        }
+    }
+
+    /// The last ticket that is confirmed; 0 without a KDC.
+    pub fn confirmed(&self) -> u64
+        ensures value { result ≡ confirmed_in self.now.kdc }
+    {
+        match &self.kdc {
+            None => 0,
+            Some(kdc) => kdc.confirmed(),
         }
     }
 
@@ -191,7 +201,7 @@ impl State {
                 UpdateEnd::Over => tell(kdc, name, newest),
                 UpdateEnd::Postponed => {
                     tell(kdc, name, newest);
-                    kdc.compare_again();
+                    kdc.want_comparison();
                 }
                 UpdateEnd::TableFull => tell_full(kdc, name),
             }
@@ -301,6 +311,6 @@ fn tell_full(kdc: &mut KdcDialog, name: Name)
 {
     kdc.hold_none(&name);
     if kdc.tell_full(name).is_err() {
-        kdc.compare_again();
+        kdc.want_comparison();
     }
 }
