@@ -4,15 +4,20 @@
 
 makes the principals in a KDC's database, then asks the agent for all of their keys, and to write one after the other over one
 connection, as the service does. Every tenth of them is compared with what the KDC's own tools say. Then a service that knows
-none of the principals takes them all. At last changes.py has clients change passwords: at the service with a KDC and without
+none of the principals takes them all, and, when the agent has been away, compares them all; a stranger asks meanwhile, and the
+longest of the answers is told. At last changes.py has clients change passwords: at the service with a KDC and without
 one, and at MIT's kadmind. The status is 1 where the service with a KDC makes fewer changes a second than kadmind.
 """
 
+import concurrent.futures
+import contextlib
+import itertools
 import os
 import pathlib
 import statistics
 import subprocess
 import sys
+import threading
 import time
 
 TOP = pathlib.Path(__file__).resolve().parent.parent
@@ -21,6 +26,7 @@ sys.path.insert(0, str(TOP / "kdc"))
 import changes
 import realms
 from agent_process import hexed
+from asking import Connection, request_now
 from cases import Cases, Passed
 from daemons import comes
 from own_configuration import configured
@@ -29,6 +35,8 @@ from served import Served
 
 # seconds that the principals may take to be made, and to be taken: each wants two syncs
 PATIENCE = 600
+# of nobody's: each of its requests is decided, and refused
+STRANGER = "nobody"
 # beside them the realm has these
 OTHERS = {"admin", *realms.STRANGERS}
 
@@ -100,17 +108,52 @@ def measure(cases, agent, versions, names, count):
     return sorted(times)
 
 
-def taken(cases, count):
-    """Seconds that a service without a principal takes to have those of the KDC."""
+def asked(port, over):
+    """The longest answer to a request that is refused, in milliseconds: one after the other, until it is over."""
+    longest = 0
+    for number in itertools.count(1):
+        request = request_now(STRANGER, "Pass-1", number, old=True)
+        with contextlib.closing(Connection(port)) as connection:
+            begun = time.monotonic()
+            connection.send(request)
+            if connection.reply() is None:
+                raise RuntimeError("a request isn't answered")
+            longest = max(longest, 1000 * (time.monotonic() - begun))
+        if over.is_set():
+            return longest
+
+
+def meanwhile(served, is_done, what):
+    """Seconds until that is done, and the longest answer meanwhile."""
+    over, begun = threading.Event(), time.monotonic()
+    with concurrent.futures.ThreadPoolExecutor(1) as pool:
+        longest = pool.submit(asked, served.server.port, over)
+        try:
+            if not comes(is_done, PATIENCE):
+                raise RuntimeError(f"{what}: {served.status()}")
+            took = time.monotonic() - begun
+        finally:
+            over.set()
+        return f"{took:.1f} s, longest answer meanwhile {longest.result():.0f} ms"
+
+
+def taken(cases, names):
+    """How long a service without a principal takes to have those of the KDC, and to compare them all with it once the agent has been
+    away: until it has removed one that was deleted there, which it asks for when it has heard the list to its end."""
     served = Served(cases.realm, cases.program, "taking", changes.WAIT)
     served.configure(configured({}, 3))
+    count, gone = str(len(names) + len(OTHERS)), names[-1]
     try:
         served.begin_agent()
-        begun = time.monotonic()
         served.start()
-        if not comes(lambda: served.status().get("principals") == str(count), PATIENCE):
-            raise RuntimeError(f"the service doesn't have the KDC's principals: {served.status()}")
-        return time.monotonic() - begun
+        first = meanwhile(served, lambda: served.status().get("principals") == count, "the service lacks principals")
+        served.end_agent()
+        cases.realm.remove(gone)
+        served.begin_agent()
+        if not comes(lambda: served.kdc() == "connected", PATIENCE):
+            raise RuntimeError(f"the agent isn't found: {served.status()}")
+        again = meanwhile(served, lambda: f"removed {gone}" in served.log.read_text(), "both sides aren't compared")
+        return first, again
     finally:
         served.end()
 
@@ -143,9 +186,11 @@ def main():
             versions = versions_of(agent, names)
             listed = time.monotonic() - begun
             times = measure(cases, agent, versions, names[3 * max(changes.CLIENTS) :], count)
-        print(f"{realm.KIND}: {principals} principals, a list of all keys {listed:.1f} s, in step with a service without them "
-              f"after {taken(cases, principals + len(OTHERS)):.1f} s; {count} changes: median, 99th and longest from the request "
-              f"to the answer {spread(times)}; a sync of this disk takes {flushes(realm.folder):.1f} ms", flush=True)
+        print(f"{realm.KIND}: {principals} principals, a list of all keys {listed:.1f} s; {count} changes: median, 99th and longest "
+              f"from the request to the answer {spread(times)}; a sync of this disk takes {flushes(realm.folder):.1f} ms", flush=True)
+        first, again = taken(cases, names)
+        print(f"{realm.KIND}: a service that lacks them has them all after {first}; one that has them has compared them all after "
+              f"{again}", flush=True)
         sys.exit(0 if rates(cases, versions, rounds) else 1)
 
 

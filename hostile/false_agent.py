@@ -3,6 +3,7 @@
 import contextlib
 import select
 import socket
+import subprocess
 
 from changepw_client import string_to_key
 from serving import PATIENCE, Watch
@@ -26,6 +27,22 @@ def keys_of(name, password):
 def listed(*names):
     """The answer to `list keys` of a KDC that has these names as the realm began."""
     return "".join(f"has {hexed(name)} 1 {KEYS}\n" for name in names) + f"end {len(names)}\n"
+
+
+def keys_held(case):
+    """A line for each key, as the configuration and the journal have them."""
+    files = ["--config", case.server.configuration, "--journal", case.server.journal]
+    done = subprocess.run([case.server.program, "table", *files, "--as", "keys"], capture_output=True, text=True, check=True)
+    return done.stdout.splitlines()
+
+
+def table(case):
+    """The newest version of each name."""
+    found = {}
+    for line in keys_held(case):
+        name, kvno = line.split()[:2]
+        found.setdefault(name.removesuffix("@EXAMPLE.COM"), int(kvno))
+    return found
 
 
 class Agent:

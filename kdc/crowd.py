@@ -18,6 +18,8 @@ DONE = "code 0 password changed"
 USED = "code 4 password used before"
 # asked within 300 seconds of a start that found a journal
 QUIET = "code 3 error 37 "
+# asked while the agent isn't there, of a service that requires it
+AWAY = "code 2 error 60 KDC out of reach"
 # seconds after which a client asks again where nobody listens, or the service isn't to be asked yet
 AGAIN = 0.05
 # seconds after which nobody waits any more
@@ -161,7 +163,7 @@ class Crowd:
             user.answered.append(user.asked[-1])
             if change.recorded is not None:
                 self.held.append(change.answered - change.recorded)
-        if told.startswith(QUIET):
+        if told.startswith(QUIET) or told == AWAY:
             user.is_lost, user.not_before = True, time.monotonic() + AGAIN
             return
         if told != DONE and not (told == USED and user.is_lost):

@@ -30,10 +30,10 @@ def keys_in(record):
 class CrowdCases(Cases):
     """`files` are the service and its agent, `crowd` its users, `breaking` what goes wrong beside them."""
 
-    def begin(self, folder, depth, seed):
+    def begin(self, folder, depth, seed, options=()):
         """The service runs, with its files in a folder of this name; so many passwords of each user are remembered."""
         self.names = [self.name() for _ in range(USERS)]
-        self.files = Served(self.realm, self.program, folder, WAIT)
+        self.files = Served(self.realm, self.program, folder, WAIT, options=options)
         first = {name: (1, keys_of(name, FIRST)) for name in self.names}
         self.files.configure(configured(first, depth) + self.own_names())
         self.files.start()

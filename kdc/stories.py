@@ -5,8 +5,10 @@ higher version, and is the key of
 
 - the newest password, or the last that the user asked for: an agent writes it above what it finds, and may be killed before it
   says so;
-- a password that an administrator set. One that was over before the newest one was asked for may come in front of that for a
-  moment, if it was set while both sides were compared: then the newest one, or a later one, comes in front again.
+- a password that an administrator set, or the one that the user had asked for before: an agent wrote it above what it found. One
+  that was over before the newest one was asked for may come in front of that for a moment, if both sides were compared then: the
+  newest one, or a later one, comes in front again, unless the service was killed before that was on its way, and so before
+  anybody was told of it, since the service requires the KDC.
 
 Whoever is told that a password is changed has it, until a later one is set.
 """
@@ -26,6 +28,7 @@ class Story:
         self.asked = [Password(user.name, *it, math.inf) for it in zip(user.asked, user.begun)]
         self.set_there = set_there
         self.known = {keys_once(it.name, it.text): it for it in [*self.asked, *set_there]}
+        self.answered = user.answered
         self.newest, self.version = Password(user.name, FIRST, 0, 0), 1
         self.changes = 0
         # what an older password came in front of, until it, or a later one, is in front again
@@ -44,18 +47,27 @@ class Story:
         self.newest, self.version = found or self.newest, record.kvno
 
     def look_for_overtaken(self, found):
-        if found in self.set_there and found.ended < self.newest.begun:
+        if self.is_older(found):
             self.overtaken = self.overtaken or self.newest
         elif found and self.overtaken and found.begun >= self.overtaken.begun:
             self.overtaken = None
+
+    def is_older(self, found):
+        """Whether it was set, or was asked for by the same user, before the newest one was asked for."""
+        if found in self.set_there:
+            return found.ended < self.newest.begun
+        return found in self.asked and self.newest in self.asked and found.begun < self.newest.begun
 
     def possible(self, kind):
         """The passwords that a record of this kind may have here."""
         if kind is Record:
             self.changes += 1
-        last = self.asked[max(0, self.changes - 1) : self.changes]
-        return {Record: last, Lift: [self.newest], Adopt: [self.newest, *last, *self.set_there]}.get(kind, [])
+        former, last = (self.asked[max(0, count - 1) : max(0, count)] for count in (self.changes - 1, self.changes))
+        return {Record: last, Lift: [self.newest], Adopt: [self.newest, *former, *last, *self.set_there]}.get(kind, [])
 
     def is_last(self):
-        """Whether the newest password is the last that the user asked for, or that the administrator set, and none is overtaken."""
-        return self.overtaken is None and self.newest in self.asked[-1:] + self.set_there[-1:]
+        """Whether the newest password is the last that the user asked for, or that the administrator set, and none is overtaken that
+        somebody was told of."""
+        if self.overtaken:
+            return self.overtaken.text not in self.answered
+        return self.newest in self.asked[-1:] + self.set_there[-1:]

@@ -1,5 +1,5 @@
 """All at once: sixteen users change their passwords while agents, the service and the KDC are killed, and an administrator sets
-passwords of the same users.
+passwords of the same users. The service requires the KDC, so that whoever is told that a password is changed has it there.
 
 At the end the KDC has the table's keys, and the journal leads to them: of each user it has the changes that were asked for, in
 their order, and between them what the KDC said. stories.py has what that may be.
@@ -37,7 +37,7 @@ class StormCases(CrowdCases):
         seed = random.randrange(1_000_000) if seed is None else seed
         print(f"seed {seed}", flush=True)
         random.seed(seed)
-        self.begin("storm", DEPTH, seed)
+        self.begin("storm", DEPTH, seed, ["--require-kdc"])
         try:
             self.storm(max(USERS, changes))
             self.tell_ends()
