@@ -1,6 +1,7 @@
 """The agents at the KDC's database: kdc/agent."""
 
 from agent_changes import AgentChanges
+from agent_disk import AgentDisk
 from agent_elsewhere import AgentElsewhere
 from agent_entries import HeimdalEntries, MitEntries
 from agent_faults import AgentFaults
@@ -15,7 +16,9 @@ class AgentCases:
         entries, oddities = (MitEntries, MitOddities) if realm.KIND == "MIT" else (HeimdalEntries, HeimdalOddities)
         self.parts = [
             kind(realm, program, report)
-            for kind in (AgentRequests, AgentSocket, AgentMachine, entries, oddities, AgentChanges, AgentElsewhere, AgentFaults)
+            for kind in (
+                AgentRequests, AgentSocket, AgentMachine, AgentDisk, entries, oddities, AgentChanges, AgentElsewhere, AgentFaults,
+            )
         ]
 
     def run(self, only):

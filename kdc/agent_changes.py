@@ -381,8 +381,7 @@ class AgentChanges(AgentCase):
         agent = Agent(self.realm)
         try:
             agent.told("listening", 1)
-            # Heimdal's library doesn't look for it before it reads or writes
-            self.tell("no database: told", agent.told("the database can't be opened: "), 1 if self.realm.KIND == "MIT" else 0)
+            self.tell("no database: told", agent.told("the database can't be opened: "), 1)
             with agent.connected() as line:
                 found = line.ask(f"get {hexed(name)}").split(None, 2)
                 self.tell("no database: get", found[:2], ["failed", hexed(name)])

@@ -90,15 +90,36 @@ class MitDatabase:
         """Another password, beside the former version's keys; with a key of that type alone, where one is named."""
         self.kadmin("cpw", "-keepold", *(["-e", f"{etype}:normal"] if etype else []), "-pw", password, name)
 
-    def spoil_keys(self, name):
-        """Changes the sealed bytes of its keys."""
-        path = self.realm.folder / "spoilt"
+    def line(self, name):
+        """The entry's line of a dump."""
+        return self.lines(name)[1]
+
+    def lines(self, name):
+        path = self.realm.folder / "dumped"
         self.util("dump", str(path), f"{name}@{REALM}")
-        head, line = path.read_text().splitlines()
-        # type 1, length, bytes of each key
-        line = re.sub(r"\t(1[78])\t(\d+)\t([0-9a-f]{20})", r"\t\1\t\2\tffffffffffffffffffff", line)
-        path.write_text(f"{head}\n{line}\n")
+        return path.read_text().splitlines()
+
+    def edit(self, name, change):
+        """Puts an entry in its place whose line of a dump is changed."""
+        path = self.realm.folder / "edited"
+        head, line = self.lines(name)
+        path.write_text(f"{head}\n{change(line)}\n")
         self.util("load", "-update", str(path))
+
+    def damages(self):
+        """Changes of an entry's line by which its keys can't be read: of a key's length before the sealed bytes, and of these."""
+        return [
+            lambda line: re.sub(r"\t(1[78])\t(\d+)\t[0-9a-f]{4}", r"\t\1\t\2\tffff", line),
+            lambda line: re.sub(r"\t(1[78])\t(\d+)\t([0-9a-f]{20})[0-9a-f]{8}", r"\t\1\t\2\t\3ffffffff", line),
+        ]
+
+    def lose_master_key(self, name):
+        """Names a master key that there isn't, in the note 8."""
+        self.edit(name, lambda line: re.sub(r"\t8\t2\t[0-9a-f]{4}\t", "\t8\t2\t9900\t", line))
+
+    def set_kvno(self, name, kvno):
+        """The version of its keys of AES, which stand behind two words of their form."""
+        self.edit(name, lambda line: re.sub(r"\t1\t\d+\t(1[78]\t\d+\t)", rf"\t1\t{kvno}\t\1", line))
 
     def add_salted(self, name, password):
         self.kadmin("addprinc", "-e", "aes256-cts:norealm,aes128-cts:norealm", "-pw", password, name)
@@ -182,7 +203,16 @@ class HeimdalDatabase:
         if etype:
             self.kadmin("del_enctype", name, *({"aes256-cts-hmac-sha1-96", "aes128-cts-hmac-sha1-96", "arcfour-hmac-md5"} - {etype}))
 
-    def spoil_keys(self, name):
+    def damages(self):
+        """Changes of an entry's line by which its keys can't be read: of the sealed bytes, of their number, and of a key's type
+        to one that nobody knows."""
+        return [
+            lambda line: re.sub(r":1:(1[78]):\w{8}", r":1:\1:FFFFFFFF", line),
+            lambda line: re.sub(r":1:(1[78]):\w+", r":1:\1:FFFF", line),
+            lambda line: line.replace(":1:23:", ":1:9999:"),
+        ]
+
+    def lose_master_key(self, name):
         """Names a master key that there isn't."""
         self.edit(name, lambda line: re.sub(r":1:(1[78]|23):", r":99:\1:", line))
 

@@ -33,7 +33,7 @@ class AgentFaults(AgentCase):
         if not found or len(line) > 1023:
             return False
         name, kvno = found[1] or found[2] or b"", found[3] or b"1"
-        return len(name) <= 900 and int(kvno) <= self.realm.HIGHEST_KVNO
+        return len(name) <= 900 and int(kvno) <= 0xFFFFFFFF
 
     def changed(self, order, seeds):
         """A line that was changed in one place or some."""

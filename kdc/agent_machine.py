@@ -1,4 +1,4 @@
-"""What an agent does where its readers, its standard error, its disk or its callers aren't as usual; and what it costs."""
+"""What an agent does where its readers, its standard error or its callers aren't as usual; and what it costs."""
 
 import contextlib
 import errno
@@ -28,7 +28,7 @@ class AgentMachine(AgentCase):
         return [
             self.readers_that_go, self.another_amid_an_answer, self.changes_while_nobody_reads, self.a_large_database,
             self.callers_at_once, self.between_bind_and_listen, self.nobody_reads_its_lines, self.closed_descriptors,
-            self.a_full_disk, self.memory_stays, self.opened_once,
+            self.memory_stays, self.opened_once,
         ]
 
     # ---- readers
@@ -196,23 +196,6 @@ class AgentMachine(AgentCase):
             self.tell("no standard files: what is in their place", found, ["/dev/null"] * 3)
         self.tell("  status", agent.status, 0)
         self.tell("  nothing is told into the database's files", {it: it.read_bytes() for it in before} == before)
-
-    def a_full_disk(self):
-        """Nothing can be written for a while: nothing is confirmed, and later all is as ever."""
-        name, sign = self.name(), self.realm.folder / "full"
-        kept = self.state(name)
-        more = {"LD_PRELOAD": preload(self.realm, "agent_full"), "FULL": str(sign)}
-        with self.talking(**more) as line:
-            sign.write_text("")
-            for _ in range(2):
-                self.tell("a full disk: put", line.put(name, 2, "Full-pass2").split()[:2], ["failed", hexed(name)])
-                self.tell("  and nothing else is said", line.answer(0.3), None)
-            sign.unlink()
-            self.tell("  the entry is as it was", self.state(name) == kept)
-            self.tell("  get", line.ask(f"get {hexed(name)}"), f"has {hexed(name)} 1 {keys_of(name, FIRST)}")
-            self.tell("  room again: put", line.put(name, 2, "Full-pass2"), f"put {hexed(name)} 2")
-        self.tell("  the KDC's keys", self.held(name), self.of(name, 2, "Full-pass2"))
-        self.tell("  logins by it, and by the former", self.logs_in(name, "Full-pass2", FIRST), [True, False])
 
     # ---- what it costs
 

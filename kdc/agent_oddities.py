@@ -22,7 +22,8 @@ AES256, AES128 = "aes256-cts-hmac-sha1-96", "aes128-cts-hmac-sha1-96"
 class Oddities(AgentCase):
     def cases(self):
         return [
-            self.names_that_no_line_has, self.without_a_key, self.former_versions, self.keys_of_zeros, self.keys_that_cannot_be_had,
+            self.names_that_no_line_has, self.without_a_key, self.former_versions, self.keys_of_zeros, self.keys_of_version_0,
+            self.keys_that_cannot_be_had, self.a_master_key_that_is_missing,
             self.entries_that_cannot_be_read, self.another_master_key_comes, self.a_database_that_goes,
             self.words_of_an_error, self.a_locked_log, self.a_reader_beside_it,
         ]
@@ -83,17 +84,49 @@ class Oddities(AgentCase):
                           f"put {hexed(name)} 2")
             self.tell("  the KDC's keys", self.held(name), {(2, 18, keys[0]), (2, 17, keys[1])})
 
+    def keys_of_version_0(self):
+        """No key has that version for the service: it is told none, and writes others."""
+        name = self.name()
+        self.kdc.set_kvno(name, 0)
+        with self.talking() as line:
+            self.tell("keys of version 0: list", f"has {hexed(name)} 0" in line.listed())
+            self.tell("  list keys", f"other {hexed(name)} keys" in line.listed("list keys"))
+            self.tell("  get", line.ask(f"get {hexed(name)}"), f"other {hexed(name)} keys")
+            self.tell("  put of the same", line.put(name, 1, FIRST), f"put {hexed(name)} 1")
+            self.tell("  get", line.ask(f"get {hexed(name)}"), f"has {hexed(name)} 1 {keys_of(name, FIRST)}")
+        self.tell("  the KDC's keys", self.held(name), self.of(name, 1, FIRST))
+
     def keys_that_cannot_be_had(self):
-        """Keys that can't be unsealed: the entry is no other than it is, and what is never written isn't looked at."""
+        """Keys that can't be unsealed, however often one asks: the entry isn't told or written, and all others are."""
+        for count, damage in enumerate(self.kdc.damages()):
+            name, other = self.name(), self.name()
+            self.kdc.edit(name, damage)
+            kept = self.kdc.line(name)
+            try:
+                with self.talking() as line:
+                    self.tell(f"keys that can't be had, {count}: get", line.ask(f"get {hexed(name)}"), f"other {hexed(name)} keys")
+                    found, names = line.listed("list keys"), line.listed()
+                    self.tell("  list keys", [f"other {hexed(name)} keys" in found, len(found) == len(names)], [True, True])
+                    self.tell("  list", f"has {hexed(name)} 1" in names)
+                    self.tell("  put", [line.put(name, 5, FIRST), line.put(name, 1, FIRST)], [f"refused {hexed(name)} keys"] * 2)
+                    self.tell("  the entry is as it was", self.kdc.line(name) == kept)
+                    self.tell("  put of another", line.put(other, 2, "Beside-pass2"), f"put {hexed(other)} 2")
+            finally:
+                self.realm.remove(name)
+
+    def a_master_key_that_is_missing(self):
+        """It may come, and may be missing for all: asked for again. What is never written isn't looked at."""
         name, reserved = self.name(), "hprop/sealed"
         self.realm.add(reserved, FIRST)
-        self.kdc.spoil_keys(reserved)
+        self.kdc.lose_master_key(reserved)
         try:
             with self.talking() as line:
-                self.tell("keys of the KDC's own that can't be had: list keys", f"other {hexed(reserved)} reserved" in line.listed("list keys"))
-                self.kdc.spoil_keys(name)
-                self.tell("keys that can't be had: get", line.ask(f"get {hexed(name)}").split()[:2], ["failed", hexed(name)])
+                found = line.listed("list keys")
+                self.tell("the master key of the KDC's own is missing: list keys", f"other {hexed(reserved)} reserved" in found)
+                self.kdc.lose_master_key(name)
+                self.tell("a master key that is missing: get", line.ask(f"get {hexed(name)}").split()[:2], ["failed", hexed(name)])
                 self.tell("  put", line.put(name, 2, FIRST).split()[:2], ["failed", hexed(name)])
+                self.tell("  list keys", line.ask("list keys").split()[:2], ["failed", "-"])
                 self.tell("  list", f"has {hexed(name)} 1" in line.listed())
         finally:
             for it in name, reserved:
@@ -163,7 +196,10 @@ class Oddities(AgentCase):
 
 class MitOddities(Oddities):
     def cases(self):
-        return [*super().cases(), self.a_log_that_comes_later, self.a_policy_that_cannot_be_read]
+        return [
+            *super().cases(), self.a_log_that_comes_later, self.a_log_that_is_replaced, self.a_policy_that_cannot_be_read,
+            self.a_master_key_of_another_name,
+        ]
 
     def logging(self, more=""):
         """What an agent and kadmin.local are started with that keep a log of changes."""
@@ -218,7 +254,7 @@ class MitOddities(Oddities):
             file.replace(folder / file.name)
 
     def a_policy_that_cannot_be_read(self):
-        """Nobody knows how long its passwords may be used: nothing is written."""
+        """Nobody knows how long its passwords may be used, or which one it is: nothing is written."""
         name = self.name()
         self.kdc.give_policy(name)
         self.kdc.kadmin("modprinc", "-pwexpire", "2031-01-01", name)
@@ -228,10 +264,52 @@ class MitOddities(Oddities):
             policies.write_bytes(policies.read_bytes().replace(b"\x12\x34\x5d", b"\0\0\0"))
             with self.talking(**more) as line:
                 before = self.kdc.project("get", name, **more)
-                self.tell("a damaged policy: put", line.put(name, 2, FIRST).split()[:2], ["failed", hexed(name)])
+                self.tell("a damaged policy: put", line.put(name, 2, FIRST), f"refused {hexed(name)} keys")
                 self.tell("  the entry is as it was", self.kdc.project("get", name, **more) == before)
                 self.tell("  get", line.ask(f"get {hexed(name)}").split()[:3], ["has", hexed(name), "1"])
                 self.tell("  put of another", line.put("alice", 2, FIRST), f"put {hexed('alice')} 2")
+        with self.elsewhere() as more:
+            database = pathlib.Path(more["KRB5_KDC_PROFILE"]).parent / "principal"
+            # the number of the form of the entry's note of the policy's name
+            note = b"\x12\x34\x5c\x01\0\0\0\x06usual"
+            database.write_bytes(database.read_bytes().replace(note, bytes(4) + note[4:]))
+            with self.talking(**more) as line:
+                self.tell("a damaged note of a policy: put", line.put(name, 2, FIRST), f"refused {hexed(name)} keys")
+                self.tell("  get", line.ask(f"get {hexed(name)}").split()[:3], ["has", hexed(name), "1"])
+
+    def a_master_key_of_another_name(self):
+        """The configuration names the entry that has the master key: others are sealed by it, and it is never written."""
+        with tempfile.TemporaryDirectory(prefix="agent_") as top:
+            folder = pathlib.Path(top)
+            text = (self.realm.folder / "kdc.conf").read_text().replace(f"{self.realm.folder}/", f"{folder}/")
+            (folder / "conf").write_text(text.replace("acl_file", "master_key_name = master\n acl_file"))
+            more = {"KRB5_KDC_PROFILE": f"{folder}/conf"}
+            self.realm.run(self.realm.mit, ["kdb5_util", "create", "-s", "-r", REALM, "-P", "Other-master1"], **more)
+            # its own lock would keep it, too
+            for words in ["addprinc", "-pw", FIRST, "alice"], ["modprinc", "-lockdown_keys", "master"]:
+                self.realm.run(self.realm.mit, ["kadmin.local", *words], **more)
+            kept = self.kdc.project("get", "master", **more)
+            self.tell("a master key of another name: there is one", kept.startswith(f"Principal: master@{REALM}"))
+            with self.talking(**more) as line:
+                self.tell("  put", line.put("alice", 2, "Next-pass2"), f"put {hexed('alice')} 2")
+                found = self.kdc.project("get", "alice", **more)
+                self.tell("  the KDC's version, and the master key's", (self.kdc.shows_version(2, found), "MKey: vno 1" in found), (True, True))
+                self.tell("  get", line.ask(f"get {hexed('alice')}"), f"has {hexed('alice')} 2 {keys_of('alice', 'Next-pass2')}")
+                self.tell("  list keys", f"other {hexed('master')} lockdown" in line.listed("list keys"))
+                self.tell("  put of itself", line.put("master", 9, "Bad-pass9"), f"refused {hexed('master')} lockdown")
+            self.tell("  it is as it was", self.kdc.project("get", "master", **more) == kept)
+
+    def a_log_that_is_replaced(self):
+        """It is removed, and kadmin makes another: what is written from then on goes into that one."""
+        name, more = self.name(), self.logging()
+        with self.talking(**more) as line:
+            self.tell("a log of changes: put", line.put(name, 2, "Logged-pass2"), f"put {hexed(name)} 2")
+            (self.realm.folder / "principal.ulog").unlink()
+            self.realm.run(self.realm.mit, ["kadmin.local", "modprinc", "-maxlife", "3 hours", "mallory"], **more)
+            self.tell("  another in its place: records of it", self.records(name, more), 0)
+            self.tell("  put", line.put(name, 3, "Logged-pass3"), f"put {hexed(name)} 3")
+            self.tell("  records in it", self.records(name, more), 1)
+        self.tell("  the KDC's keys", self.held(name), self.of(name, 3, "Logged-pass3"))
 
     def a_log_that_comes_later(self):
         """Without its log the database isn't open, neither at the start nor behind a failure."""

@@ -199,6 +199,9 @@ class AgentRequests(AgentCase):
             self.tell("  logins", self.logs_in(name, "Top-pass1"), [True])
             self.tell("  again", line.put(name, highest, "Top-pass1"), f"put {hexed(name)} {highest}")
             self.refused(line, name, "version")
+            for more in highest + 1, 0xFFFFFFFF:
+                self.tell(f"put {more}, which no entry can have", line.put(name, more, "Top-pass2"), f"refused {hexed(name)} version")
+            self.tell("  put of nobody", line.put("nobody", highest + 1, "Top-pass2"), f"none {hexed('nobody')}")
             # Heimdal's ext_keytab has 16 bits of a version
             keys = [{key for _, _, key in found} for found in (self.held(name), self.of(name, highest, "Top-pass1"))]
             self.tell("  the KDC's keys", keys[0], keys[1])

@@ -8,6 +8,7 @@
 #include <stdarg.h>
 #include <stdlib.h>
 #include <sys/socket.h>
+#include <sys/syscall.h>
 #include <sys/types.h>
 #include <unistd.h>
 
@@ -47,16 +48,25 @@ ssize_t send(int file, const void *bytes, size_t length, int flags)
     return NEXT(send)(file, bytes, length, flags);
 }
 
-int fsync(int file)
+/* syncs among them, for which an agent has functions of its own */
+long syscall(long number, ...)
 {
-    step();
-    return NEXT(fsync)(file);
+    long words[6];
+    va_list values;
+
+    va_start(values, number);
+    for (int i = 0; i < 6; i++)
+        words[i] = va_arg(values, long);
+    va_end(values);
+    if (number == SYS_fsync || number == SYS_fdatasync)
+        step();
+    return NEXT(syscall)(number, words[0], words[1], words[2], words[3], words[4], words[5]);
 }
 
-int fdatasync(int file)
+int fallocate(int file, int mode, off_t place, off_t length)
 {
     step();
-    return NEXT(fdatasync)(file);
+    return NEXT(fallocate)(file, mode, place, length);
 }
 
 int ftruncate64(int file, off64_t length)

@@ -1,25 +1,22 @@
 /* The database of a Heimdal KDC, opened as `kadmin -l` does it. KRB5_CONFIG names the KDC's configuration. */
 #include "agent.h"
 #include <sys/file.h>
-/* each of these needs the ones before it */
-#include <krb5.h>
 #include <hdb.h>
 #include <kadm5/admin.h>
-#include <kadm5/private.h>
+#include <kadm5/private.h> /* it needs those before it */
 
 const uint32_t highest_kvno = 0x7fffffff; /* kadmin prints and reads a signed number */
-static krb5_context context;
+const long lock_errors[2] = {HDB_ERR_DB_INUSE, HDB_ERR_CANT_LOCK_DB};
+krb5_context context;
 static kadm5_server_context *server;
 static hdb_entry *entry; /* the one that was taken up */
 
-/* In place of the C library's, by which libhdb and libkadm5srv wait for a lock however long somebody keeps it,
-   as `kadmin -l` does from `lock` to `unlock`. One that isn't had within a tenth of a second is refused. */
+/* in place of the C library's, by which the libraries would wait for a lock for ever: here a tenth of a second */
 int flock(int file, int operation) {
-    long found = syscall(SYS_flock, file, operation | LOCK_NB);
-    for (int tries = 0; found < 0 && errno == EAGAIN && (operation & LOCK_NB) == 0 && tries < 50; tries++) {
+    long found;
+    int tries = (operation & LOCK_NB) != 0 ? 50 : 0;
+    while ((found = syscall(SYS_flock, file, operation | LOCK_NB)) < 0 && errno == EAGAIN && tries++ < 50)
         usleep(2000);
-        found = syscall(SYS_flock, file, operation | LOCK_NB);
-    }
     return (int)found;
 }
 
@@ -29,7 +26,7 @@ static void watch_files(void) {
     char data[PATH_MAX] = "";
     for (int i = 0; i < 3 && access(data, F_OK) < 0; i++)
         snprintf(data, sizeof data, "%s%s", server->db->hdb_name, endings[i]);
-    files_watch(data, server->log_context.log_file);
+    files_watch(data, server->log_context.log_file, "");
 }
 
 void database_close(void) {
@@ -46,24 +43,13 @@ long database_open(void) {
         return 0;
     database_close();
     kadm5_config_params params = {.mask = KADM5_CONFIG_REALM, .realm = (char *)realm};
-    void *handle = NULL;
     long error = krb5_init_context(&context)
         ?: krb5_set_default_realm(context, realm)
-        ?: kadm5_s_init_with_password_ctx(context, KADM5_ADMIN_SERVICE, NULL, KADM5_ADMIN_SERVICE, &params, 0,
-                                          0, &handle);
-    server = handle;
+        ?: kadm5_s_init_with_password_ctx(context, KADM5_ADMIN_SERVICE, NULL, KADM5_ADMIN_SERVICE, &params, 0, 0,
+                                          (void **)&server);
     if (error == 0)
         watch_files();
     return error;
-}
-
-char *database_message(long error) {
-    static char text[LONGEST_TEXT];
-    int is_locked = error == HDB_ERR_DB_INUSE || error == HDB_ERR_CANT_LOCK_DB || error == EAGAIN;
-    const char *message = krb5_get_error_message(context, (krb5_error_code)error);
-    snprintf(text, sizeof text, "%s", is_locked ? "locked" : message);
-    krb5_free_error_message(context, message);
-    return text;
 }
 
 static krb5_error_code take_found(krb5_context same, HDB *db, hdb_entry_ex *found, void *unused) {
@@ -88,14 +74,13 @@ static long take_named(const char *name) {
         parts[principal.name.name_string.len++] = end;
     }
     hdb_entry_ex found = {0};
-    long error = server->db->hdb_fetch_kvno(context, server->db, &principal, HDB_F_GET_ANY | HDB_F_ADMIN_DATA,
-                                            0, &found);
+    HDB *db = server->db;
+    long error = db->hdb_fetch_kvno(context, db, &principal, HDB_F_GET_ANY | HDB_F_ADMIN_DATA, 0, &found);
     if (error != 0)
         return error == HDB_ERR_NOENTRY ? 0 : error;
     /* what can't be read is no error of libhdb's */
     error = found.entry.principal == NULL ? HDB_ERR_BADVERSION : take_found(context, server->db, &found, NULL);
-    /* it wipes the keys */
-    hdb_free_entry(context, &found);
+    hdb_free_entry(context, &found); /* it wipes the keys */
     return error;
 }
 
@@ -104,8 +89,7 @@ long database_take(const char *name, int is_to_be_written) {
     long error = db->hdb_open(context, db, is_to_be_written ? O_RDWR : O_RDONLY, 0);
     if (error != 0)
         return error;
-    /* each writer locks the log */
-    error = (is_to_be_written ? kadm5_log_init(server) : 0)
+    error = (is_to_be_written ? kadm5_log_init(server) : 0) /* each writer locks the log */
         ?: (name != NULL ? take_named(name) : hdb_foreach(context, db, HDB_F_ADMIN_DATA, take_found, NULL));
     if (is_to_be_written)
         kadm5_log_end(server);
@@ -117,12 +101,12 @@ long database_held(int with_keys, struct held *held) {
     *held = (struct held){.kvno = entry->kvno, .is_locked_down = entry->flags.immutable};
     if (!with_keys || held->is_locked_down)
         return 0;
-    krb5_salt normal;
-    long error = hdb_unseal_keys(context, server->db, entry)
-        ?: krb5_get_pw_salt(context, entry->principal, &normal);
+    krb5_salt normal = {0};
+    long error = hdb_unseal_keys(context, server->db, entry);
     if (error != 0)
-        return error;
-    for (unsigned i = 0; i < entry->keys.len; i++) {
+        return error == HDB_ERR_NO_MKEY ? error : UNREADABLE; /* a master key may be lacking for all */
+    error = krb5_get_pw_salt(context, entry->principal, &normal);
+    for (unsigned i = 0; error == 0 && i < entry->keys.len; i++) {
         const Key *key = &entry->keys.val[i];
         /* that it is the default one is said or not */
         if (key->salt == NULL || (key->salt->type == hdb_pw_salt &&
@@ -130,15 +114,13 @@ long database_held(int with_keys, struct held *held) {
             hold_key(held, key->key.keytype, key->key.keyvalue.data, key->key.keyvalue.length);
     }
     krb5_free_salt(context, normal);
-    return 0;
+    return error;
 }
 
 /* gives the entry these keys and no others, sealed under the master key */
 static long replace_keys(key_pair keys) {
-    krb5_salt normal;
+    krb5_salt normal = {0};
     long error = krb5_get_pw_salt(context, entry->principal, &normal);
-    if (error != 0)
-        return error;
     for (unsigned i = 0; i < entry->keys.len; i++)
         explicit_bzero(entry->keys.val[i].key.keyvalue.data, entry->keys.val[i].key.keyvalue.length);
     free_Keys(&entry->keys);
@@ -148,8 +130,7 @@ static long replace_keys(key_pair keys) {
         error = add_Keys(&entry->keys, &key);
     }
     krb5_free_salt(context, normal);
-    /* it wipes what it seals */
-    return error ?: hdb_seal_keys(context, server->db, entry);
+    return error ?: hdb_seal_keys(context, server->db, entry); /* it wipes what it seals */
 }
 
 /* all that kpasswdd does where a password is changed. kadm5_chpass_principal_with_key makes the next version
@@ -175,7 +156,6 @@ long database_write(key_pair keys, uint32_t kvno) {
         *entry->pw_end = change.time + krb5_config_get_time_default(context, NULL, 365 * 24 * 60 * 60, "kadmin",
                                                                     "password_lifetime", NULL);
     /* with a record in the log of changes, by which replicas are told */
-    return kadm5_log_modify(server, entry,
-                            KADM5_PRINCIPAL | KADM5_ATTRIBUTES | KADM5_MOD_NAME | KADM5_MOD_TIME |
-                                KADM5_KEY_DATA | KADM5_KVNO | KADM5_PW_EXPIRATION | KADM5_TL_DATA);
+    return kadm5_log_modify(server, entry, KADM5_PRINCIPAL | KADM5_ATTRIBUTES | KADM5_MOD_NAME | KADM5_MOD_TIME |
+                                               KADM5_KEY_DATA | KADM5_KVNO | KADM5_PW_EXPIRATION | KADM5_TL_DATA);
 }

@@ -15,9 +15,8 @@ static size_t input_length;
 static volatile sig_atomic_t signals; /* SIGTERM or SIGINT, and the alarm after it */
 
 static void take_signal(int number) {
-    /* so long the answer under way may take to be read */
     if (signals++ == 0)
-        alarm(1);
+        alarm(1); /* so long the answer under way may take to be read */
 }
 
 void tell(const char *format, ...) {
@@ -55,8 +54,7 @@ static void read_line(void) {
         return;
     if (count == 1) {
         input[input_length] = '\0';
-        /* a byte 0 stands in no request */
-        int is_request = strlen(input) == input_length && answer(input);
+        int is_request = strlen(input) == input_length && answer(input); /* a byte 0 stands in no request */
         explicit_bzero(input, sizeof input);
         input_length = 0;
         if (!is_request)
@@ -89,8 +87,7 @@ static void take_connection(uid_t user) {
         return;
     }
     connection = file;
-    /* what was written before isn't told */
-    files_are_changed = 0;
+    files_are_changed = 0; /* what was written before isn't told */
 }
 
 static void serve(uid_t user) {
@@ -128,8 +125,7 @@ static int listen_at(const char *path, uid_t user) {
     if (lstat(path, &found) == 0 && S_ISSOCK(found.st_mode) &&
         connect(listener, (void *)&address, sizeof address) < 0 && errno == ECONNREFUSED)
         unlink(path);
-    /* it never has another mode than 600, not even for a moment */
-    umask(0177);
+    umask(0177); /* it never has another mode than 600, not even for a moment */
     return bind(listener, (void *)&address, sizeof address) == 0 && lchown(path, user, (gid_t)-1) == 0 &&
            listen(listener, 16) == 0;
 }
@@ -149,8 +145,7 @@ int main(int count, char **words) {
     if (fault != NULL)
         tell("%s: %s", words[at - 1], fault);
     if (fault != NULL || at != count || path == NULL || name == NULL || realm == NULL || realm[0] == '\0') {
-        tell("usage: %s --socket PATH --user NAME --realm REALM [--also PRINCIPAL]..",
-             program_invocation_short_name);
+        tell("usage: %s --socket PATH --user NAME --realm REALM [--also PRINCIPAL]..", program_invocation_short_name);
         return 2;
     }
     const struct passwd *user = getpwnam(name);
@@ -168,7 +163,7 @@ int main(int count, char **words) {
         return 1;
     }
     long error = database_open() ?: database_take("", 0); /* the name of no entry */
-    fault = error != 0 ? database_message(error) : files_unwritable();
+    fault = error != 0 ? message_of(error) : files_unwritable();
     if (fault != NULL)
         tell("the database can't be %s: %s", error != 0 ? "opened" : "written", fault);
     if (error != 0)

@@ -6,14 +6,11 @@
 #define ENOUGH (8 << 20) /* bytes: more than a request takes, but for the answer to a list */
 
 /* the C library's own, in whose place the libraries find those below */
-void *__libc_malloc(size_t size);
-void *__libc_calloc(size_t count, size_t size);
-void *__libc_realloc(void *old, size_t size);
+void *__libc_malloc(size_t size), *__libc_calloc(size_t count, size_t size), *__libc_realloc(void *old, size_t size);
 void __libc_free(void *place);
 
 int memory_is_there(void) {
-    /* so that what is freed stays the program's own */
-    mallopt(M_MMAP_MAX, 0);
+    mallopt(M_MMAP_MAX, 0); /* so that what is freed stays the program's own */
     mallopt(M_TRIM_THRESHOLD, 4 * ENOUGH);
     void *place = __libc_malloc(ENOUGH);
     __libc_free(place);
@@ -40,7 +37,6 @@ void *calloc(size_t count, size_t size) {
 
 void *realloc(void *old, size_t size) {
     void *place = __libc_realloc(old, size);
-    /* one of size 0 is freed */
-    return old != NULL && size == 0 ? place : checked(place);
+    return old != NULL && size == 0 ? place : checked(place); /* one of size 0 is freed */
 }
 #endif

@@ -3,31 +3,32 @@
 #include <kadm5/admin.h>
 #include <kdb.h>
 
-#define OSA_ADB_CANTLOCK_DB 28810250L /* of adb_err.et, which no header that is installed has */
+#define OSA_ADB_FAILURE 28810248L /* of adb_err.et, which no header that is installed has, and so the next */
+#define OSA_ADB_CANTLOCK_DB 28810250L
 
 const uint32_t highest_kvno = 65535; /* an unsigned short in the database */
-static krb5_context context;
+const long lock_errors[2] = {KRB5_KDB_CANTLOCK_DB, OSA_ADB_CANTLOCK_DB};
+krb5_context context;
 static void *server;
-static krb5_db_entry *entry; /* the one that was taken up */
+static krb5_principal master_name; /* of the entry that has the master key */
+static krb5_db_entry *entry;       /* the one that was taken up */
 
-/* In place of the C library's, by which libkdb5 waits for a lock however long somebody keeps it, as
-   kadmin.local does from `lock` to `unlock`. One that isn't had within a tenth of a second is refused. */
+/* in place of the C library's, by which libkdb5 would wait for a lock for ever: here a tenth of a second */
 int fcntl(int file, int command, ...) {
     int once = command == F_OFD_SETLKW ? F_OFD_SETLK : command == F_SETLKW ? F_SETLK : command;
     va_list values;
     va_start(values, command);
     void *value = va_arg(values, void *);
     va_end(values);
-    long found = syscall(SYS_fcntl, file, once, value);
-    for (int tries = 0; found < 0 && errno == EAGAIN && once != command && tries < 50; tries++) {
+    long found;
+    int tries = once == command ? 50 : 0;
+    while ((found = syscall(SYS_fcntl, file, once, value)) < 0 && errno == EAGAIN && tries++ < 50)
         usleep(2000);
-        found = syscall(SYS_fcntl, file, once, value);
-    }
     return (int)found;
 }
 
 /* the database's files, by those that libkdb5 keeps open: LMDB's, or the one by which db2 locks */
-static void watch_files(void) {
+static void watch_files(const char *log) {
     char link[32], path[PATH_MAX], data[PATH_MAX];
     for (int file = 0; file < 64; file++) {
         snprintf(link, sizeof link, "/proc/self/fd/%d", file);
@@ -36,9 +37,9 @@ static void watch_files(void) {
         const char *end = strrchr(path, '.');
         if (end != NULL && strcmp(end, ".ok") == 0) {
             snprintf(data, sizeof data, "%.*s", (int)(end - path), path);
-            files_watch(data, path);
+            files_watch(data, path, log);
         } else if (end != NULL && strcmp(end, ".mdb") == 0 && strstr(path, ".lockout.") == NULL) {
-            files_watch(path, "");
+            files_watch(path, "", log);
         }
     }
 }
@@ -46,33 +47,28 @@ static void watch_files(void) {
 void database_close(void) {
     if (server != NULL)
         kadm5_destroy(server);
+    krb5_free_principal(context, master_name);
     krb5_free_context(context);
-    server = NULL;
-    context = NULL;
+    server = context = NULL;
+    master_name = NULL;
 }
 
 long database_open(void) {
     if (server != NULL && !files_are_others)
         return 0;
     database_close();
-    kadm5_config_params params = {.mask = KADM5_CONFIG_REALM, .realm = (char *)realm};
+    kadm5_config_params params = {.mask = KADM5_CONFIG_REALM, .realm = (char *)realm}, found = {0};
     /* as a server of the KDC, which reads its profile too; with iprop, so that replicas are told */
     long error = kadm5_init_krb5_context(&context)
         ?: kadm5_init_with_password(context, "root/admin", NULL, KADM5_ADMIN_SERVICE, &params,
                                     KADM5_STRUCT_VERSION, KADM5_API_VERSION_4, NULL, &server)
-        ?: kadm5_init_iprop(server, NULL);
+        ?: kadm5_init_iprop(server, NULL)
+        ?: kadm5_get_config_params(context, 1, &params, &found)
+        ?: krb5_db_setup_mkey_name(context, found.mkey_name, realm, NULL, &master_name);
     if (error == 0)
-        watch_files();
+        watch_files(found.iprop_logfile ?: "");
+    kadm5_free_config_params(context, &found);
     return error;
-}
-
-char *database_message(long error) {
-    static char text[LONGEST_TEXT];
-    int is_locked = error == KRB5_KDB_CANTLOCK_DB || error == OSA_ADB_CANTLOCK_DB || error == EAGAIN;
-    const char *message = krb5_get_error_message(context, (krb5_error_code)error);
-    snprintf(text, sizeof text, "%s", is_locked ? "locked" : message);
-    krb5_free_error_message(context, message);
-    return text;
 }
 
 static krb5_error_code take_found(void *unused, krb5_db_entry *found) {
@@ -117,20 +113,19 @@ long database_take(const char *name, int is_to_be_written) {
 long database_held(int with_keys, struct held *held) {
     /* libkdb5 has the newest version first */
     *held = (struct held){.kvno = entry->n_key_data > 0 ? entry->key_data[0].key_data_kvno : 0,
-                          .is_locked_down = (entry->attributes & KRB5_KDB_LOCKDOWN_KEYS) != 0};
+                          .is_locked_down = (entry->attributes & KRB5_KDB_LOCKDOWN_KEYS) != 0 ||
+                                            krb5_principal_compare(context, entry->princ, master_name)};
     if (!with_keys || held->is_locked_down)
         return 0;
     krb5_keyblock *master, key;
     krb5_keysalt salt;
-    long error = krb5_dbe_find_mkey(context, entry, &master);
-    for (int i = 0; i < entry->n_key_data && entry->key_data[i].key_data_kvno == held->kvno; i++) {
-        error = error ?: krb5_dbe_decrypt_key_data(context, master, &entry->key_data[i], &key, &salt);
-        if (error != 0)
-            return error;
+    long error = krb5_dbe_find_mkey(context, entry, &master); /* which may be lacking for all */
+    for (int i = 0; error == 0 && i < entry->n_key_data && entry->key_data[i].key_data_kvno == held->kvno; i++) {
+        if (krb5_dbe_decrypt_key_data(context, master, &entry->key_data[i], &key, &salt) != 0)
+            return UNREADABLE;
         if (salt.type == KRB5_KDB_SALTTYPE_NORMAL)
             hold_key(held, key.enctype, key.contents, key.length);
-        /* it wipes the key */
-        krb5_free_keyblock_contents(context, &key);
+        krb5_free_keyblock_contents(context, &key); /* it wipes the key */
         krb5_free_data_contents(context, &salt.data);
     }
     return error;
@@ -138,16 +133,13 @@ long database_held(int with_keys, struct held *held) {
 
 /* gives the entry these keys and no others, and the version of the master key in use, which seals them */
 static long replace_keys(key_pair keys, int kvno) {
-    krb5_principal name = NULL;
     krb5_actkvno_node *versions = NULL;
     krb5_keyblock *master;
     krb5_kvno version;
-    long error = krb5_db_setup_mkey_name(context, NULL, realm, NULL, &name)
-        ?: krb5_dbe_fetch_act_key_list(context, name, &versions)
+    long error = krb5_dbe_fetch_act_key_list(context, master_name, &versions)
         ?: krb5_dbe_find_act_mkey(context, versions, &version, &master)
         ?: krb5_dbe_update_mkvno(context, entry, version);
     krb5_dbe_free_actkvno_list(context, versions);
-    krb5_free_principal(context, name);
     for (int i = 0; i < entry->n_key_data; i++)
         krb5_dbe_free_key_data_contents(context, &entry->key_data[i]);
     free(entry->key_data);
@@ -170,7 +162,7 @@ static long life_of_password(krb5_ui_4 *life) {
     *life = (krb5_ui_4)policy.pw_max_life;
     kadm5_free_policy_ent(server, &policy);
     kadm5_free_principal_ent(server, &found);
-    return error == KADM5_UNK_POLICY ? 0 : error;
+    return error == KADM5_UNK_POLICY ? 0 : error == OSA_ADB_FAILURE || error == KADM5_XDR_FAILURE ? UNREADABLE : error;
 }
 
 /* all that kadmind does where a password is changed. kadm5_setkey_principal_4 won't do: it doesn't note under
@@ -192,8 +184,6 @@ long database_write(key_pair keys, uint32_t kvno) {
     entry->attributes &= ~KRB5_KDB_REQUIRES_PWCHANGE;
     entry->fail_auth_count = 0;
     /* modules other than db2's write what is named here */
-    entry->mask |= KADM5_KEY_DATA | KADM5_TL_DATA | KADM5_PW_EXPIRATION | KADM5_ATTRIBUTES |
-                   KADM5_FAIL_AUTH_COUNT;
-    /* with a record in the log of changes, by which replicas are told */
-    return krb5_db_put_principal(context, entry);
+    entry->mask |= KADM5_KEY_DATA | KADM5_TL_DATA | KADM5_PW_EXPIRATION | KADM5_ATTRIBUTES | KADM5_FAIL_AUTH_COUNT;
+    return krb5_db_put_principal(context, entry); /* with a record in the log of changes, which tells replicas */
 }

@@ -66,18 +66,16 @@ size_t name_next(const char **rest, char *component) {
 
 void hold_key(struct held *held, int type, const void *bytes, size_t size) {
     for (int i = 0; i < 2; i++)
-        if (type == key_types[i] && size == key_sizes[i] && !held->has[i]) {
+        if (type == key_types[i] && size == key_sizes[i] && held->has[i]++ == 0)
             memcpy(held->keys[i], bytes, size);
-            held->has[i] = 1;
-        }
 }
 
 /* first components of names that are never written or told the keys of: the KDC or its servers live by them */
-static const char *const reserved[] = {"krbtgt", "kadmin", "K",        "WELLKNOWN", "kiprop",
-                                       "iprop",  "hprop",  "changepw", "default"};
+static const char *reserved[] = {"krbtgt", "kadmin", "K", "WELLKNOWN", "kiprop", "iprop", "hprop", "changepw", "default"};
 /* names of more than one component that may be written all the same */
 static char also[MOST_ALSO][LONGEST_NAME + 1];
 static size_t also_count;
+static int is_doubtful; /* whether a write has failed: replicas, or the disk, may lack what the database has */
 
 /* why a name is never written, in one word; NULL where it is */
 static const char *refusal_of(const char *name) {
@@ -105,16 +103,13 @@ const char *also_add(const char *text) {
             return "no name";
         text += length;
     } while (*text++ == '/');
-    also_count++;
-    return refusal_of(name) != NULL ? "it is never written" : NULL;
+    return refusal_of(also[also_count++]) != NULL ? "it is never written" : NULL;
 }
 
 static int is_name(const char *text) {
     size_t length = strlen(text) > LONGEST_NAME ? 0 : strspn(text, DIGITS);
-    while (length > 0 && length % 2 == 0 && text[length] == '/') {
+    for (; length > 0 && length % 2 == 0 && text[length] == '/'; length = strspn(text, DIGITS))
         text += length + 1;
-        length = strspn(text, DIGITS);
-    }
     return length > 0 && length % 2 == 0 && text[length] == '\0';
 }
 
@@ -123,7 +118,7 @@ static int read_kvno(const char *text) {
     size_t length = strspn(text, "0123456789");
     uint64_t number = length > 10 ? 0 : strtoull(text, NULL, 10);
     request.kvno = (uint32_t)number;
-    return text[0] != '0' && text[length] == '\0' && number > 0 && number <= highest_kvno;
+    return text[0] != '0' && text[length] == '\0' && number > 0 && number <= UINT32_MAX;
 }
 
 static int read_key(const char *text, int which) {
@@ -161,53 +156,64 @@ static void say_keys(const char *name, const struct held *held) {
     say("\n");
 }
 
-/* writes the version that was asked for, if the database's is lower, or else the one after the database's;
-   nothing where there are just these keys under just this version already */
-static long put(const char *reason, const struct held *held) {
-    static int is_doubtful; /* whether a write has failed: replicas may lack what the database has */
-    uint64_t kvno = held->kvno < request.kvno ? request.kvno : (uint64_t)held->kvno + 1;
-    int is_done = held->kvno == request.kvno && held->has[0] && held->has[1] && !is_doubtful &&
-                  memcmp(held->keys, request.keys, sizeof held->keys) == 0;
-    if (reason != NULL || (!is_done && kvno > highest_kvno)) {
-        say("refused %s %s\n", request.name, reason ?: "version");
-        return 0;
-    }
-    say("put %s %" PRIu64 "\n", request.name, is_done ? request.kvno : kvno);
-    if (is_done)
-        return 0;
+static long write_keys(uint32_t kvno) {
     /* what is seen after the write is taken for our own */
     files_look();
-    request.kvno = (uint32_t)kvno;
-    long error = database_write(request.keys, request.kvno);
+    files_unsynced = 0;
+    long error = files_reserve() ?: database_write(request.keys, kvno);
     files_written();
-    is_doubtful |= error != 0;
+    request.kvno = kvno;
     request.verb = error == 0 ? WRITTEN : PUT;
+    is_doubtful |= error != 0 && error != UNREADABLE;
     return error;
 }
 
+/* writes the version that was asked for, if the database's is lower, or else the one after the database's;
+   nothing where there are just these keys under just this version already */
+static long put(const char *reason, const struct held *held) {
+    int is_done = held->kvno == request.kvno && held->has[0] && held->has[1] && !is_doubtful &&
+                  memcmp(held->keys, request.keys, sizeof held->keys) == 0;
+    uint64_t kvno = is_done || held->kvno < request.kvno ? request.kvno : (uint64_t)held->kvno + 1;
+    reason = reason ?: kvno > highest_kvno ? "version" : NULL;
+    long error = reason != NULL || is_done ? 0 : write_keys((uint32_t)kvno);
+    if (reason != NULL || error == UNREADABLE)
+        say("refused %s %s\n", request.name, reason ?: "keys");
+    else
+        say("put %s %" PRIu64 "\n", request.name, kvno);
+    return error == UNREADABLE ? 0 : error;
+}
+
 long take_entry(const char *name) {
-    /* an alias is no principal of its own */
     if (request.name != NULL && strcmp(name, request.name) != 0)
-        return 0;
+        return 0; /* an alias is no principal of its own */
     const char *reason = refusal_of(name);
     struct held held;
-    /* no keys are looked at that nobody may have */
-    long error = database_held(reason == NULL && request.verb != LIST, &held);
-    if (reason == NULL && held.is_locked_down)
-        reason = "lockdown";
+    long error = database_held(reason == NULL && request.verb != LIST, &held); /* no keys that nobody may have */
+    if (reason == NULL && (held.is_locked_down || error == UNREADABLE))
+        reason = held.is_locked_down ? "lockdown" : "keys";
+    error = error == UNREADABLE ? 0 : error;
     if (request.verb == LIST)
         say("has %s %" PRIu32 "\n", name, held.kvno);
     else if (request.verb == PUT)
         error = error ?: put(reason, &held);
     else if (request.verb == WRITTEN)
-        error = error ?: held.kvno < request.kvno ? EIO : 0;
-    else if (reason == NULL && held.has[0] && held.has[1])
+        error = error ?: reason != NULL || held.kvno < request.kvno ? EIO : 0;
+    else if (reason == NULL && held.kvno > 0 && held.has[0] && held.has[1])
         say_keys(name, &held);
     else
         say("other %s %s\n", name, reason ?: "keys");
     explicit_bzero(&held, sizeof held);
     request.count++;
     return error;
+}
+
+char *message_of(long error) {
+    static char text[LONGEST_TEXT];
+    int is_locked = error == EAGAIN || error == lock_errors[0] || error == lock_errors[1];
+    const char *message = krb5_get_error_message(context, (krb5_error_code)error);
+    snprintf(text, sizeof text, "%s", error == ENOMEM ? "no memory" : is_locked ? "locked" : message);
+    krb5_free_error_message(context, message);
+    return text;
 }
 
 /* says that it failed, in place of what was said before; in words set apart by one space */
@@ -224,15 +230,18 @@ static void say_failed(char *text) {
 }
 
 static void do_request(void) {
-    char no_memory[] = "no memory";
     long error = memory_is_there() ? database_open() : ENOMEM;
     error = error ?: database_take(request.name, request.verb == PUT);
     files_look();
     /* MIT's library doesn't say that the disk was full, or failed */
-    error = error ?: request.verb == WRITTEN ? database_take(request.name, 0) : 0;
+    if (error == 0 && request.verb == WRITTEN) {
+        request.count = 0;
+        is_doubtful |= files_unsynced != 0;
+        error = files_unsynced ?: database_take(request.name, 0) ?: request.count == 0 ? EIO : 0;
+    }
     if (error != 0) {
-        char *text = request.verb == PUT ? files_unwritable() : NULL;
-        say_failed(error == ENOMEM ? no_memory : text ?: database_message(error));
+        char *text = request.verb >= PUT && error != ENOMEM ? files_unwritable() : NULL;
+        say_failed(text ?: message_of(error));
         database_close();
     } else if (request.name == NULL) {
         say("end %zu\n", request.count);
