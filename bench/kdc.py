@@ -21,7 +21,7 @@ import threading
 import time
 
 TOP = pathlib.Path(__file__).resolve().parent.parent
-sys.path.insert(0, str(TOP / "kdc"))
+sys.path[:0] = [str(TOP / "kdc"), str(TOP / "interop")]
 
 import changes
 import realms
@@ -39,6 +39,10 @@ PATIENCE = 600
 STRANGER = "nobody"
 # beside them the realm has these
 OTHERS = {"admin", *realms.STRANGERS}
+# with those, as many as a table may have
+PRINCIPALS = 10_000 - len(OTHERS)
+# seconds between two of the stranger's requests
+PAUSE = 0.02
 
 
 def flushes(folder, count=50):
@@ -61,7 +65,7 @@ def fed(command, lines, environment):
 
 def make_mit(realm, names):
     """With keys drawn at random."""
-    lines = (f"addprinc -randkey {name}" for name in names)
+    lines = (f"addprinc -clearpolicy -randkey {name}" for name in names)
     fed([realm.mit.program("kadmin.local")], lines, realm.environment(realm.mit))
 
 
@@ -119,7 +123,7 @@ def asked(port, over):
             if connection.reply() is None:
                 raise RuntimeError("a request isn't answered")
             longest = max(longest, 1000 * (time.monotonic() - begun))
-        if over.is_set():
+        if over.wait(PAUSE):
             return longest
 
 
@@ -176,7 +180,7 @@ def spread(times):
 def main():
     program, kind = sys.argv[1:3]
     given = [int(word) for word in sys.argv[3:]]
-    principals, count, rounds = given + [10_000, 100, changes.ROUNDS][len(given) :]
+    principals, count, rounds = given + [PRINCIPALS, 100, changes.ROUNDS][len(given) :]
     names = [f"client{number:05}" for number in range(principals)]
     with realms.KINDS[kind]({"admin": realms.FIRST}) as realm:
         cases = Cases(realm, program, Passed())

@@ -19,7 +19,7 @@ use support_realm::{NOW, PASSWORD, Tally};
 fn a_change_after_an_adopted_key(rt: HostRuntime) {
     let before = table(&rt, rt.alloc(), 1);
     let key = changed_at::<Brand, _>(&rt, rt.alloc(), UnnamedDesk::of(before, 1));
-    let table = table(&rt, rt.alloc(), 3);
+    let table = table(&rt, rt.alloc(), 4);
     adopted_at::<Brand, _>(&rt, rt.alloc(), UnnamedDesk::of(table, 1), key);
 }
 
