@@ -8,7 +8,8 @@ use Rattle.chpw_rules.specs.declared.pattern.NamePatterns.{NamePatterns}
 use Rattle.chpw_record.specs.declared.key.KeyRow.{KeyRow}
 use Rattle.chpw_record.specs.declared.record.Change.{Change}
 use Rattle.chpw_kdc.specs.declared.fault.ProtocolFault.{ProtocolFault}
-use Rattle.chpw_kdc.specs.Dialogs.{State, after_hold, after_none, after_full_table, after_want, after_want_comparison, after_lost_want, after_decision, is_in_reach}
+use Rattle.chpw_kdc.specs.Dialogs.{State, after_hold, after_none, after_full_table, after_want, after_want_comparison, after_lost_want}
+use Rattle.chpw_kdc.specs.Dialogs.{after_decision, is_in_reach}
 use Rattle.chpw_kdc.specs.Answering.{after_bytes}
 use Rattle.chpw_kdc.specs.Answers.{FaultsIn}
 use Rattle.chpw_connection.specs.Confirming.{Confirms, Withdraws}
