@@ -1,5 +1,5 @@
 mod DepthLemmas
 pub mod OrderLemmas
 mod PutLemmas
-mod RowLemmas
+pub mod RowLemmas
 pub mod SendLemmas

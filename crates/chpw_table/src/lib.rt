@@ -31,7 +31,7 @@ pub use outcome::{DecideFault, Outcome, Refused};
 pub use raising::{Full, Raise, RaiseVerdict};
 pub use request::{Body, Opened, RequestId, Target};
 pub use same_keys::are_same_keys;
-pub use sink::{JournalSink, SinkFault};
+pub use sink::{Durability, JournalSink, SinkFault};
 pub use standing::StandingRules;
 pub use table::{
     KeyFault, Lookup, MOST_CARRIED, Prepared, PreparedUpdate, Principal, RowChange, Table,

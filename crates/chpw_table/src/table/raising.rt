@@ -42,6 +42,7 @@ impl Table {
             ≡ (if r.io_failed then S.failed sink.old + 1 else S.failed sink.old)) }
         ensures told { IfOk result (λ r. S.told sink.new
             ≡ option_map (λ xs. xs ++ raise_appended count r.verdict) (S.told sink.old)) }
+        ensures synced { IfOk result (λ r. is_raised r.verdict ≡ true → S.unsynced sink.new ≡ 0) }
         ensures counts { IfOk result (λ r. (self.new.events ≡ self.old.events + 1)
             × (self.new.seen ≡ (if is_raised r.verdict then self.old.seen + 1 else self.old.seen))
             × (self.new.max_entries ≡ self.old.max_entries)) }
@@ -79,6 +80,7 @@ impl Table {
             ≡ (if result.io_failed then S.failed sink.old + 1 else S.failed sink.old) }
         ensures told { S.told sink.new
             ≡ option_map (λ xs. xs ++ raise_appended count result.verdict) (S.told sink.old) }
+        ensures synced { is_raised result.verdict ≡ true → S.unsynced sink.new ≡ 0 }
     {
         let row = self.raise_row(count);
         self.tick(now, KeyTree::new());
@@ -117,6 +119,7 @@ impl Table {
             ≡ (if result.io_failed then S.failed sink.old + 1 else S.failed sink.old) }
         ensures told { S.told sink.new ≡ (if result.io_failed then S.told sink.old
             else option_map (λ xs. xs ++ raise_bytes_spec count) (S.told sink.old)) }
+        ensures synced { is_raised result.verdict ≡ true → S.unsynced sink.new ≡ 0 }
     {
         match sink.append(&raise_bytes(count)) {
             Err(_) => {

@@ -43,6 +43,7 @@ impl Table {
         ensures steps { IfOk result (λ r. Steps self.old self.new now opened r) }
         ensures writes { IfOk result (λ r.
             Writes S.failed S.told self.old.state sink.old sink.new opened r) }
+        ensures synced { IfOk result (λ r. is_done r.verdict ≡ true → S.unsynced sink.new ≡ 0) }
         ensures range { (entry_counts.low ≤ self.old.max_entries)
             × (self.old.max_entries ≤ entry_counts.high) }
         ensures refused { IfErr result (λ r. IsRefused self.old now opened r) }
@@ -63,6 +64,7 @@ impl Table {
         ensures steps { Steps self.old self.new prepared.moment prepared.opened result }
         ensures writes { Writes S.failed S.told self.old.state sink.old sink.new
             prepared.opened result }
+        ensures synced { is_done result.verdict ≡ true → S.unsynced sink.new ≡ 0 }
         ensures row { result.verdict
             ≡ (if is_done prepared.row && result.io_failed then Broken else prepared.row) }
     {
@@ -82,6 +84,7 @@ impl Table {
         ensures told { S.told sink.new
             ≡ option_map (λ xs. xs ++ appended self.old.state prepared.opened result.verdict)
             (S.told sink.old) }
+        ensures synced { is_done result.verdict ≡ true → S.unsynced sink.new ≡ 0 }
         ensures opened { result.opened ≡ prepared.opened }
     {
         let Prepared {
@@ -129,6 +132,7 @@ impl Table {
             ≡ (if result.1 then S.failed sink.old + 1 else S.failed sink.old) }
         ensures told { S.told sink.new ≡ (if result.1 then S.told sink.old
             else option_map (λ xs. xs ++ change.record.items) (S.told sink.old)) }
+        ensures synced { is_done result.0 ≡ true → S.unsynced sink.new ≡ 0 }
     {
         match sink.append(change.record.as_slice()) {
             Err(_) => {

@@ -1,6 +1,7 @@
 //! What the KDC says of a principal, taken into the table.
 ghost use Rattle.std.specs.Prelude.{◌≡◌, ◌+◌, ◌-◌, ◌^◌, ◌<◌, ◌++◌, IfOk, IfErr, OnErr, true, false, ◌||◌, ◌≤◌, nat_lt, length, option_map, if◌then◌else◌};
 ghost use Rattle.chpw_rules.specs.Limits.{entry_counts};
+ghost use Rattle.chpw_table.specs.declared.sink.Durability.TheVariants.{Immediate};
 ghost use Rattle.chpw_table.specs.declared.updating.UpdateVerdict.TheVariants.{Broken, NotNewer, Taken};
 ghost use Rattle.chpw_table.specs.Decision.{newest_kvno};
 ghost use Rattle.chpw_table.specs.declared.history.Event.TheVariants.{Update};
@@ -19,7 +20,7 @@ ghost use Rattle.chpw_table.specs.Placing.{IsPlace, placed, with_update};
 use super::Table;
 use super::planning::Plan;
 use crate::key::kvno_of;
-use crate::sink::JournalSink;
+use crate::sink::{Durability, JournalSink};
 use crate::times::Moment;
 use crate::updating::{KdcUpdate, UpdateFault, UpdateOutcome, UpdateRefused, UpdateVerdict};
 use chpw_ordered_keys::KeyTree;
@@ -86,6 +87,7 @@ impl Table {
             StepsBy self.old self.new now r.io_failed (Update update r.verdict)) }
         ensures writes { IfOk result (λ r. WritesBy S.failed S.told self.old.state sink.old sink.new
             r.io_failed (Update update r.verdict)) }
+        ensures synced { IfOk result (λ r. is_taken r.verdict ≡ true → S.unsynced sink.new ≡ 0) }
         ensures returned { IfOk result (λ r. r.update ≡ update) }
         ensures range { (entry_counts.low ≤ self.old.max_entries)
             × (self.old.max_entries ≤ entry_counts.high) }
@@ -94,7 +96,7 @@ impl Table {
         ensures unchanged { OnErr result ((self.new ≡ self.old) × (sink.new ≡ sink.old)) }
     {
         let prepared = self.prepare_update(now, update)?;
-        Ok(self.finish_update(prepared, sink))
+        Ok(self.finish_update(prepared, sink, Durability::Immediate))
     }
 
     /// Prepares an update: the verdict on it, if no append fails, and all the memory that it takes. The table is left
@@ -145,11 +147,12 @@ impl Table {
     /// failed append, and its effect. It takes no memory and can't be refused.
     ///
     /// Fewer than 2^64 - 1 appends to the sink have failed, or the table is broken. The journal is appended to only if
-    /// `PreparedUpdate::would_take`.
+    /// `PreparedUpdate::would_take`, and has the record on the disk when `durability` says.
     pub fn finish_update<S: JournalSink>(
         &mut self,
         prepared: PreparedUpdate,
         sink: &mut S,
+        durability: Durability,
     ) -> UpdateOutcome
         requires ready { IsUpdateReady self.old prepared }
         requires sink { self.old.state.broken ≡ false → S.failed sink.old < 2 ^ 64 - 1 }
@@ -157,12 +160,13 @@ impl Table {
             (Update prepared.update result.verdict) }
         ensures writes { WritesBy S.failed S.told self.old.state sink.old sink.new
             result.io_failed (Update prepared.update result.verdict) }
+        ensures synced { durability ≡ Immediate → is_taken result.verdict ≡ true → S.unsynced sink.new ≡ 0 }
         ensures returned { result.update ≡ prepared.update }
         ensures row { result.verdict ≡ with_written result.io_failed prepared.row }
     {
         // A field is read, so that the type's invariant is known.
         let _ = &self.principals;
-        self.enter_update(prepared, sink)
+        self.enter_update(prepared, sink, durability)
     }
 
     // The rest of the update, by the table's own state.
@@ -170,6 +174,7 @@ impl Table {
         &mut self,
         prepared: PreparedUpdate,
         sink: &mut S,
+        durability: Durability,
     ) -> UpdateOutcome
         requires ready { IsUpdateReady self.old prepared }
         requires sink { self.old.state.broken ≡ false → S.failed sink.old < 2 ^ 64 - 1 }
@@ -180,6 +185,7 @@ impl Table {
         ensures told { S.told sink.new ≡ option_map (λ xs. xs
             ++ event_appended self.old.state (Update prepared.update result.verdict))
             (S.told sink.old) }
+        ensures synced { durability ≡ Immediate → is_taken result.verdict ≡ true → S.unsynced sink.new ≡ 0 }
         ensures returned { result.update ≡ prepared.update }
     {
         let PreparedUpdate {
@@ -191,7 +197,7 @@ impl Table {
         self.tick(moment, KeyTree::new());
         let (verdict, io_failed) = match plan {
             None => (row, false),
-            Some(plan) => self.write_update(plan, sink),
+            Some(plan) => self.write_update(plan, sink, durability),
         };
         UpdateOutcome {
             verdict,
@@ -201,7 +207,12 @@ impl Table {
     }
 
     // The append decides: after a failed one the journal is broken, otherwise the keys go to their place.
-    fn write_update<S: JournalSink>(&mut self, plan: Plan, sink: &mut S) -> (UpdateVerdict, bool)
+    fn write_update<S: JournalSink>(
+        &mut self,
+        plan: Plan,
+        sink: &mut S,
+        durability: Durability,
+    ) -> (UpdateVerdict, bool)
         requires place { IsPlace plan.placement (length self.old.state.principals) }
         requires holders { are_holders (placed plan.placement self.old.state.principals) ≡ true }
         requires room { self.old.seen < self.old.events }
@@ -213,8 +224,9 @@ impl Table {
             ≡ (if result.1 then S.failed sink.old + 1 else S.failed sink.old) }
         ensures told { S.told sink.new ≡ (if result.1 then S.told sink.old
             else option_map (λ xs. xs ++ plan.record.items) (S.told sink.old)) }
+        ensures synced { durability ≡ Immediate → is_taken result.0 ≡ true → S.unsynced sink.new ≡ 0 }
     {
-        match sink.append(plan.record.as_slice()) {
+        match durability.append(sink, plan.record.as_slice()) {
             Err(_) => {
                 self.broken = true;
                 (UpdateVerdict::Broken, true)
