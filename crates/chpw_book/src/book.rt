@@ -33,8 +33,8 @@ use crate::unnamed::{StartFault, UnnamedDesk};
 use crate::updating::DeskUpdateRefused;
 use chpw_snapshots::SnapshotWriter;
 use chpw_table::{
-    Counts, DecideFault, Entry, JournalSink, KdcUpdate, Moment, Opened, RaiseVerdict, Refused,
-    UpdateVerdict, Verdict,
+    Counts, DecideFault, Durability, Entry, JournalSink, KdcUpdate, Moment, Opened, RaiseVerdict,
+    Refused, UpdateVerdict, Verdict,
 };
 use std::alloc::Global;
 use std::marker::Model;
@@ -242,7 +242,7 @@ impl<D: DeskName, S: JournalSink> Book<D, S> {
 
     /// Takes what the KDC says of a principal: an entry of the pass's worker at the end of the history, and its receipt in
     /// the pass. If it is taken, lookups show it, and the pass learns the new list of accepted changes; this waits for
-    /// lookups that still read what it changes.
+    /// lookups that still read what it changes. Its record is on the disk when `durability` says.
     ///
     /// `now` has seconds from 0 to `chpw_table::LAST_SECOND`, and the update is within the limits
     /// (`chpw_table::KdcUpdate::fits`). After a fault nothing has changed: `Full` exactly if the table is full; then
@@ -254,6 +254,7 @@ impl<D: DeskName, S: JournalSink> Book<D, S> {
         pass: &mut Pass<D>,
         now: Moment,
         update: KdcUpdate,
+        durability: Durability,
     ) -> Result<UpdateVerdict, DeskUpdateRefused>
         requires moment { IsMoment now }
         requires fits { update_fits update ≡ true }
@@ -270,7 +271,7 @@ impl<D: DeskName, S: JournalSink> Book<D, S> {
         self.snapshots.has(pass.known_front());
         let verdict = self
             .recorded
-            .update(&mut self.snapshots, pass, now, update)?;
+            .update(&mut self.snapshots, pass, now, update, durability)?;
         tell(rt, &mut self.snapshots, pass, verdict.is_taken());
         Ok(verdict)
     }

@@ -26,8 +26,8 @@ use crate::updating::{DeskUpdateFault, DeskUpdateRefused};
 use chpw_rules::Name;
 use chpw_snapshots::NotEntered;
 use chpw_table::{
-    Counts, DecideFault, JournalSink, KdcUpdate, Lookup, Moment, Opened, RaiseVerdict, Refused,
-    UpdateVerdict, Verdict,
+    Counts, DecideFault, Durability, JournalSink, KdcUpdate, Lookup, Moment, Opened, RaiseVerdict,
+    Refused, UpdateVerdict, Verdict,
 };
 use std::alloc::Global;
 use std::sync::{Mutex, MutexGuard, Wait};
@@ -175,7 +175,8 @@ impl<D: DeskName, S: JournalSink> Desk<D, S> {
     }
 
     /// Takes what the KDC says of a principal, under the lock; the receipt joins the pass. If it is taken, lookups show it
-    /// before the lock is released, and the pass learns the new list of accepted changes.
+    /// before the lock is released, and the pass learns the new list of accepted changes. Its record is on the disk then,
+    /// or, if `durability` says so, with that of the next change or update that has to be.
     ///
     /// `now` has seconds from 0 to `chpw_table::LAST_SECOND`, and the update is within the limits
     /// (`chpw_table::KdcUpdate::fits`). After a fault the pass is as before, except that it notes `Full`; the update is
@@ -187,6 +188,7 @@ impl<D: DeskName, S: JournalSink> Desk<D, S> {
         pass: &mut Pass<D>,
         now: Moment,
         update: KdcUpdate,
+        durability: Durability,
     ) -> Result<UpdateVerdict, DeskUpdateRefused>
         requires moment { IsMoment now }
         requires fits { update_fits update ≡ true }
@@ -197,7 +199,7 @@ impl<D: DeskName, S: JournalSink> Desk<D, S> {
         ensures after { IfErr result (λ r. IsRefusedAfter (opening_state D.root) update r.fault) }
     {
         let mut book = self.book.lock(rt);
-        let updated = book.update(rt, pass, now, update);
+        let updated = book.update(rt, pass, now, update, durability);
         MutexGuard::unlock(book);
         update_noted(pass, updated)
     }

@@ -19,8 +19,8 @@ use crate::pass::Pass;
 use crate::recorded::RecordedTable;
 use chpw_snapshots::{NotPrepared, SnapshotWriter};
 use chpw_table::{
-    Entry, Event, JournalSink, KdcUpdate, Moment, PreparedUpdate, Receipt, Table, UpdateFault,
-    UpdateOutcome, UpdateRefused, UpdateVerdict,
+    Durability, Entry, Event, JournalSink, KdcUpdate, Moment, PreparedUpdate, Receipt, Table,
+    UpdateFault, UpdateOutcome, UpdateRefused, UpdateVerdict,
 };
 use std::alloc::AllocError;
 
@@ -94,7 +94,8 @@ impl From<NotPrepared> for DeskUpdateFault {
 
 impl<D: DeskName, S: JournalSink> RecordedTable<D, S> {
     /// One update from the KDC: an entry of the pass's worker at the end, and its receipt in the pass. Its change waits
-    /// to be published; preparing it is the last growth before the journal is appended to.
+    /// to be published; preparing it is the last growth before the journal is appended to, which has it on the disk when
+    /// `durability` says.
     ///
     /// `now` has seconds from 0 to `chpw_table::LAST_SECOND`, and the update is within the limits
     /// (`chpw_table::KdcUpdate::fits`). After a fault nothing has changed: `Full`, `TooMany`, `Composite`, `NoRoom`,
@@ -105,6 +106,7 @@ impl<D: DeskName, S: JournalSink> RecordedTable<D, S> {
         pass: &mut Pass<D>,
         now: Moment,
         update: KdcUpdate,
+        durability: Durability,
     ) -> Result<UpdateVerdict, DeskUpdateRefused>
         requires moment { IsMoment now }
         requires fits { update_fits update ≡ true }
@@ -134,7 +136,9 @@ impl<D: DeskName, S: JournalSink> RecordedTable<D, S> {
             verdict,
             io_failed,
             update,
-        } = self.table.finish_update(prepared, &mut self.sink);
+        } = self
+            .table
+            .finish_update(prepared, &mut self.sink, durability);
         read_newest_of(&self.table, update.name());
         let event = Event::Update { update, verdict };
         let copy = Event::Update {

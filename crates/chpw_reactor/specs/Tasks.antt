@@ -2,6 +2,8 @@
 use Rattle.std.specs.Prelude.{◌≡◌, ◌⊎◌, ℕ, Bool, true, false, List, [], ◌∷◌, map, take, Option, Some, None, option_and_then, if◌then◌else◌}
 use Rattle.std.specs.Prelude.{Result, Ok, Err}
 use Rattle.std.specs.Option.{option_map}
+use Rattle.chpw_table.specs.declared.sink.Durability.{Durability}
+use Rattle.chpw_table.specs.declared.sink.Durability.TheVariants.{Immediate, Eventual}
 use Rattle.chpw_table.specs.declared.updating.KdcUpdate.{KdcUpdate}
 use Rattle.chpw_table.specs.declared.updating.KdcUpdate.TheVariants as table
 use Rattle.chpw_table.specs.declared.updating.UpdateVerdict.{UpdateVerdict}
@@ -33,12 +35,16 @@ table_update (said.Remove name) = table.Remove name
 abbrev pub update_for : ℕ → State → Option Said
 update_for worker s = if is_update_next worker s then option_and_then (λ k. first_update k.updates) s.kdc else None
 
--- a task is a message, to be decided or not, or what the KDC says next
-abbrev pub IsTaskOf : Option Said → Bool → Task → Type 0
-IsTaskOf said decides (task.Message taken) = decides ≡ true
-IsTaskOf said decides (task.Undecided taken) = decides ≡ false
-IsTaskOf None decides (task.Update u) = ⊥
-IsTaskOf (Some s) decides (task.Update u) = u.update ≡ table_update s
+-- of updates in a row the last one's record has to be on the disk at once, and with it those before
+abbrev pub durability_with : Bool → Durability
+durability_with has_more = if has_more then Eventual else Immediate
+
+-- a task is a message, to be decided or not, or what the KDC says next, with more behind it or not
+abbrev pub IsTaskOf : Option Said → Bool → Bool → Task → Type 0
+IsTaskOf said has_more decides (task.Message taken) = decides ≡ true
+IsTaskOf said has_more decides (task.Undecided taken) = decides ≡ false
+IsTaskOf None has_more decides (task.Update u durability) = ⊥
+IsTaskOf (Some s) has_more decides (task.Update u durability) = (u.update ≡ table_update s) × (durability ≡ durability_with has_more)
 
 -- what came of it: another try may take what the next history has room for, or memory that there is then; and what wasn't newer
 -- than what the table has is judged again by that

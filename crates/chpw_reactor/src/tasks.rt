@@ -1,22 +1,24 @@
 //! What a worker is given to do, and what is noted of it.
 ghost use Rattle.std.specs.Prelude.{◌≡◌, Bool, IfSome, Some};
 ghost use Rattle.chpw_table.specs.Updates.{name_in};
-ghost use Rattle.chpw_transfers.specs.Kdc.{IsDecided, is_deciding};
-ghost use Rattle.chpw_reactor.specs.Tasks.{IsTaskOf, end_of, table_update, update_for};
+ghost use Rattle.chpw_transfers.specs.Kdc.{IsDecided, has_update, is_deciding};
+ghost use Rattle.chpw_reactor.specs.Tasks.{IsTaskOf, durability_with, end_of, table_update, update_for};
 
 use chpw_book::DeskUpdateFault;
 use chpw_rules::Name;
-use chpw_table::{KdcUpdate, UpdateVerdict};
+use chpw_table::{Durability, KdcUpdate, UpdateVerdict};
 use chpw_transfers::{State, UpdateEnd};
 use chpw_workers::{FittingUpdate, Task, UpdateTurn};
 
 /// The next task of a worker. The clerk takes what the KDC says and messages in turn. While the KDC has to be in reach and
-/// isn't, no message is decided.
+/// isn't, no message is decided. Of several updates that wait only the last one's record has to be on the disk at once, with
+/// those of the others: a record that is lost before is said again, since the KDC has what it says.
 pub(crate) fn next_task(state: &mut State, worker: usize, now: u64) -> Option<Task>
-    ensures task { IfSome result (IsTaskOf (update_for worker state.old) (is_deciding now state.old.reach state.old.kdc)) }
+    ensures task { IfSome result (IsTaskOf (update_for worker state.old) (has_update state.new.kdc)
+        (is_deciding now state.old.reach state.old.kdc)) }
 {
     if let Some(update) = state.take_update(worker) {
-        return update_task(update);
+        return update_task(update, state.has_update());
     }
     match state.take(worker, now) {
         Some(taken) if state.is_deciding(now) => Some(Task::Message(taken)),
@@ -25,13 +27,25 @@ pub(crate) fn next_task(state: &mut State, worker: usize, now: u64) -> Option<Ta
     }
 }
 
-// An update as a task; none if it isn't within the limits, which the agent's lines are.
-fn update_task(update: chpw_kdc::KdcUpdate) -> Option<Task>
-    ensures update { (decides : Bool) → IfSome result (IsTaskOf (Some update) decides) }
+// An update as a task, with others behind it or not; none if it isn't within the limits, which the agent's lines are.
+fn update_task(update: chpw_kdc::KdcUpdate, has_more: bool) -> Option<Task>
+    ensures update { (decides : Bool) → IfSome result (IsTaskOf (Some update) has_more decides) }
 {
+    let durability = durability_with(has_more);
     match FittingUpdate::of(table_update(update)) {
-        Some(update) => Some(Task::Update(update)),
+        Some(update) => Some(Task::Update(update, durability)),
         None => None,
+    }
+}
+
+// When the record of an update has to be on the disk, with others behind it or not.
+fn durability_with(has_more: bool) -> Durability
+    ensures value { result ≡ durability_with has_more }
+{
+    if has_more {
+        Durability::Eventual
+    } else {
+        Durability::Immediate
     }
 }
 

@@ -4,6 +4,7 @@ ghost use Rattle.chpw_workers.specs.declared.inbox.WorkerTurn.{WorkerTurn as tur
 
 use crate::updates::{FittingUpdate, UpdateTurn};
 use chpw_connections::{TakenMessage, Turn};
+use chpw_table::Durability;
 
 /// What a worker is given to do.
 pub enum Task {
@@ -11,8 +12,9 @@ pub enum Task {
     Message(TakenMessage),
     /// A message whose request isn't decided, since the KDC is out of reach.
     Undecided(TakenMessage),
-    /// What the KDC says of a principal, which it takes into the table.
-    Update(FittingUpdate),
+    /// What the KDC says of a principal, which it takes into the table, and when the journal's record of it has to be on
+    /// the disk.
+    Update(FittingUpdate, Durability),
 }
 
 /// What a worker did.

@@ -12,7 +12,7 @@ use chpw_book::{AtDesk, DeskName, DeskUpdateFault, DeskUpdateRefused};
 use chpw_decider::Decider;
 use chpw_record::KeyRow;
 use chpw_rules::Name;
-use chpw_table::{Digest, JournalSink, KdcUpdate, Moment, UpdateVerdict};
+use chpw_table::{Digest, Durability, JournalSink, KdcUpdate, Moment, UpdateVerdict};
 use std::sync::Wait;
 
 /// What the KDC says of a principal, within the limits of a table.
@@ -59,8 +59,13 @@ pub trait KdcDecider: Decider {
     ghost holds: { Self → name_spec → Option (List key_spec) → Type 0 };
 
     /// Decides an update at a moment, whose seconds are 0 to `chpw_table::LAST_SECOND`, and adds a receipt of it at the
-    /// end. A refusal adds none.
-    fn update(&mut self, now: Moment, update: KdcUpdate) -> Result<UpdateVerdict, DeskUpdateFault>
+    /// end. A refusal adds none. Its record is on the disk when `durability` says.
+    fn update(
+        &mut self,
+        now: Moment,
+        update: KdcUpdate,
+        durability: Durability,
+    ) -> Result<UpdateVerdict, DeskUpdateFault>
         requires moment { IsMoment now }
         requires fits { update_fits update ≡ true }
         ensures adds { IfOk result (λ v. AddsEvent (Self.gathered self.old) (Self.gathered self.new) now (Update update v)) }
@@ -87,8 +92,16 @@ impl<'a, D: DeskName, S: JournalSink, R: Wait> KdcDecider for AtDesk<'a, D, S, R
 
     ghost holds = { λ a name keys. AreHeldAfter (opening_state D.root) name keys };
 
-    fn update(&mut self, now: Moment, update: KdcUpdate) -> Result<UpdateVerdict, DeskUpdateFault> {
-        match self.desk.update(self.rt, self.pass, now, update) {
+    fn update(
+        &mut self,
+        now: Moment,
+        update: KdcUpdate,
+        durability: Durability,
+    ) -> Result<UpdateVerdict, DeskUpdateFault> {
+        match self
+            .desk
+            .update(self.rt, self.pass, now, update, durability)
+        {
             Ok(verdict) => Ok(verdict),
             Err(DeskUpdateRefused { fault, update: _ }) => Err(fault),
         }

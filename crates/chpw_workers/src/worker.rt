@@ -19,7 +19,7 @@ use chpw_decider::Decider;
 use chpw_record::Change;
 use chpw_rules::Name;
 use chpw_serve::{Clock, Ended, Gate, Messages, Observer, UpdateObserver, Words, serve_stream};
-use chpw_table::{Body, Digest, Event, Opened, Receipt, Verdict};
+use chpw_table::{Body, Digest, Durability, Event, Opened, Receipt, Verdict};
 use std::alloc::Global;
 use std::sync::Wait;
 
@@ -101,7 +101,9 @@ fn do_task<
             let turn = take_turn(alloc, &service, context.has_kdc, taken, decider, worker);
             WorkerTurn::Undecided(turn)
         }
-        Task::Update(update) => WorkerTurn::Update(take_update(update, decider, worker)),
+        Task::Update(update, durability) => {
+            WorkerTurn::Update(take_update(update, durability, decider, worker))
+        }
     }
 }
 
@@ -140,6 +142,7 @@ fn take_turn<
 // Decides what the KDC says of a principal.
 fn take_update<K: KdcDecider, I, G: UpdateObserver, C: Clock, X>(
     update: FittingUpdate,
+    durability: Durability,
     decider: &mut K,
     worker: &mut Worker<I, G, C, X>,
 ) -> UpdateTurn
@@ -152,7 +155,7 @@ fn take_update<K: KdcDecider, I, G: UpdateObserver, C: Clock, X>(
     let update = update.update();
     let now = worker.clock.now();
     let outcome = match update.clone() {
-        Ok(copy) => decider.update(now, copy),
+        Ok(copy) => decider.update(now, copy, durability),
         Err(_) => Err(DeskUpdateFault::Memory),
     };
     if let Ok(verdict) = outcome {

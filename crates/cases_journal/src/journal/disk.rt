@@ -12,8 +12,9 @@ use support_streams::{Course, Taker, Way};
 /// The length of a record.
 const RECORD: usize = 66;
 
-/// Adds the result of appending a record to a file that takes bytes in this way, and is then synced (`synced`) or can't
-/// be (`not synced`), and how many bytes are on the disk.
+/// Adds the result of appending a record to a file that takes bytes in this way, and is then synced (`synced`), can't be
+/// (`not synced`) or needn't be yet (`unsynced`), or of two, of which the second is synced (`unsynced, synced`); and how many
+/// bytes are on the disk.
 pub fn show_appended(
     alloc: Global,
     text: &mut String,
@@ -25,15 +26,26 @@ pub fn show_appended(
             taken: Vec::new(alloc),
             course: Course::start(Way::of(way)),
         },
-        is_synced: end == "synced",
+        is_synced: end != "not synced",
         kept: 0,
     };
     let mut sink = FileSink::new(disk);
-    let told = append_result(&mut sink);
+    let told = append_results(&mut sink, end);
     let failures = sink.failures();
     let kept = sink.file().kept;
     drop(sink);
     write!(text, "{told}, failures {failures}, on the disk {kept}").map_err(Refusal::from)
+}
+
+fn append_results(sink: &mut FileSink<Disk>, end: &str) -> &'static str {
+    match end {
+        "unsynced" => unsynced_result(sink),
+        "unsynced, synced" => match unsynced_result(sink) {
+            "appended" => append_result(sink),
+            told => told,
+        },
+        _ => append_result(sink),
+    }
 }
 
 fn append_result(sink: &mut FileSink<Disk>) -> &'static str {
@@ -41,6 +53,16 @@ fn append_result(sink: &mut FileSink<Disk>) -> &'static str {
         return "failed too often";
     }
     match sink.append(&[7; RECORD]) {
+        Ok(()) => "appended",
+        Err(_) => "failed",
+    }
+}
+
+fn unsynced_result(sink: &mut FileSink<Disk>) -> &'static str {
+    if sink.failures() == u64::MAX {
+        return "failed too often";
+    }
+    match sink.append_unsynced(&[7; RECORD]) {
         Ok(()) => "appended",
         Err(_) => "failed",
     }

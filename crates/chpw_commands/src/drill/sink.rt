@@ -23,6 +23,9 @@ impl RequestSink {
 impl JournalSink for RequestSink {
     ghost failed = { λ s. if s.fails then s.failed else 0 };
 
+    // Nothing is on a disk.
+    ghost unsynced = { λ _. 0 };
+
     ghost told = { λ s. if s.fails then Some [] else None };
 
     fn append(&mut self, _bytes: &[u8]) -> Result<(), SinkFault> {

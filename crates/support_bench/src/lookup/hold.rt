@@ -60,6 +60,9 @@ pub struct SlowSink<'a, R: Clock> {
 impl<'a, R: Clock> JournalSink for SlowSink<'a, R> {
     ghost failed = { λ s. 0 };
 
+    // Nothing is on a disk.
+    ghost unsynced = { λ _. 0 };
+
     ghost told = { λ s. None };
 
     fn append(&mut self, _bytes: &[u8]) -> Result<(), SinkFault> {

@@ -286,7 +286,7 @@ pub fn update<D: DeskName, S: JournalSink, R: Wait + Abort>(
 ) -> Result<UpdateVerdict, DeskUpdateRefused> {
     let fits = update.fits();
     assert!(rt; fits);
-    desk.update(rt, pass, NOW, update)
+    desk.update(rt, pass, NOW, update, Durability::Immediate)
 }
 
 // The update has this verdict.
