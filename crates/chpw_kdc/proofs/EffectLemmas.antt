@@ -23,7 +23,7 @@ use Rattle.chpw_kdc.specs.declared.update.KdcUpdate.{KdcUpdate}
 use Rattle.chpw_kdc.specs.declared.update.KdcUpdate.TheVariants as update
 use Rattle.chpw_kdc.specs.Mirrors.{key_of, judgement, may_adopt, adopted, is_same}
 use Rattle.chpw_kdc.specs.Dialogs.{State}
-use Rattle.chpw_kdc.specs.Answering.{after_answer, of_asked, of_list, of_get, of_put, compared, after_judgement, with_listed}
+use Rattle.chpw_kdc.specs.Answering.{after_answer, awaiting, of_asked, of_list, of_get, of_put, compared, after_judgement, with_listed}
 use Rattle.chpw_kdc.specs.Answering.{with_lacked, lacked_in, is_many, refused_if_held, list_postponed, with_update, settled, lifted, after_higher, is_newest}
 use Rattle.chpw_kdc.specs.Answering.{accepted, refused, has_version, is_listed, is_first, is_put_for, if_named, without_first}
 use Rattle.chpw_kdc.specs.Answering.{confirmed_with}
@@ -315,5 +315,5 @@ changed false x r ours s t a h quiet others = others h
 
 pub effect : (ours : Name → Bool) (now : ℕ) (s t : State) (a : Answer) → after_answer ours now s a ≡ Ok t → Effect ours s a t
 effect ours now s t a h =
-    changed (is_changed a) _ (of_asked ours now s.asked s a) ours s t a h (refl, refl, inl refl, inl (inl refl, refl, inr refl))
-    (λ g. by_asked ours now s t a s.asked refl g)
+    changed (is_changed a) _ (of_asked ours now s.asked (awaiting now s) a) ours s t a h (refl, refl, inl refl, inl (inl refl, refl, inr refl))
+    (λ g. by_asked ours now (awaiting now s) t a s.asked refl g)

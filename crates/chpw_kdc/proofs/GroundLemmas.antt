@@ -19,7 +19,7 @@ use Rattle.chpw_kdc.specs.declared.update.KdcUpdate.TheVariants as update
 use Rattle.chpw_kdc.specs.Lines.{Request, list_keys, get, put, answer_of, is_changed}
 use Rattle.chpw_kdc.specs.Mirrors.{key_of, judgement}
 use Rattle.chpw_kdc.specs.Dialogs.{State, at_start, after_loss, after_request, request_by, is_late, without_update, first_update}
-use Rattle.chpw_kdc.specs.Answering.{after_byte, after_answer, of_asked, of_list, of_get, of_put, after_judgement, with_listed}
+use Rattle.chpw_kdc.specs.Answering.{after_byte, after_answer, awaiting, of_asked, of_list, of_get, of_put, after_judgement, with_listed}
 use Rattle.chpw_kdc.specs.Answering.{with_lacked, lacked_in, is_many, refused, is_listed, is_first, is_put_for, without_first}
 use Rattle.chpw_kdc.specs.Answering.{with_update, lifted, accepted, settled, is_newest}
 use Rattle.chpw_kdc.specs.Runs.{Event, holds, holds_none, fills, wants, loses_want, wants_comparison, connects, loses, asks, hears}
@@ -244,7 +244,8 @@ changed_gets false s t x r same others h = others h
 
 answer_gets : (ours : Name → Bool) (now : ℕ) (s t : State) (a : Answer) → after_answer ours now s a ≡ Ok t → AsksFew s t
 answer_gets ours now s t a h =
-    changed_gets (is_changed a) s t _ (of_asked ours now s.asked s a) refl (λ g. asked_gets ours now s t a s.asked g) h
+    changed_gets (is_changed a) s t _ (of_asked ours now s.asked (awaiting now s) a) refl
+    (λ g. asked_gets ours now (awaiting now s) t a s.asked g) h
 
 request_gets : (now : ℕ) (s : State) (o : Option Request) → (after_request now o s).gets ≡ s.gets
 request_gets now s None = refl

@@ -11,7 +11,7 @@ use Rattle.chpw_kdc.specs.declared.fault.ProtocolFault.{ProtocolFault}
 use Rattle.chpw_kdc.specs.Faults.{IsFault, ReadUnlessMemory, fault_of_line}
 use Rattle.chpw_kdc.specs.Dialogs.{State, after_loss}
 use Rattle.chpw_kdc.specs.Lines.{is_changed}
-use Rattle.chpw_kdc.specs.Answering.{after_read, after_byte, after_bytes, and_then, each, of_asked}
+use Rattle.chpw_kdc.specs.Answering.{after_read, after_byte, after_bytes, and_then, awaiting, each, of_asked}
 use Rattle.chpw_kdc.specs.Answers.{FaultsIn, SameLost}
 
 -- a line that is no answer
@@ -31,13 +31,13 @@ handed_on (Err f) why defined h wrong = subst (IsFault defined) (sym h) wrong
 
 -- the fault of an answer
 read_is : (ours : Name → Bool) (now : ℕ) (s : State) (a : Answer) (read : Result Answer LineFault)
-    → ReadUnlessMemory (Ok a) read → is_changed a ≡ false → after_read ours now s read ≡ of_asked ours now s.asked s a
+    → ReadUnlessMemory (Ok a) read → is_changed a ≡ false → after_read ours now s read ≡ of_asked ours now s.asked (awaiting now s) a
 read_is ours now s a read (inl none) other = absurd cc
 read_is ours now s a read (inr is) other =
     ap (λ (r : Result Answer LineFault). after_read ours now s r) (sym is) ∙ rw other
 
 pub answered_fault : {E : Type 0} (ours : Name → Bool) (now : ℕ) (s : State) (a : Answer) (read : Result Answer LineFault) (r : Result E ProtocolFault)
-    → ReadUnlessMemory (Ok a) read → is_changed a ≡ false → IfErr r (IsFault (of_asked ours now s.asked s a))
+    → ReadUnlessMemory (Ok a) read → is_changed a ≡ false → IfErr r (IsFault (of_asked ours now s.asked (awaiting now s) a))
     → IfErr r (IsFault (after_read ours now s read))
 answered_fault ours now s a read r is other h =
     subst (λ (d : Result State ProtocolFault). IfErr r (IsFault d)) (sym (read_is ours now s a read is other)) h

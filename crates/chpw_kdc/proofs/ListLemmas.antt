@@ -27,7 +27,7 @@ use Rattle.chpw_kdc.specs.declared.update.Notice.TheVariants.{TooManyGone}
 use Rattle.chpw_kdc.specs.Tellings.{Tellings, after_missing, after_few, after_told, with_refusal, is_told}
 use Rattle.chpw_kdc.specs.Paces.{pace_ended}
 use Rattle.chpw_kdc.specs.Dialogs.{State}
-use Rattle.chpw_kdc.specs.Answering.{after_answer, after_judgement, each, and_then, is_listed, is_many, lacked_in, of_asked, of_list, refused}
+use Rattle.chpw_kdc.specs.Answering.{after_answer, after_judgement, awaiting, each, and_then, is_listed, is_many, lacked_in, of_asked, of_list, refused}
 use Rattle.chpw_kdc.specs.Answering.{succeeded, with_lacked, with_listed}
 use Rattle.chpw_kdc.specs.Lists.{Row, has, other, name_of, names_of, line_of, AreNew, judgement_of, put_by, adoption_by}
 use Rattle.chpw_kdc.specs.Lists.{puts_for, adoptions_for, AskedAlone, ListsPutRight}
@@ -177,11 +177,11 @@ row_of_list ours now s t (other name why) h =
     subst (λ (x : State). IsRow ours s (other name why) x) d.1 (left_row ours b name why s d.0)
 
 row_answered : (ours : Name → Bool) (now : ℕ) (s : State) (row : Row) → s.asked ≡ Some asked.List
-    → after_answer ours now s (line_of row) ≡ of_list ours now s (line_of row)
+    → after_answer ours now s (line_of row) ≡ of_list ours now (awaiting now s) (line_of row)
 row_answered ours now s (has name kvno keys) list =
-    ap (λ (o : Option Asked). of_asked ours now o s (line_of (has name kvno keys))) list
+    ap (λ (o : Option Asked). of_asked ours now o (awaiting now s) (line_of (has name kvno keys))) list
 row_answered ours now s (other name why) list =
-    ap (λ (o : Option Asked). of_asked ours now o s (line_of (other name why))) list
+    ap (λ (o : Option Asked). of_asked ours now o (awaiting now s) (line_of (other name why))) list
 
 -- ---- rows, one after the other
 
@@ -216,7 +216,7 @@ rows_heard ours now [] before s t list are h =
 rows_heard ours now (row ∷ rows) before s t list are h =
     let f = parted (after_answer ours now s (line_of row)) (λ u. each (after_answer ours now) u (map line_of rows)) t h in
     let u : State = f.0 in
-    let one = row_of_list ours now s u row (sym (row_answered ours now s row list) ∙ f.1) in
+    let one = row_of_list ours now (awaiting now s) u row (sym (row_answered ours now s row list) ∙ f.1) in
     let more = rows_heard ours now rows (before ++ name_of row ∷ []) u t (one.asked ∙ list)
     (subst (λ (ns : List Name). AreListed ns (before ++ name_of row ∷ [])) (sym one.listed) (one_more s.listed before (name_of row) are)) f.2 in
     record {
@@ -308,19 +308,20 @@ lists_put_right ours now s t rows count list none h =
     (sym (each-append step s (map line_of rows) (answer.End count ∷ [])) ∙ h) in
     let u : State = both.0 in
     let all = rows_heard ours now rows [] s u list (λ n. ap (λ (l : List Name). is_listed l n) none) both.1 in
+    let v : State = awaiting now u in
     let last = parted (step u (answer.End count)) (λ v. Ok v) t both.2 in
     let list_still : u.asked ≡ Some asked.List = all.asked ∙ list in
-    let said = sym (ap (λ (o : Option Asked). of_asked ours now o u (answer.End count)) list_still) ∙ last.1 ∙ last.2 in
-    let end = end_of_list ours now count u t said in
+    let said = sym (ap (λ (o : Option Asked). of_asked ours now o v (answer.End count)) list_still) ∙ last.1 ∙ last.2 in
+    let end = end_of_list ours now count v t said in
     let names = names_of rows in
-    let by_names : AskedAlone (is_many (length (lacked_in names u.mirror)) (length u.mirror)) (lacked_in names u.mirror) u t =
-    subst (λ (l : List Name). AskedAlone (is_many (length l) (length u.mirror)) l u t) (same_lacked u.listed names u.mirror all.listed) end.lacked in
+    let by_names : AskedAlone (is_many (length (lacked_in names u.mirror)) (length u.mirror)) (lacked_in names u.mirror) v t =
+    subst (λ (l : List Name). AskedAlone (is_many (length l) (length u.mirror)) l v t) (same_lacked u.listed names u.mirror all.listed) end.lacked in
     record {
       once = all.once;
       mirror = end.mirror ∙ all.mirror;
       puts = end.puts ∙ all.puts;
       updates = end.updates ∙ all.updates;
       lacked = subst (λ (m : Mirror). AskedAlone (is_many (length (lacked_in names m)) (length m)) (lacked_in names m) s t) all.mirror
-          (alone_over (is_many (length (lacked_in names u.mirror)) (length u.mirror)) (lacked_in names u.mirror) s u t all.mirror all.gets all.many by_names);
+          (alone_over (is_many (length (lacked_in names u.mirror)) (length u.mirror)) (lacked_in names u.mirror) s v t all.mirror all.gets all.many by_names);
       over = end.over;
     }

@@ -10,7 +10,6 @@ use Rattle.chpw_kdc.specs.declared.fault.LineFault.{LineFault}
 use Rattle.chpw_kdc.specs.declared.fault.ProtocolFault.{ProtocolFault}
 use Rattle.chpw_kdc.specs.declared.fault.ProtocolFault.TheVariants as fault
 use Rattle.chpw_kdc.specs.Lines.{answer_of}
-use Rattle.chpw_kdc.specs.Paces.{pace_awaiting}
 use Rattle.chpw_kdc.specs.Dialogs.{State, at_start, after_loss}
 use Rattle.chpw_kdc.specs.Answering.{after_byte, after_line, after_read, after_answer}
 use Rattle.chpw_kdc.specs.Runs.{Event, or_lost, behind, run, state_after}
@@ -48,9 +47,9 @@ IsHeard ours s byte t =
     (record s { heard = s.heard ++ byte ∷ [] } ≡ t) ⊎ ((a : Answer) × (byte ≡ 10) × (answer_of s.heard ≡ Ok a) × Effect ours s a t)
 
 read_if : (ours : Name → Bool) (now : ℕ) (s t : State) (r : Result Answer LineFault)
-    → after_read ours now (record s { heard = []; pace = pace_awaiting now s.pace }) r ≡ Ok t
+    → after_read ours now (record s { heard = [] }) r ≡ Ok t
     → (a : Answer) × (r ≡ Ok a) × Effect ours s a t
-read_if ours now s t (Ok a) h = (a, refl, effect ours now (record s { heard = []; pace = pace_awaiting now s.pace }) t a h)
+read_if ours now s t (Ok a) h = (a, refl, effect ours now (record s { heard = [] }) t a h)
 read_if ours now s t (Err why) h = absurd cc
 
 newline : (byte : ℕ) → (byte == 10) ≡ true → byte ≡ 10
@@ -79,14 +78,14 @@ by_byte P ours now s byte lost heard = by_result (after_byte ours now s byte) (�
 -- the same, where an answer is any that its definition lets through
 pub by_line : (P : State → Type 0) (ours : Name → Bool) (now : ℕ) (s : State) (byte : ℕ) → P (after_loss now s)
     → P (record s { heard = s.heard ++ byte ∷ [] })
-    → ((a : Answer) (t : State) → after_answer ours now (record s { heard = []; pace = pace_awaiting now s.pace }) a ≡ Ok t → P t)
+    → ((a : Answer) (t : State) → after_answer ours now (record s { heard = [] }) a ≡ Ok t → P t)
     → P (or_lost now s (after_byte ours now s byte))
 by_line P ours now s byte lost goes_on answered =
     by_result (after_byte ours now s byte)
     (λ t h. by_kind t (byte_if (not s.pace.connected) (byte == 10) (nat_le 1024 (length s.heard + 1)) (after_line ours now s)
     (record s { heard = s.heard ++ byte ∷ [] }) t h))
   where
-    by_read : (t : State) (r : Result Answer LineFault) → after_read ours now (record s { heard = []; pace = pace_awaiting now s.pace }) r ≡ Ok t → P t
+    by_read : (t : State) (r : Result Answer LineFault) → after_read ours now (record s { heard = [] }) r ≡ Ok t → P t
     by_read t (Ok a) h = answered a t h
     by_read t (Err why) h = absurd cc
 

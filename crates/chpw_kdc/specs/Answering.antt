@@ -195,9 +195,14 @@ of_asked ours now (Some asked.List) s a = of_list ours now s a
 of_asked ours now (Some asked.Get) s a = of_get ours now s a
 of_asked ours now (Some (asked.Put key)) s a = of_put key now s a
 
--- `changed` may be said at any time: a comparison is due
+-- a line of the answer under way: the next one is awaited anew
+abbrev pub awaiting : ℕ → State → State
+awaiting now s = record s { pace = pace_awaiting now s.pace }
+
+-- `changed` may be said at any time: a comparison is due, and an answer under way is awaited no longer than before
 abbrev pub after_answer : (Name → Bool) → ℕ → State → Answer → Result State ProtocolFault
-after_answer ours now s a = if is_changed a then Ok (record s { pace = pace_due s.pace }) else of_asked ours now s.asked s a
+after_answer ours now s a =
+    if is_changed a then Ok (record s { pace = pace_due s.pace }) else of_asked ours now s.asked (awaiting now s) a
 
 abbrev pub after_read : (Name → Bool) → ℕ → State → Result Answer LineFault → Result State ProtocolFault
 after_read ours now s (Ok a) = after_answer ours now s a
@@ -205,7 +210,7 @@ after_read ours now s (Err why) = Err (fault_of_line why)
 
 -- a whole line
 abbrev pub after_line : (Name → Bool) → ℕ → State → Result State ProtocolFault
-after_line ours now s = after_read ours now (record s { heard = []; pace = pace_awaiting now s.pace }) (answer_of s.heard)
+after_line ours now s = after_read ours now (record s { heard = [] }) (answer_of s.heard)
 
 abbrev pub after_byte : (Name → Bool) → ℕ → State → ℕ → Result State ProtocolFault
 after_byte ours now s byte =

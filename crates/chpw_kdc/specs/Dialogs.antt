@@ -73,6 +73,10 @@ after_full_table name s = record s { tellings = after_full name s.tellings }
 abbrev pub ticketed : ℕ → Name → KeyRow → ℕ → Put
 ticketed now name key ticket = record { name = name; key = key; ticket = Some ticket; since = now }
 
+-- as many keys are on their way to the KDC as changes may add to: twice as many as a table has principals
+abbrev pub has_most_puts : State → Bool
+has_most_puts s = nat_le 20000 (length s.puts)
+
 -- a change was accepted, and gets the next ticket
 abbrev pub after_want : ℕ → Name → KeyRow → State → State
 after_want now name key s = record s {

@@ -29,13 +29,21 @@ pace_at_start now = record {
 abbrev pub pace_connected : ℕ → Pace → Pace
 pace_connected now p = record p { connected = true; since = now; ask_at = now; retry_pause = 100; is_due = true; compare_at = now }
 
--- the pauses between calls double, up to thirty seconds
+-- there is a connection, and it has lasted for as long as the present pause between calls, or longer
+abbrev pub has_lasted : ℕ → Pace → Bool
+has_lasted now p = p.connected && nat_le p.call_pause (now - p.since)
+
+-- the pause before the next call: 100 milliseconds again behind a connection that has lasted, else the present one
+abbrev pub pause_now : ℕ → Pace → ℕ
+pause_now now p = if has_lasted now p then 100 else p.call_pause
+
+-- the agent is called after that pause, and the next one is twice as long, up to thirty seconds
 abbrev pub pace_lost : ℕ → Pace → Pace
 pace_lost now p = record p {
   connected = false;
   since = if p.connected then now else p.since;
-  call_at = later now p.call_pause;
-  call_pause = min (times p.call_pause 2) 30000;
+  call_at = later now (pause_now now p);
+  call_pause = min (times (pause_now now p) 2) 30000;
   late_at = now;
   is_due = true;
 }
@@ -66,7 +74,7 @@ pace_postponed now p = record p {
 
 -- a list was heard to its end: the next one begins after a second at least, and after ten times as long as this one took
 abbrev pub pace_ended : ℕ → Pace → Pace
-pace_ended now p = record p { compare_at = later now (max (times (now - p.began) 10) 1000); call_pause = 100 }
+pace_ended now p = record p { compare_at = later now (max (times (now - p.began) 10) 1000) }
 
 abbrev pub pace_due : Pace → Pace
 pace_due p = record p { is_due = true }

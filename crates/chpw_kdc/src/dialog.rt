@@ -1,19 +1,19 @@
 //! What the service says to the agent at the KDC's database, and what it makes of the answers.
-ghost use Rattle.std.specs.Prelude.{◌≡◌, ◌+◌, ◌==◌, ◌&&◌, not, nat_le, length, true, false, None, IfOk, OnOk, OnErr};
+ghost use Rattle.std.specs.Prelude.{◌≡◌, ◌+◌, ◌-◌, ◌^◌, ◌==◌, ◌&&◌, not, nat_le, length, true, false, None, ◌⊎◌, IfOk, IfErr, OnOk, OnErr};
 ghost use Rattle.std.specs.Option.{option_copied};
 ghost use Rattle.chpw_kdc.specs.Lines.{is_sayable};
 ghost use Rattle.chpw_kdc.specs.Mirrors.{key_of, newest};
 ghost use Rattle.chpw_kdc.specs.Dialogs.{at_start, after_hold, after_none, after_full_table, after_want, after_want_comparison, after_lost_want};
 ghost use Rattle.chpw_kdc.specs.Dialogs.{forgotten, after_connect, after_loss, first_update, after_take, after_decision};
-ghost use Rattle.chpw_kdc.specs.Dialogs.{after_telling, changes_of, is_in_reach};
+ghost use Rattle.chpw_kdc.specs.Dialogs.{after_telling, changes_of, has_most_puts, is_in_reach};
 ghost use Rattle.chpw_kdc.specs.Tellings.{next_notice};
-ghost use Rattle.chpw_kdc.specs.declared.fault.HoldFault.TheVariants.{LongName, Memory};
+ghost use Rattle.chpw_kdc.specs.declared.fault.HoldFault.TheVariants.{LongName, NoTicket, TooMany, Memory};
 
 use crate::fault::HoldFault;
 use crate::fields::is_sayable;
 use crate::judging::newer;
 use crate::pace::Pace;
-use crate::put::{Asked, Put};
+use crate::put::{Asked, MOST_PUTS, Put};
 use crate::tellings::Tellings;
 use crate::update::{KdcUpdate, Notice, Refusal};
 use chpw_record::KeyRow;
@@ -120,6 +120,7 @@ impl KdcDialog {
         ensures unchanged { OnErr result (self.new ≡ self.old) }
         ensures sayable { OnOk result (is_sayable name ≡ true) }
         ensures long { result ≡ Err LongName → is_sayable name ≡ false }
+        ensures fault { IfErr result (λ why. (why ≡ LongName) ⊎ (why ≡ Memory)) }
         ensures memory { result ≡ Err Memory → key_of self.old.mirror name ≡ None }
     {
         if !is_sayable(&name) {
@@ -180,14 +181,18 @@ impl KdcDialog {
     /// A change was accepted: the KDC is to get this key of the name. The change's ticket, one more than the last one;
     /// `confirmed` says when it has arrived. It is put whatever newer key the mirror has.
     ///
-    /// Refused with nothing changed as `LongName`, `NoTicket` or `Memory`. After `Memory` the caller hands the key to
-    /// `hold`, which takes no memory for a name that the mirror has, and calls `want_lost`; there is no ticket then.
+    /// Refused with nothing changed as `LongName`, `NoTicket`, `TooMany` or `Memory`. The caller then hands the key to `hold`,
+    /// which takes no memory for a name that the mirror has, and calls `want_lost`; there is no ticket then.
     pub fn want(&mut self, name: Name, key: KeyRow, now: u64) -> Result<u64, HoldFault>
         ensures step { OnOk result (self.new ≡ after_want now name key self.old) }
         ensures ticket { IfOk result (λ ticket. ticket ≡ self.old.issued + 1) }
         ensures unchanged { OnErr result (self.new ≡ self.old) }
         ensures sayable { OnOk result (is_sayable name ≡ true) }
+        ensures few { OnOk result (has_most_puts self.old ≡ false) }
         ensures long { result ≡ Err LongName → is_sayable name ≡ false }
+        ensures no_ticket { result ≡ Err NoTicket → self.old.issued ≡ 2 ^ 64 - 1 }
+        ensures too_many { result ≡ Err TooMany → has_most_puts self.old ≡ true }
+        ensures memory { result ≡ Err Memory → has_most_puts self.old ≡ false }
     {
         if !is_sayable(&name) {
             return Err(HoldFault::LongName);
@@ -195,6 +200,9 @@ impl KdcDialog {
         let Some(ticket) = self.issued.checked_add(1) else {
             return Err(HoldFault::NoTicket);
         };
+        if self.puts.len() >= MOST_PUTS {
+            return Err(HoldFault::TooMany);
+        }
         let copy = name.clone()?;
         let newest = self.newest(&name, key);
         self.puts.reserve(1)?;
@@ -217,8 +225,8 @@ impl KdcDialog {
         self.pace.is_due = true;
     }
 
-    /// A change was lost for want of memory: table and KDC are compared anew, which is told. The comparison puts right
-    /// what the mirror knows of.
+    /// A change, or a key of the table's, was lost: `want` or `hold` refused it, or it wasn't found. Table and KDC are compared
+    /// anew, which is told. The comparison puts right what the mirror knows of.
     pub fn want_lost(&mut self)
         ensures step { self.new ≡ after_lost_want self.old }
     {

@@ -66,7 +66,7 @@ pub enum ProtocolFault {
     NamedTwice,
     /// The list's end has another number than that of its lines.
     WrongCount,
-    /// The next line of an answer is late.
+    /// The next line of an answer is late; `changed` is none.
     Late,
     /// There is no memory for what a line says.
     Memory,
@@ -79,6 +79,8 @@ pub enum HoldFault {
     LongName,
     /// There are no more tickets: 2^64 - 1 were given.
     NoTicket,
+    /// 20,000 keys are on their way to the KDC.
+    TooMany,
     /// There is no memory for it.
     Memory,
 }

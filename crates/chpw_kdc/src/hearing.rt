@@ -56,11 +56,11 @@ impl KdcDialog {
     {
         let answer = Answer::of(self.alloc, self.heard.as_slice())?;
         self.heard.clear();
-        self.pace.hear(now);
         if answer.is_changed() {
             self.pace.is_due = true;
             return Ok(());
         }
+        self.pace.hear(now);
         self.hear_answer(ours, answer, now)
     }
 

@@ -1,7 +1,7 @@
 //! When the agent is called, asked and asked again.
 ghost use Rattle.std.specs.Prelude.{◌≡◌};
 ghost use Rattle.chpw_kdc.specs.Paces.{pace_at_start, pace_connected, pace_lost, pace_awaiting, pace_begun, pace_failed};
-ghost use Rattle.chpw_kdc.specs.Paces.{pace_postponed, pace_succeeded, pace_ended, may_ask};
+ghost use Rattle.chpw_kdc.specs.Paces.{pace_postponed, pace_succeeded, pace_ended, pause_now, may_ask};
 
 /// The first pause before another try, in milliseconds.
 pub const FIRST_PAUSE: u64 = 100;
@@ -27,7 +27,7 @@ pub struct Pace {
     pub since: u64,
     /// When the agent is called next, if there is no connection.
     pub call_at: u64,
-    /// How long to wait after the next connection that is lost or not made.
+    /// How long to wait after the next connection that isn't made, or that ends sooner than this.
     pub call_pause: u64,
     /// When the next request may be made.
     pub ask_at: u64,
@@ -74,18 +74,31 @@ impl Pace {
         self.compare_at = now;
     }
 
-    /// The connection has ended, or couldn't be made. The next pause is twice as long, up to thirty seconds.
+    /// The connection has ended, or couldn't be made: the agent is called again after a pause. The next pause is twice as long,
+    /// up to thirty seconds.
     pub fn lose(&mut self, now: u64)
         ensures value { self.new ≡ pace_lost now self.old }
     {
+        let pause = self.pause_now(now);
         if self.connected {
             self.since = now;
         }
         self.connected = false;
-        self.call_at = now.saturating_add(self.call_pause);
-        self.call_pause = self.call_pause.saturating_mul(2).min(LONGEST_CALL_PAUSE);
+        self.call_at = now.saturating_add(pause);
+        self.call_pause = pause.saturating_mul(2).min(LONGEST_CALL_PAUSE);
         self.late_at = now;
         self.is_due = true;
+    }
+
+    // The pause before the next call: the first one again behind a connection that has lasted for as long as the present pause.
+    fn pause_now(&self, now: u64) -> u64
+        ensures value { result ≡ pause_now now self.now }
+    {
+        if self.connected && self.call_pause <= now.saturating_sub(self.since) {
+            FIRST_PAUSE
+        } else {
+            self.call_pause
+        }
     }
 
     /// A request is made.
@@ -103,7 +116,7 @@ impl Pace {
         self.began = now;
     }
 
-    /// A line of an answer came.
+    /// A line of the answer under way came.
     pub fn hear(&mut self, now: u64)
         ensures value { self.new ≡ pace_awaiting now self.old }
     {
@@ -143,7 +156,6 @@ impl Pace {
         let took = now.saturating_sub(self.began);
         let pause = took.saturating_mul(10).max(COMPARISON_PAUSE);
         self.compare_at = now.saturating_add(pause);
-        self.call_pause = FIRST_PAUSE;
     }
 
     /// Whether a request may be made now, if there is one.

@@ -3,6 +3,10 @@
 use chpw_record::KeyRow;
 use chpw_rules::Name;
 
+/// How many keys may be on their way to the KDC before no change adds another one: twice as many as a table has principals. A
+/// comparison, which begins while there is none, brings at most one for each name of the mirror.
+pub const MOST_PUTS: usize = 20_000;
+
 /// A key on its way to the KDC.
 #[derive(Drop)]
 pub(crate) struct Put {

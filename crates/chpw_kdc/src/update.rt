@@ -18,7 +18,7 @@ pub enum KdcUpdate {
 /// What is to be told, once.
 #[derive(Drop)]
 pub enum Notice {
-    /// A change was lost for want of memory: table and KDC are compared anew.
+    /// A change was lost, or a key of the table's (`want_lost`): table and KDC are compared anew.
     Lost,
     /// The agent doesn't write this name, or doesn't tell its keys.
     Refused { name: Name, reason: Reason },
