@@ -1,9 +1,10 @@
 //! Names with no memory of their own.
 ghost use Rattle.std.specs.Prelude.{◌≡◌, ◌∷◌, [], IsTrue, IfSome, IfNone, true, false, take};
-ghost use Rattle.chpw_rules.specs.Names.{is_same_name};
+ghost use Rattle.chpw_rules.specs.Names.{name_cmp};
 ghost use Rattle.chpw_changelog.specs.Changes.{short_name, is_short};
 
 use chpw_rules::Name;
+use std::cmp::Ordering;
 
 /// The most bytes of such a name, which a component may have.
 pub const SHORT_NAME_LIMIT: usize = 128;
@@ -42,21 +43,22 @@ impl ShortName {
         Some(ShortName { len, bytes })
     }
 
-    /// Whether it is this name.
-    pub fn is(&self, name: &Name) -> bool
-        ensures value { result ≡ is_same_name (short_name self.now) name.now }
+    /// How it compares with a name, in the order of names.
+    pub fn compare(&self, name: &Name) -> Ordering
+        ensures value { result ≡ name_cmp (short_name self.now) name.now }
     {
         match name.parts.as_slice() {
-            [part] => self.as_slice() == part.as_slice(),
-            _ => false,
+            [] => Ordering::Greater,
+            [part] => self.as_slice().cmp(part.as_slice()),
+            [part, ..] => self.as_slice().cmp(part.as_slice()).then(Ordering::Less),
         }
     }
 
-    /// Whether both are the same name.
-    pub fn names_same(&self, other: &ShortName) -> bool
-        ensures value { result ≡ is_same_name (short_name self.now) (short_name other.now) }
+    /// How it compares with another, in the order of names.
+    pub fn compare_short(&self, other: &ShortName) -> Ordering
+        ensures value { result ≡ name_cmp (short_name self.now) (short_name other.now) }
     {
-        self.as_slice() == other.as_slice()
+        self.as_slice().cmp(other.as_slice())
     }
 
     // The bytes of its component.

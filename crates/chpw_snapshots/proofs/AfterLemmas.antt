@@ -1,10 +1,12 @@
 -- The rows after one change more show what the list with it shows.
-use Rattle.std.proofs.Common.{◌≡◌, ℕ, suc, ◌+◌, ◌<◌, ◌≤◌, ◌%◌, List, [], ◌∷◌, ◌++◌, length, map, Bool, true, false, if◌then◌else◌, nat_lt}
+use Rattle.std.proofs.Common.{◌≡◌, ℕ, suc, ◌+◌, ◌<◌, ◌≤◌, ◌%◌, List, [], ◌∷◌, ◌++◌, length, Bool, true, false, nat_lt}
 use Rattle.std.proofs.Common.{Option, Some, None, refl, sym, ◌∙◌, ap, subst, arith, append-nil}
 use Rattle.std.specs.Prelude.{All, ◌&&◌, ◌||◌}
 use Rattle.std.proofs.lemmas.Bool.Decides.{nat_tests}
 use Rattle.std.proofs.lemmas.List.Sums.{fold-append}
+use Rattle.std.specs.BTreeSet.{insert_key}
 use Rattle.chpw_rules.specs.declared.name.Name.{Name}
+use Rattle.chpw_rules.specs.Names.{name_cmp}
 use Rattle.chpw_table.specs.State.{State, kept_count}
 use Rattle.chpw_table.specs.declared.change.Accepted.{Accepted}
 use Rattle.chpw_table.specs.Versions.{Shown, shown, shown_count, count_after}
@@ -17,14 +19,15 @@ use Rattle.chpw_changelog.specs.Changes.{name_at, short_name, change_of_name, na
 use Rattle.chpw_snapshots.specs.declared.row.Row.{Row}
 use Rattle.chpw_snapshots.specs.Rows.{Rowed, names_of_rows, names_of, place_in, row_after, changed_at, adopts}
 use Rattle.chpw_snapshots.specs.Rows.{blank_row, added_at, added_limit, rows_after, all_rows, shown_in, HasPositive}
-use Rattle.chpw_snapshots.specs.Rows.{IsPositive}
+use Rattle.chpw_snapshots.specs.Rows.{with_row, IsPositive}
 use Rattle.chpw_snapshots.specs.Rising.{IsNextVersion}
-use Rattle.chpw_snapshots.specs.Preparing.{has_name, with_name, with_adopted_name, added_names}
+use Rattle.chpw_snapshots.specs.Preparing.{has_name, with_adopted_name, added_names}
 use Rattle.chpw_snapshots.specs.Following.{IsNumberOf, HasPlace}
 use Rattle.chpw_snapshots.proofs.RowLemmas.{names_changed, changed_for, shown_one, changed_shows, shows_behind}
 use Rattle.chpw_snapshots.proofs.RowLemmas.{added_shows, not_added_shows, BringsPositive, changed_positive}
 use Rattle.chpw_snapshots.proofs.RowLemmas.{more_positive, blank_positive, placed_number, numbered_there}
-use Rattle.chpw_snapshots.proofs.RowLemmas.{unplaced_missing, shown_more, count_more}
+use Rattle.chpw_snapshots.proofs.RowLemmas.{either_way, unplaced_missing, shown_more, count_more}
+use Rattle.chpw_snapshots.proofs.AddedLemmas.{names_with_row}
 
 pub names_after : (c : NumberedChange) (r : Rowed) → names_of_rows (rows_after c r).rows ≡ names_of_rows r.rows
 names_after (Keys (Number n) k) r = names_changed r.kept k n r.rows
@@ -61,10 +64,6 @@ length_names : (rows : List Row) → length (names_of_rows rows) ≡ length rows
 length_names [] = refl
 length_names (r ∷ rs) = ap suc (length_names rs)
 
-more_names : (rows : List Row) (r : Row) → names_of_rows (rows ++ r ∷ []) ≡ names_of_rows rows ++ r.name ∷ []
-more_names [] r = refl
-more_names (x ∷ xs) r = ap (λ ns. x.name ∷ ns) (more_names xs r)
-
 names_more : (opening : State) (list : List Accepted) (c : Accepted)
     → added_names opening (list ++ c ∷ []) ≡ with_adopted_name opening (added_names opening list) c
 names_more opening list c = fold-append _ _ list (c ∷ [])
@@ -88,7 +87,7 @@ other_adds_none opening names name Removed h = refl
 -- another adds its name
 adopted_adds_one : (opening : State) (names : List Name) (name : Name) (k : KeysChange) → adopts k ≡ true
     → has_name (names_of opening) name ≡ false → has_name names name ≡ false
-    → with_adopted_name opening names (change_of_name name k) ≡ names ++ name ∷ []
+    → with_adopted_name opening names (change_of_name name k) ≡ insert_key name_cmp names name
 adopted_adds_one opening names name (Key kvno count) h e f = absurd (cc)
 adopted_adds_one opening names name (Adopted kvno count) h e f = rw (e, f) refl
 adopted_adds_one opening names name (Lifted kvno) h e f = absurd (cc)
@@ -107,7 +106,7 @@ room_test added h = grind (arith, nat_tests)
 
 -- what `added_at` is without a place
 new_row : (kept : ℕ) (k : KeysChange) (of : Name) (added : List Row) → adopts k ≡ true → length added < added_limit
-    → added_at kept k of None added ≡ added ++ row_after kept k (blank_row of) ∷ []
+    → added_at kept k of None added ≡ with_row (row_after kept k (blank_row of)) added
 new_row kept k of added e h = let room = room_test added h in rw (e, room) refl
 
 no_row : (kept : ℕ) (k : KeysChange) (of : Name) (added : List Row) → adopts k ≡ false → added_at kept k of None added ≡ added
@@ -129,7 +128,7 @@ added_at_names opening kept k of added None is lacks room = at (adopts k) refl
         → names_of_rows (added_at kept k of None added) ≡ with_adopted_name opening (names_of_rows added) (change_of_name of k)
     at true e =
         ap names_of_rows (new_row kept k of added e (room e missing))
-        ∙ (more_names added (row_after kept k (blank_row of))
+        ∙ (names_with_row (row_after kept k (blank_row of)) added missing
         ∙ sym (adopted_adds_one opening (names_of_rows added) of k e lacks missing))
     at false e =
         ap names_of_rows (no_row kept k of added e) ∙ sym (other_adds_none opening (names_of_rows added) of k e)
@@ -219,11 +218,10 @@ brings opening list name Removed policy e h next = tt
 added_at_positive : (kept : ℕ) (k : KeysChange) (of : Name) (added : List Row) (o : Option ℕ)
     → BringsPositive k → All HasPositive added → All HasPositive (added_at kept k of o added)
 added_at_positive kept k of added (Some n) h all = changed_positive kept k n added h all
-added_at_positive kept k of added None h all = at (adopts k && nat_lt (length added) added_limit)
-  where
-    at : (b : Bool) → All HasPositive (if b then added ++ row_after kept k (blank_row of) ∷ [] else added)
-    at true = more_positive added (row_after kept k (blank_row of)) all (blank_positive kept k of h)
-    at false = all
+added_at_positive kept k of added None h all =
+    let row : Row = row_after kept k (blank_row of) in
+    either_way (All HasPositive) (adopts k && nat_lt (length added) added_limit) (with_row row added) added
+    (more_positive row added (blank_positive kept k of h) all) all
 
 pub positive_after : (opening : State) (list : List Accepted) (c : NumberedChange) (r : Rowed)
     → r.policy ≡ shown_count opening list

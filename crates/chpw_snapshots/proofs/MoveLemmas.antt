@@ -1,7 +1,7 @@
 -- What each step on the versions keeps.
-use Rattle.std.proofs.Common.{◌≡◌, ◌≢◌, ℕ, ◌+◌, ◌<◌, ◌≤◌, ◌%◌, List, [], ◌∷◌, ◌++◌, length, true}
+use Rattle.std.proofs.Common.{◌≡◌, ◌≢◌, ℕ, ◌+◌, ◌<◌, ◌%◌, List, [], ◌∷◌, ◌++◌, length, true}
 use Rattle.std.proofs.Common.{refl, sym, ◌∙◌, ap, subst, ⊎_elim, arith, length-append, append-nil, set, Option}
-use Rattle.std.proofs.Common.{Some, IsSomeAnd, Result, Ok, Err, IsOk, MatchResult, if◌then◌else◌}
+use Rattle.std.proofs.Common.{Some, IsSomeAnd, Result, Ok, Err, IsOk, MatchResult}
 use Rattle.std.specs.Prelude.{option_map}
 use mathlib.Core.Option.{some}
 use mathlib.Core.List.{IsPrefix}
@@ -10,13 +10,9 @@ use Rattle.crossbeam_utils.specs.Register.{Admits, TurnsAt, Forks, Merges}
 use Rattle.atomic_table.proofs.Lists.{at_set, at_snoc}
 use Rattle.logbook.specs.Pages.{Book as LogbookName}
 use Rattle.chpw_rules.specs.declared.name.Name.{Name}
-use Rattle.chpw_rules.specs.Names.{is_same_name}
-use Rattle.chpw_table.specs.declared.change.KeyChange.{KeyChange}
-use Rattle.chpw_table.specs.State.{State, kept_count}
 use Rattle.chpw_table.specs.declared.change.Accepted.{Accepted}
-use Rattle.chpw_table.specs.Versions.{Shown, shown, shown_count, with_change}
+use Rattle.chpw_table.specs.Versions.{Shown, shown_count}
 use Rattle.chpw_changelog.specs.declared.entry.LogEntry.{LogEntry}
-use Rattle.chpw_changelog.specs.declared.change.NumberedChange.{NumberedChange}
 use Rattle.chpw_changelog.specs.Changes.{named}
 use Rattle.chpw_changelog.specs.Pens.{changes_in, opening_state, opening_table}
 use Rattle.chpw_changelog.proofs.ListLemmas.{prefix_self, prefix_trans, prefix_same}
@@ -25,7 +21,6 @@ use Rattle.chpw_snapshots.specs.declared.snapshot.Snapshot.{Snapshot}
 use Rattle.chpw_snapshots.specs.declared.snapshot.Operation.{Operation}
 use Rattle.chpw_snapshots.specs.declared.view.View.{View}
 use Rattle.chpw_snapshots.specs.Rows.{Rowed, names_of_rows, all_rows, shown_in, ShowsOpening, lookup_with, lookup_after}
-use Rattle.chpw_snapshots.specs.Rising.{IsNextVersion}
 use Rattle.chpw_snapshots.specs.Histories.{AreAccepted}
 use Rattle.chpw_snapshots.specs.Following.{applied, CanBeShown, list_by, list_shown, ShowsList}
 use Rattle.chpw_snapshots.specs.Following.{IsRuled, Publishes, IsTied, Looked, Published, Settled, unknown, log_of}

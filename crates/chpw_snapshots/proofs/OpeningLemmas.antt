@@ -1,6 +1,6 @@
 -- Rows that were made one by one show the opening, where each has the name of its principal and shows
 -- what that name holds.
-use Rattle.std.proofs.Common.{◌≡◌, ◌<◌, List, [], ◌∷◌, map, Bool, true, false, Option, Some, None, refl, sym, ◌∙◌, ap}
+use Rattle.std.proofs.Common.{◌≡◌, ◌<◌, List, [], ◌∷◌, map, Bool, true, false, Option, None, refl, sym, ◌∙◌, ap}
 use Rattle.std.specs.Prelude.{option_map, All}
 use Rattle.std.proofs.lemmas.List.Elements.{All-head, All-tail}
 use Rattle.chpw_rules.specs.declared.name.Name.{Name}

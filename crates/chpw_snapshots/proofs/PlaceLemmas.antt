@@ -1,5 +1,5 @@
 -- Whose row a name has, and what its changes need.
-use Rattle.std.proofs.Common.{◌≡◌, ℕ, ◌<◌, List, ◌++◌, length, Bool, true, false, nat_lt, Option, Some, None, refl, sym, ◌∙◌, ap, subst, find}
+use Rattle.std.proofs.Common.{◌≡◌, List, Bool, true, false, Option, Some, None, refl, sym, ◌∙◌, ap, subst, find}
 use Rattle.std.specs.Prelude.{◌||◌, IsSome, IfSome, IfNone, option_map}
 use Rattle.std.proofs.lemmas.Option.{none-some}
 use Rattle.chpw_rules.specs.declared.name.Name.{Name}
@@ -7,13 +7,11 @@ use Rattle.chpw_rules.specs.Names.{is_same_name}
 use Rattle.chpw_table.specs.State.{State}
 use Rattle.chpw_table.specs.declared.change.Accepted.{Accepted}
 use Rattle.chpw_table.specs.Versions.{Shown}
-use Rattle.chpw_changelog.specs.declared.change.KeysChange.{KeysChange}
 use Rattle.chpw_changelog.specs.declared.change.Whose.{Whose}
 use Rattle.chpw_changelog.specs.declared.change.Whose.TheVariants.{Number, Short}
-use Rattle.chpw_changelog.specs.Changes.{name_at, short_name}
-use Rattle.chpw_snapshots.specs.declared.keys_shown.KeysShown.{KeysShown}
+use Rattle.chpw_changelog.specs.Changes.{name_at}
 use Rattle.chpw_snapshots.specs.declared.row.Row.{Row}
-use Rattle.chpw_snapshots.specs.Rows.{Rowed, names_of_rows, names_of, place_in, added_limit, all_rows, found_keys, keys_as_shown, shown_in}
+use Rattle.chpw_snapshots.specs.Rows.{Rowed, names_of_rows, names_of, all_rows, found_keys, keys_as_shown, shown_in}
 use Rattle.chpw_snapshots.specs.Preparing.{has_name, added_names, has_row}
 use Rattle.chpw_snapshots.specs.Following.{IsNumberOf, IsWhose, IsPlaceOf}
 use Rattle.chpw_snapshots.proofs.RowLemmas.{placed_number, numbered_there, unplaced_missing, at_number, either_false, found_second, missing_unfound}

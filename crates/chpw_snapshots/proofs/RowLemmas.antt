@@ -4,6 +4,7 @@ use Rattle.std.proofs.Common.{get_or, set, take, Bool, true, false, cond, if◌t
 use Rattle.std.proofs.Common.{Some, None, find, nat_lt, refl, sym, ◌∙◌, ap, subst, arith, append-nil}
 use Rattle.std.specs.Prelude.{option_map, position, slice_get, IfSome, All, ◌||◌}
 use Rattle.std.specs.List.{position_or_len}
+use Rattle.std.specs.Ordering.{is_lt}
 use Rattle.std.proofs.lemmas.Bool.Decides.{nat_tests}
 use Rattle.std.proofs.lemmas.Option.{slice_get_past}
 use Rattle.std.proofs.lemmas.List.Folds.{find_at}
@@ -11,7 +12,7 @@ use Rattle.std.proofs.lemmas.List.Elements.{All-nil, All-cons, All-head, All-tai
 use Rattle.std.proofs.lemmas.List.Sums.{fold-append}
 use Rattle.std.proofs.lemmas.List.Quantifiers.{position-Some}
 use Rattle.chpw_rules.specs.declared.name.Name.{Name}
-use Rattle.chpw_rules.specs.Names.{is_same_name}
+use Rattle.chpw_rules.specs.Names.{is_same_name, name_cmp}
 use Rattle.chpw_table.specs.declared.table.Principal.{Principal}
 use Rattle.chpw_table.specs.State.{State, kept_count}
 use Rattle.chpw_table.specs.declared.change.Accepted.{Accepted}
@@ -22,7 +23,7 @@ use Rattle.chpw_changelog.specs.declared.change.KeysChange.TheVariants.{Key, Ado
 use Rattle.chpw_changelog.specs.Changes.{name_at, key_change, change_of_name}
 use Rattle.chpw_snapshots.specs.declared.keys_shown.KeysShown.{KeysShown}
 use Rattle.chpw_snapshots.specs.declared.row.Row.{Row}
-use Rattle.chpw_snapshots.specs.Rows.{names_of_rows, names_of, place_in, keys_after, row_after, changed_at, adopts}
+use Rattle.chpw_snapshots.specs.Rows.{names_of_rows, place_in, keys_after, row_after, changed_at, adopts, with_row}
 use Rattle.chpw_snapshots.specs.Rows.{blank_row, counts_of, found_keys, keys_in, keys_as_shown, shown_in, HasPositive}
 use Rattle.chpw_snapshots.specs.Preparing.{has_name}
 use Rattle.chpw_snapshots.specs.Following.{IsNumberOf}
@@ -134,23 +135,45 @@ shows_behind kept c of (r ∷ rs) xs ys name none h =
     let apart = either_false (is_same_name r.name of) (has_name (names_of_rows rs) of) none in
     behind kept c of r (rs ++ xs) (rs ++ ys) name apart.0 (shows_behind kept c of rs xs ys name apart.1 h) (is_same_name r.name name) refl
 
--- the row of a name that had none
-new_shows : (kept : ℕ) (c : KeysChange) (of name : Name) (b : Bool) → is_same_name of name ≡ b
-    → shown_in (row_after kept c (blank_row of) ∷ []) name ≡ changed_for kept c of name None
-new_shows kept c of name true e = rw e (keys_one kept c None)
-new_shows kept c of name false e = rw e refl
+-- a name that is not there has no row
+pub missing_unfound : (rows : List Row) (name : Name) → has_name (names_of_rows rows) name ≡ false → find (λ (r : Row). is_same_name r.name name) rows ≡ None
+missing_unfound [] name h = refl
+missing_unfound (r ∷ rs) name h =
+    let apart = either_false (is_same_name r.name name) (has_name (names_of_rows rs) name) h in
+    rw (apart.0) (missing_unfound rs name apart.1)
+
+-- the row of a name that had none, in front of others
+new_shows : (kept : ℕ) (c : KeysChange) (of : Name) (rows : List Row) (name : Name) → has_name (names_of_rows rows) of ≡ false
+    → (b : Bool) → is_same_name of name ≡ b
+    → shown_in (row_after kept c (blank_row of) ∷ rows) name ≡ changed_for kept c of name (shown_in rows name)
+new_shows kept c of rows name none true e =
+    let missing : has_name (names_of_rows rows) name ≡ false =
+    subst (λ (n : Name). has_name (names_of_rows rows) n ≡ false) ((is_same_name-Decides of name).0 e) none in
+    let nothing : shown_in rows name ≡ None = ap (λ (o : Option Row). option_map keys_as_shown (found_keys o)) (missing_unfound rows name missing) in
+    rw e (keys_one kept c None ∙ ap (λ (s : Option Shown). shown_with kept c s) (sym nothing))
+new_shows kept c of rows name none false e = rw e refl
 
 none_shows : (kept : ℕ) (c : KeysChange) (of name : Name) → adopts c ≡ false → (b : Bool) → is_same_name of name ≡ b
     → None ≡ changed_for kept c of name None
 none_shows kept c of name e true f = rw f (sym (nothing_more kept c e))
 none_shows kept c of name e false f = rw f refl
 
+-- what holds of both holds of the one that is chosen
+pub either_way : {A : Type 0} (P : A → Type 0) (b : Bool) (x y : A) → P x → P y → P (if b then x else y)
+either_way P true x y h k = h
+either_way P false x y h k = k
+
 -- a row more shows the key that is adopted
 pub added_shows : (kept : ℕ) (c : KeysChange) (of : Name) (added : List Row) (name : Name) → has_name (names_of_rows added) of ≡ false
-    → shown_in (added ++ row_after kept c (blank_row of) ∷ []) name ≡ changed_for kept c of name (shown_in added name)
-added_shows kept c of added name none =
-    shows_behind kept c of added [] (row_after kept c (blank_row of) ∷ []) name none (new_shows kept c of name (is_same_name of name) refl)
-    ∙ ap (λ rows. changed_for kept c of name (shown_in rows name)) (append-nil added)
+    → shown_in (with_row (row_after kept c (blank_row of)) added) name ≡ changed_for kept c of name (shown_in added name)
+added_shows kept c of [] name none = new_shows kept c of [] name none (is_same_name of name) refl
+added_shows kept c of (r ∷ rs) name none =
+    let row : Row = row_after kept c (blank_row of) in
+    let apart = either_false (is_same_name r.name of) (has_name (names_of_rows rs) of) none in
+    either_way (λ (rows : List Row). shown_in rows name ≡ changed_for kept c of name (shown_in (r ∷ rs) name))
+    (is_lt (name_cmp of r.name)) (row ∷ r ∷ rs) (r ∷ with_row row rs)
+    (new_shows kept c of (r ∷ rs) name none (is_same_name of name) refl)
+    (behind kept c of r rs (with_row row rs) name apart.0 (added_shows kept c of rs name apart.1) (is_same_name r.name name) refl)
 
 -- and any other change of that name shows nothing
 pub not_added_shows : (kept : ℕ) (c : KeysChange) (of : Name) (added : List Row) (name : Name) → has_name (names_of_rows added) of ≡ false
@@ -190,9 +213,12 @@ changed_positive kept c zero (r ∷ rs) h all =
 changed_positive kept c (suc n) (r ∷ rs) h all =
     All-cons HasPositive r (changed_at kept c n rs) (All-head HasPositive r rs all) (changed_positive kept c n rs h (All-tail HasPositive r rs all))
 
-pub more_positive : (rows : List Row) (r : Row) → All HasPositive rows → HasPositive r → All HasPositive (rows ++ r ∷ [])
-more_positive [] r all h = All-cons HasPositive r [] h (All-nil HasPositive)
-more_positive (x ∷ xs) r all h = All-cons HasPositive x (xs ++ r ∷ []) (All-head HasPositive x xs all) (more_positive xs r (All-tail HasPositive x xs all) h)
+pub more_positive : (row : Row) (rows : List Row) → HasPositive row → All HasPositive rows → All HasPositive (with_row row rows)
+more_positive row [] h all = All-cons HasPositive row [] h (All-nil HasPositive)
+more_positive row (r ∷ rs) h all =
+    either_way (All HasPositive) (is_lt (name_cmp row.name r.name)) (row ∷ r ∷ rs) (r ∷ with_row row rs)
+    (All-cons HasPositive row (r ∷ rs) h all)
+    (All-cons HasPositive r (with_row row rs) (All-head HasPositive r rs all) (more_positive row rs h (All-tail HasPositive r rs all)))
 
 pub blank_positive : (kept : ℕ) (c : KeysChange) (name : Name) → BringsPositive c → HasPositive (row_after kept c (blank_row name))
 blank_positive kept c name h = keys_positive kept c None h (All-nil (λ n. 1 ≤ n))
@@ -277,12 +303,6 @@ unfound_missing (r ∷ rs) name h = at (is_same_name r.name name) refl (unfound_
         → has_name (names_of_rows (r ∷ rs)) name ≡ false
     at true e rest = let bad = rw e at h in absurd (cc (bad))
     at false e rest = rw e (rest (rw e at h))
-
-pub missing_unfound : (rows : List Row) (name : Name) → has_name (names_of_rows rows) name ≡ false → find (λ (r : Row). is_same_name r.name name) rows ≡ None
-missing_unfound [] name h = refl
-missing_unfound (r ∷ rs) name h =
-    let apart = either_false (is_same_name r.name name) (has_name (names_of_rows rs) name) h in
-    rw (apart.0) (missing_unfound rs name apart.1)
 
 -- what is found is a row of that name, which is there
 pub found_there : (rows : List Row) (name : Name) (row : Row) → find (λ (r : Row). is_same_name r.name name) rows ≡ Some row

@@ -1,10 +1,11 @@
 -- Which updates can be prepared: the names that have a row, and why an update is refused.
-use Rattle.std.specs.Prelude.{◌≡◌, ◌≤◌, ◌<◌, List, [], ◌∷◌, ◌++◌, Bool, true, false, ◌||◌, if◌then◌else◌, fold, length}
+use Rattle.std.specs.Prelude.{◌≡◌, ◌≤◌, ◌<◌, List, [], Bool, true, false, ◌||◌, if◌then◌else◌, fold, length}
 use Rattle.std.specs.List.{list_any}
+use Rattle.std.specs.BTreeSet.{insert_key}
 use Rattle.chpw_rules.specs.declared.name.Name.{Name}
-use Rattle.chpw_rules.specs.Names.{is_same_name}
+use Rattle.chpw_rules.specs.Names.{is_same_name, name_cmp}
 use Rattle.chpw_table.specs.declared.change.Accepted.{Accepted}
-use Rattle.chpw_table.specs.declared.change.Accepted.TheVariants.{Key, Count, Adopted, Lifted, Removed}
+use Rattle.chpw_table.specs.declared.change.Accepted.TheVariants.{Adopted}
 use Rattle.chpw_table.specs.State.{State}
 use Rattle.chpw_changelog.specs.Changes.{is_short}
 use Rattle.chpw_snapshots.specs.declared.not_prepared.NotPrepared.{NotPrepared}
@@ -15,16 +16,16 @@ use Rattle.chpw_snapshots.specs.Rows.{names_of, added_limit}
 abbrev pub has_name : List Name → Name → Bool
 has_name names name = list_any (λ (other : Name). is_same_name other name) names
 
--- one more name, unless it is the opening's or among those that were added before
+-- one more name, in their order, unless it is the opening's or among those that were added before
 abbrev pub with_name : State → List Name → Name → List Name
-with_name opening names name = if has_name (names_of opening) name || has_name names name then names else names ++ name ∷ []
+with_name opening names name = if has_name (names_of opening) name || has_name names name then names else insert_key name_cmp names name
 
 abbrev pub with_adopted_name : State → List Name → Accepted → List Name
 with_adopted_name opening names (Adopted c) = with_name opening names c.name
 with_adopted_name opening names _ = names
 
--- the names that these changes adopted and that aren't the opening's, each once, as they came; one that was removed since stays
--- among them
+-- the names that these changes adopted and that aren't the opening's, in the order of names, each once; one that was removed
+-- since stays among them
 abbrev pub added_names : State → List Accepted → List Name
 added_names opening changes = fold (with_adopted_name opening) [] changes
 

@@ -1,16 +1,17 @@
 -- The published rows, and what they show: a row for each principal of the opening, in the order of their names, and behind
--- them one for each name that was adopted since and isn't among those.
+-- them one for each name that was adopted since and isn't among those, in their order too.
 use Rattle.std.specs.Prelude.{◌≡◌, ℕ, ◌+◌, ◌%◌, ◌<◌, ◌≤◌, zero, suc, List, [], ◌∷◌, ◌++◌, Bool, true, false, ◌&&◌, if◌then◌else◌, nat_lt}
 use Rattle.std.specs.Prelude.{Option, Some, None, option_map, find, position, map, take, length, All}
+use Rattle.std.specs.List.{insert}
+use Rattle.std.specs.Ordering.{is_lt}
 use Rattle.chpw_rules.specs.declared.name.Name.{Name}
-use Rattle.chpw_rules.specs.Names.{is_same_name}
+use Rattle.chpw_rules.specs.Names.{is_same_name, name_cmp}
 use Rattle.chpw_table.specs.declared.table.Principal.{Principal}
 use Rattle.chpw_table.specs.declared.table.Lookup.{Lookup}
 use Rattle.chpw_table.specs.State.{State, keys_held, new_count, kept_count}
 use Rattle.chpw_table.specs.Agreement.{Held}
 use Rattle.chpw_table.specs.declared.change.Accepted.{Accepted}
 use Rattle.chpw_table.specs.Versions.{Shown, shown, shown_count, shown_keys}
-use Rattle.chpw_changelog.specs.declared.change.Whose.{Whose}
 use Rattle.chpw_changelog.specs.declared.change.Whose.TheVariants.{Number, Short}
 use Rattle.chpw_changelog.specs.declared.change.KeysChange.{KeysChange}
 use Rattle.chpw_changelog.specs.declared.change.KeysChange.TheVariants.{Key, Adopted, Lifted, Removed}
@@ -84,12 +85,21 @@ adopts _ = false
 abbrev pub blank_row : Name → Row
 blank_row name = record { name = name; shown = None }
 
--- the change of this name among the rows that were added, where its row stands there; and otherwise a row more, if there is
--- a key to show
+-- the rows with one more, in front of the first whose name is greater
+abbrev pub with_row : Row → List Row → List Row
+with_row row [] = row ∷ []
+with_row row (r ∷ rs) = if is_lt (name_cmp row.name r.name) then row ∷ r ∷ rs else r ∷ with_row row rs
+
+-- a row of this name stands there if it is put in at this place
+abbrev pub IsPlaceFor : List Row → Name → ℕ → Type 0
+IsPlaceFor rows name place = (place ≤ length rows) × ((row : Row) → row.name ≡ name → insert rows place row ≡ with_row row rows)
+
+-- the change of this name among the rows that were added, where its row stands there; and otherwise a row more, in its order,
+-- if there is a key to show
 abbrev pub added_at : ℕ → KeysChange → Name → Option ℕ → List Row → List Row
 added_at kept c name (Some n) added = changed_at kept c n added
 added_at kept c name None added =
-    if adopts c && nat_lt (length added) added_limit then added ++ row_after kept c (blank_row name) ∷ [] else added
+    if adopts c && nat_lt (length added) added_limit then with_row (row_after kept c (blank_row name)) added else added
 
 abbrev pub added_after : ℕ → KeysChange → Name → List Row → List Row
 added_after kept c name added = added_at kept c name (place_in added name) added

@@ -1,13 +1,16 @@
 //! Rows of names that the opening lacks.
-ghost use Rattle.std.specs.Prelude.{◌≡◌, ◌≤◌, ◌<◌, IfOk, IfSome, None, [], length, vec_capacity, option_copied};
-ghost use Rattle.chpw_rules.specs.Names.{is_same_name};
+ghost use Rattle.std.specs.Prelude.{◌≡◌, ◌≤◌, IfOk, IfErr, None, Some, [], vec_capacity, option_copied};
+ghost use Rattle.std.specs.List.Sorted.{IsStrictlySortedBy};
+ghost use Rattle.chpw_rules.specs.Names.{name_cmp};
 ghost use Rattle.chpw_changelog.specs.Changes.{short_name};
-ghost use Rattle.chpw_snapshots.specs.Rows.{added_after, added_at, added_limit, adopts, blank_row, changed_at, keys_in, place_in, row_after};
+ghost use Rattle.chpw_snapshots.specs.Rows.{added_after, added_at, added_limit, adopts, blank_row, changed_at, names_of_rows};
+ghost use Rattle.chpw_snapshots.specs.Rows.{place_in, row_after, IsPlaceFor};
 
 use crate::keys_shown::KeysShown;
 use chpw_changelog::{KeysChange, ShortName};
 use chpw_rules::Name;
 use std::alloc::{AllocError, Global};
+use std::cmp::Ordering;
 use std::marker::Model;
 
 /// The most rows that are added to those of the opening.
@@ -49,16 +52,17 @@ impl AddedRow {
         self.shown.as_ref()
     }
 
-    fn is_of(&self, name: &Name) -> bool
-        ensures value { result ≡ is_same_name self.now.name name.now }
+    // How its name compares with a name.
+    fn compare(&self, name: &Name) -> Ordering
+        ensures value { result ≡ name_cmp self.now.name name.now }
     {
-        self.name.is(name)
+        self.name.compare(name)
     }
 
-    fn is(&self, name: &ShortName) -> bool
-        ensures value { result ≡ is_same_name self.now.name (short_name name.now) }
+    fn compare_short(&self, name: &ShortName) -> Ordering
+        ensures value { result ≡ name_cmp self.now.name (short_name name.now) }
     {
-        self.name.names_same(name)
+        self.name.compare_short(name)
     }
 
     fn change(&mut self, kept: u8, change: KeysChange)
@@ -69,17 +73,25 @@ impl AddedRow {
     }
 }
 
-// Where the first row of a name stands.
+// Where the row of a name stands among rows in the order of their names.
 pub(crate) fn place_of_name(rows: &[AddedRow], name: &Name) -> Option<usize>
+    requires order { IsStrictlySortedBy name_cmp (names_of_rows rows.now) }
     ensures value { result ≡ place_in rows.now name.now }
 {
-    rows.iter().position(|row| row.is_of(name))
+    match rows.binary_search_by(|row| row.compare(name)) {
+        Ok(place) => Some(place),
+        Err(_) => None,
+    }
 }
 
-fn place_of(rows: &[AddedRow], name: &ShortName) -> Option<usize>
-    ensures value { result ≡ place_in rows.now (short_name name.now) }
+// Likewise; and where a row of the name is put in if there is none.
+fn place_of(rows: &[AddedRow], name: &ShortName) -> Result<usize, usize>
+    requires order { IsStrictlySortedBy name_cmp (names_of_rows rows.now) }
+    ensures found { IfOk result (λ place. place_in rows.now (short_name name.now) ≡ Some place) }
+    ensures absent { IfErr result (λ _. place_in rows.now (short_name name.now) ≡ None) }
+    ensures place { IfErr result (IsPlaceFor rows.now (short_name name.now)) }
 {
-    rows.iter().position(|row| row.is(name))
+    rows.binary_search_by(|row| row.compare_short(name))
 }
 
 // The memory of all rows that will be added.
@@ -90,16 +102,17 @@ pub(crate) fn no_rows(alloc: Global) -> Result<Vec<AddedRow>, AllocError>
     Vec::with_capacity(alloc, ADDED_LIMIT)
 }
 
-// The change in the row of its name; a key that is adopted adds one where there is none yet.
+// The change in the row of its name; a key that is adopted adds one where there is none yet, in the order of names.
 pub(crate) fn change_added(rows: &mut Vec<AddedRow>, name: &ShortName, kept: u8, change: KeysChange)
     requires kept { (1 ≤ kept) × (kept ≤ 16) }
     requires room { added_limit ≤ vec_capacity rows.old }
+    requires order { IsStrictlySortedBy name_cmp (names_of_rows rows.old.items) }
     ensures value { rows.new.items ≡ added_after kept change (short_name name.now) rows.old.items }
     ensures room { added_limit ≤ vec_capacity rows.new }
 {
     match place_of(rows.as_slice(), name) {
-        Some(place) => change_at(rows.as_mut_slice(), place, kept, change),
-        None => add(rows, name, kept, change),
+        Ok(place) => change_at(rows.as_mut_slice(), place, kept, change),
+        Err(place) => add(rows, place, name, kept, change),
     }
 }
 
@@ -112,16 +125,17 @@ fn change_at(rows: &mut [AddedRow], place: usize, kept: u8, change: KeysChange)
     }
 }
 
-fn add(rows: &mut Vec<AddedRow>, name: &ShortName, kept: u8, change: KeysChange)
+fn add(rows: &mut Vec<AddedRow>, place: usize, name: &ShortName, kept: u8, change: KeysChange)
     requires kept { (1 ≤ kept) × (kept ≤ 16) }
     requires room { added_limit ≤ vec_capacity rows.old }
+    requires place { IsPlaceFor rows.old.items (short_name name.now) place }
     ensures value { rows.new.items ≡ added_at kept change (short_name name.now) None rows.old.items }
     ensures room { added_limit ≤ vec_capacity rows.new }
 {
     if is_adopted(change) && rows.len() < ADDED_LIMIT {
         let mut row = AddedRow::blank(*name);
         row.change(kept, change);
-        let _ = rows.push(row);
+        let _ = rows.insert(place, row);
     }
 }
 

@@ -19,7 +19,7 @@ use std::alloc::{AllocError, Global};
 use std::marker::Model;
 
 /// A row for each principal of the opening, in the order of their names, and one for each name that was adopted since and
-/// that the opening lacks. Contracts see the rows, how many counts of a principal are kept, the count of new keys, and how
+/// that the opening lacks, in their order too. Contracts see the rows, how many counts of a principal are kept, the count of new keys, and how
 /// many changes were accepted so far.
 #[derive(Drop)]
 pub struct Rows {
@@ -48,6 +48,7 @@ impl Model for Rows {
 
     ghost invariant = { λ r. (1 ≤ r.kept) × (r.kept ≤ 16)
         × IsStrictlySortedBy name_cmp (names_of_rows r.rows.items)
+        × IsStrictlySortedBy name_cmp (names_of_rows r.added.items)
         × (added_limit ≤ vec_capacity r.added) };
 }
 
@@ -160,6 +161,8 @@ impl Rows {
     fn added_place(&self, name: &Name) -> Option<usize>
         ensures value { result ≡ place_in self.now.added name.now }
     {
+        // A field is read, so that the type's invariant is known.
+        let _ = &self.added;
         place_of_name(self.added.as_slice(), name)
     }
 

@@ -20,5 +20,6 @@ invariant_of-self c =
       search rules,
       search rules,
       rw (c.change_at.ensures.value, all) (subst (IsStrictlySortedBy name_cmp) (sym names) c.self.invariant.2),
-      search rules,
+      c.self.invariant.3,
+      c.self.invariant.4,
     )

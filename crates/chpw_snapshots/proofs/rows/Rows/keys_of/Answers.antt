@@ -1,8 +1,8 @@
-use Rattle.std.proofs.Common.{◌≡◌, ◌∙◌, ◌++◌, sym, ap, find, Bool, Option, Some, None}
+use Rattle.std.proofs.Common.{◌≡◌, ◌∙◌, sym, ap, find, Bool, Some, None}
 use Rattle.std.specs.Prelude.{option_copied}
 use Rattle.chpw_rules.specs.Names.{is_same_name}
 use Rattle.chpw_snapshots.specs.declared.row.Row.{Row}
-use Rattle.chpw_snapshots.specs.Rows.{found_keys, keys_in, all_rows}
+use Rattle.chpw_snapshots.specs.Rows.{found_keys}
 use Rattle.chpw_snapshots.proofs.RowLemmas.{found_first, found_second}
 use Rattle.chpw_snapshots.proofs.rows.Rows.keys_of.Goals as goal
 

@@ -1,6 +1,5 @@
-use Rattle.std.proofs.Common.{◌≡◌, ◌≤◌, ◌∙◌, sym, ap, subst, Option, Some}
-use Rattle.std.specs.Prelude.{IfSome, option_copied, All}
-use Rattle.chpw_snapshots.specs.declared.keys_shown.KeysShown.{KeysShown}
+use Rattle.std.proofs.Common.{◌≡◌, ◌≤◌, ◌∙◌, sym, ap, subst, Some}
+use Rattle.std.specs.Prelude.{option_copied, All}
 use Rattle.chpw_snapshots.specs.Rows.{Rowed, keys_in, all_rows}
 use Rattle.chpw_snapshots.proofs.RowLemmas.{shown_positive}
 use Rattle.chpw_snapshots.proofs.rows.Rows.lookup.Goals as goal

@@ -1,4 +1,4 @@
-use Rattle.std.proofs.Common.{◌≡◌, ◌∙◌, sym, ap, find, Bool, Option, Some, None}
+use Rattle.std.proofs.Common.{◌≡◌, ◌∙◌, sym, ap, find, Bool, Some, None}
 use Rattle.std.specs.Prelude.{option_copied}
 use Rattle.chpw_rules.specs.Names.{is_same_name}
 use Rattle.chpw_snapshots.specs.declared.row.Row.{Row}

@@ -1,4 +1,4 @@
-use Rattle.std.proofs.Common.{◌≡◌, ◌∙◌, List, drop, sym, ap, subst, true, false, Option, Some, None}
+use Rattle.std.proofs.Common.{◌≡◌, ◌∙◌, List, drop, ap, subst, true, false}
 use Rattle.std.specs.Prelude.{IfSome, IfNone}
 use Rattle.left_right.specs.Sides.{view}
 use Rattle.chpw_table.specs.declared.change.Accepted.{Accepted}
