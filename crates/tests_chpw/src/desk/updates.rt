@@ -4,7 +4,7 @@ ghost use Rattle.chpw_book.specs.Starting.{IsNamed};
 
 use crate::desk::desks::{close_desk, name, start_desk, table};
 use chpw_book::{Desk, DeskName, DeskUpdateFault, DeskUpdateRefused, Pass, UnnamedDesk};
-use chpw_table::{Entry, Event, JournalSink, KdcUpdate, KeyRow, Lookup, UpdateVerdict};
+use chpw_table::{Durability, Entry, Event, JournalSink, KdcUpdate, KeyRow, Lookup, UpdateVerdict};
 use std::alloc::Global;
 use std::marker::Brand;
 use std::process::Abort;
