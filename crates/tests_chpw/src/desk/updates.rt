@@ -267,7 +267,8 @@ fn adopt(rt: &impl Abort, alloc: Global, number: u8, kvno: u32) -> KdcUpdate {
     adopting(name(rt, alloc, number), kvno)
 }
 
-fn adopting(name: chpw_rules::Name, kvno: u32) -> KdcUpdate {
+/// A key of no password for this principal, under 8 iterations.
+pub fn adopting(name: chpw_rules::Name, kvno: u32) -> KdcUpdate {
     let key = KeyRow {
         kvno,
         count: 8,
