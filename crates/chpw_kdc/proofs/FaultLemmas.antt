@@ -8,8 +8,9 @@ use Rattle.chpw_kdc.specs.declared.fault.ProtocolFault.{ProtocolFault}
 use Rattle.chpw_kdc.specs.declared.put.Asked.{Asked}
 use Rattle.chpw_kdc.specs.declared.put.Put.{Put}
 use Rattle.chpw_kdc.specs.Lines.{Request, list_keys, get}
-use Rattle.chpw_kdc.specs.Paces.{may_ask}
-use Rattle.chpw_kdc.specs.Dialogs.{State, is_of_change, changes_of, after_loss, first_request, put_in, get_in, or_else, is_list_due}
+use Rattle.chpw_kdc.specs.Paces.{may_ask, pace_lost, pace_at_fault}
+use Rattle.chpw_kdc.specs.declared.pace.Pace.{Pace}
+use Rattle.chpw_kdc.specs.Dialogs.{State, is_of_change, changes_of, forgotten, first_request, put_in, get_in, or_else, is_list_due}
 use Rattle.chpw_kdc.specs.Answering.{after_byte, and_then, each}
 use Rattle.chpw_kdc.specs.Runs.{Event, hears, or_lost, behind, run, SameKeys, FaultsChangeNothing, OneAtATime, Piecewise, PutsComeFirst}
 
@@ -24,13 +25,13 @@ kept_twice : (ps : List Put) → changes_of (changes_of ps) ≡ changes_of ps
 kept_twice [] = refl
 kept_twice (p ∷ ps) = kept_if (is_of_change p) p (changes_of ps) refl (kept_twice ps)
 
-lost_same : (now : ℕ) (s : State) → SameKeys s (after_loss now s)
-lost_same now s = record { mirror = refl; puts = kept_twice s.puts; issued = refl; confirmed = refl }
+lost_same : (s : State) (p : Pace) → SameKeys s (record (forgotten s) { pace = p })
+lost_same s p = record { mirror = refl; puts = kept_twice s.puts; issued = refl; confirmed = refl }
 
 pub faults_change_nothing : FaultsChangeNothing
 faults_change_nothing s ours now byte why = (
-  lost_same now s,
-  λ h. subst (λ (r : Result State ProtocolFault). SameKeys s (or_lost now s r)) (sym h) (lost_same now s),
+  lost_same s (pace_lost now s.pace),
+  λ h. subst (λ (r : Result State ProtocolFault). SameKeys s (or_lost now s r)) (sym h) (lost_same s (pace_lost now (pace_at_fault s.pace))),
 )
 
 none_under_way : (o : Option Asked) (may : Bool) (next : Option Request) (r : Request)

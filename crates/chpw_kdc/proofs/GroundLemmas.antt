@@ -18,7 +18,7 @@ use Rattle.chpw_kdc.specs.declared.update.KdcUpdate.{KdcUpdate}
 use Rattle.chpw_kdc.specs.declared.update.KdcUpdate.TheVariants as update
 use Rattle.chpw_kdc.specs.Lines.{Request, list_keys, get, put, answer_of, is_changed}
 use Rattle.chpw_kdc.specs.Mirrors.{key_of, judgement}
-use Rattle.chpw_kdc.specs.Dialogs.{State, at_start, after_loss, after_request, request_by, is_late, without_update, first_update}
+use Rattle.chpw_kdc.specs.Dialogs.{State, at_start, after_fault, after_request, request_by, is_late, without_update, first_update}
 use Rattle.chpw_kdc.specs.Answering.{after_byte, after_answer, awaiting, of_asked, of_list, of_get, of_put, after_judgement, with_listed}
 use Rattle.chpw_kdc.specs.Answering.{with_lacked, lacked_in, is_many, refused, is_listed, is_first, is_put_for, without_first}
 use Rattle.chpw_kdc.specs.Answering.{with_update, lifted, accepted, settled, is_newest}
@@ -111,7 +111,7 @@ request_grounded start events now s (Some (get name)) all = all
 request_grounded start events now s (Some (put name key)) all = all
 
 tick_grounded : (start : ℕ) (done : List Event) (now : ℕ) (s : State) (b : Bool) → is_late now s ≡ b → s ≡ state_after start done
-    → AllGrounded start done s.updates → AllGrounded start (done ++ ticks now ∷ []) (if b then after_loss now s else s).updates
+    → AllGrounded start done s.updates → AllGrounded start (done ++ ticks now ∷ []) (if b then after_fault now s else s).updates
 tick_grounded start done now s true late is all = tt
 tick_grounded start done now s false late is all = all_on start done s (ticks now) s.updates is late all
 
@@ -253,7 +253,7 @@ request_gets now s (Some list_keys) = refl
 request_gets now s (Some (get name)) = refl
 request_gets now s (Some (put name key)) = refl
 
-tick_gets : (now : ℕ) (s : State) (b : Bool) → AsksFew s (if b then after_loss now s else s)
+tick_gets : (now : ℕ) (s : State) (b : Bool) → AsksFew s (if b then after_fault now s else s)
 tick_gets now s true = inr (inr (inl refl))
 tick_gets now s false = inl refl
 

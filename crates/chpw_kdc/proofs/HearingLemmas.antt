@@ -9,7 +9,7 @@ use Rattle.chpw_kdc.specs.declared.fault.LineFault.{LineFault}
 use Rattle.chpw_kdc.specs.declared.fault.LineFault.TheVariants as line
 use Rattle.chpw_kdc.specs.declared.fault.ProtocolFault.{ProtocolFault}
 use Rattle.chpw_kdc.specs.Faults.{IsFault, ReadUnlessMemory, fault_of_line}
-use Rattle.chpw_kdc.specs.Dialogs.{State, after_loss}
+use Rattle.chpw_kdc.specs.Dialogs.{State, after_fault}
 use Rattle.chpw_kdc.specs.Lines.{is_changed}
 use Rattle.chpw_kdc.specs.Answering.{after_read, after_byte, after_bytes, and_then, awaiting, each, of_asked}
 use Rattle.chpw_kdc.specs.Answers.{FaultsIn, SameLost}
@@ -93,7 +93,7 @@ all_heard ours now s t bytes h =
     ap (λ (bs : List ℕ). after_bytes ours now s bs) (h.parts ∙ append-nil h.before) ∙ h.heard
 
 pub fault_heard : (ours : Name → Bool) (now : ℕ) (s t u v : State) (bytes rest : List ℕ) (byte : ℕ) (why : ProtocolFault)
-    → HeardUpTo ours now s bytes (byte ∷ rest) t → IsFault (after_byte ours now t byte) why → SameLost t u → v ≡ after_loss now u
+    → HeardUpTo ours now s bytes (byte ∷ rest) t → IsFault (after_byte ours now t byte) why → SameLost t u → v ≡ after_fault now u
     → FaultsIn ours now s bytes v why
 fault_heard ours now s t u v bytes rest byte why h wrong same lost = record {
   before = h.before;
@@ -119,7 +119,7 @@ heard_on ours now s t u bytes (x ∷ xs) h some g = rw (behind x xs) (one_heard 
 
 pub fault_on : (ours : Name → Bool) (now : ℕ) (s t u v : State) (bytes rest : List ℕ) (why : ProtocolFault)
     → HeardUpTo ours now s bytes rest t → 1 ≤ length rest → IsFault (after_byte ours now t (get_or rest 0 0)) why → SameLost t u
-    → v ≡ after_loss now u → FaultsIn ours now s bytes v why
+    → v ≡ after_fault now u → FaultsIn ours now s bytes v why
 fault_on ours now s t u v bytes [] why h some wrong same lost = absurd (omega arith)
 fault_on ours now s t u v bytes (x ∷ xs) why h some wrong same lost = fault_heard ours now s t u v bytes xs x why h wrong same lost
 

@@ -10,7 +10,7 @@ use Rattle.chpw_kdc.specs.declared.fault.LineFault.{LineFault}
 use Rattle.chpw_kdc.specs.declared.fault.ProtocolFault.{ProtocolFault}
 use Rattle.chpw_kdc.specs.declared.fault.ProtocolFault.TheVariants as fault
 use Rattle.chpw_kdc.specs.Lines.{answer_of}
-use Rattle.chpw_kdc.specs.Dialogs.{State, at_start, after_loss}
+use Rattle.chpw_kdc.specs.Dialogs.{State, at_start, after_fault}
 use Rattle.chpw_kdc.specs.Answering.{after_byte, after_line, after_read, after_answer}
 use Rattle.chpw_kdc.specs.Runs.{Event, or_lost, behind, run, state_after}
 use Rattle.chpw_kdc.proofs.EffectLemmas.{Effect, effect}
@@ -67,7 +67,7 @@ byte_effect ours now s t byte h =
     by_kind (inr e) = inl e
 
 -- what holds behind a byte that the agent says
-pub by_byte : (P : State → Type 0) (ours : Name → Bool) (now : ℕ) (s : State) (byte : ℕ) → P (after_loss now s)
+pub by_byte : (P : State → Type 0) (ours : Name → Bool) (now : ℕ) (s : State) (byte : ℕ) → P (after_fault now s)
     → ((t : State) → after_byte ours now s byte ≡ Ok t → IsHeard ours s byte t → P t) → P (or_lost now s (after_byte ours now s byte))
 by_byte P ours now s byte lost heard = by_result (after_byte ours now s byte) (λ t h. heard t h (byte_effect ours now s t byte h))
   where
@@ -76,7 +76,7 @@ by_byte P ours now s byte lost heard = by_result (after_byte ours now s byte) (�
     by_result (Err why) h = lost
 
 -- the same, where an answer is any that its definition lets through
-pub by_line : (P : State → Type 0) (ours : Name → Bool) (now : ℕ) (s : State) (byte : ℕ) → P (after_loss now s)
+pub by_line : (P : State → Type 0) (ours : Name → Bool) (now : ℕ) (s : State) (byte : ℕ) → P (after_fault now s)
     → P (record s { heard = s.heard ++ byte ∷ [] })
     → ((a : Answer) (t : State) → after_answer ours now (record s { heard = [] }) a ≡ Ok t → P t)
     → P (or_lost now s (after_byte ours now s byte))

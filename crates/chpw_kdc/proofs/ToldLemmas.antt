@@ -8,8 +8,9 @@ use Rattle.chpw_kdc.specs.declared.put.Put.{Put}
 use Rattle.chpw_kdc.specs.declared.update.KdcUpdate.{KdcUpdate}
 use Rattle.chpw_kdc.specs.Lines.{Request, list_keys, get, put}
 use Rattle.chpw_kdc.specs.Mirrors.{Mirror}
-use Rattle.chpw_kdc.specs.Paces.{may_ask}
-use Rattle.chpw_kdc.specs.Dialogs.{State, ticketed, is_of_change, changes_of, after_loss, after_request, request_by, first_request, put_in, get_in, or_else}
+use Rattle.chpw_kdc.specs.Paces.{may_ask, pace_lost, pace_at_fault}
+use Rattle.chpw_kdc.specs.declared.pace.Pace.{Pace}
+use Rattle.chpw_kdc.specs.Dialogs.{State, ticketed, is_of_change, changes_of, forgotten, after_fault, after_request, request_by, first_request, put_in, get_in, or_else}
 use Rattle.chpw_kdc.specs.Dialogs.{is_late, without_update}
 use Rattle.chpw_kdc.specs.Answering.{without_first}
 use Rattle.chpw_kdc.specs.Runs.{Event, holds, holds_none, fills, wants, loses_want, wants_comparison, connects, loses, asks, hears}
@@ -60,11 +61,11 @@ request_keeps Q now s (Some list_keys) k = record { mirror = k.mirror; puts = k.
 request_keeps Q now s (Some (get name)) k = record { mirror = k.mirror; puts = k.puts }
 request_keeps Q now s (Some (put name key)) k = record { mirror = k.mirror; puts = k.puts }
 
-loss_keeps : (Q : Name → KeyRow → Type 0) (now : ℕ) (s : State) → Keeps Q s → Keeps Q (after_loss now s)
-loss_keeps Q now s k = record { mirror = k.mirror; puts = puts_kept Q s.puts k.puts }
+loss_keeps : (Q : Name → KeyRow → Type 0) (s : State) (p : Pace) → Keeps Q s → Keeps Q (record (forgotten s) { pace = p })
+loss_keeps Q s p k = record { mirror = k.mirror; puts = puts_kept Q s.puts k.puts }
 
-tick_keeps : (Q : Name → KeyRow → Type 0) (now : ℕ) (s : State) (b : Bool) → Keeps Q s → Keeps Q (if b then after_loss now s else s)
-tick_keeps Q now s true k = loss_keeps Q now s k
+tick_keeps : (Q : Name → KeyRow → Type 0) (now : ℕ) (s : State) (b : Bool) → Keeps Q s → Keeps Q (if b then after_fault now s else s)
+tick_keeps Q now s true k = loss_keeps Q s (pace_lost now (pace_at_fault s.pace)) k
 tick_keeps Q now s false k = k
 
 take_keeps : (Q : Name → KeyRow → Type 0) (s : State) (us : List KdcUpdate) → Keeps Q s → Keeps Q (without_update s us)
@@ -99,10 +100,10 @@ kept_behind Q s (wants now name key) told k = record {
 kept_behind Q s loses_want told k = record { mirror = k.mirror; puts = k.puts }
 kept_behind Q s wants_comparison told k = record { mirror = k.mirror; puts = k.puts }
 kept_behind Q s (connects now) told k = record { mirror = k.mirror; puts = puts_kept Q s.puts k.puts }
-kept_behind Q s (loses now) told k = loss_keeps Q now s k
+kept_behind Q s (loses now) told k = loss_keeps Q s (pace_lost now s.pace) k
 kept_behind Q s (asks now) told k = request_keeps Q now s (request_by now s) k
 kept_behind Q s (hears ours now byte) told k =
-    by_byte (Keeps Q) ours now s byte (loss_keeps Q now s k) (λ t h is. heard_keeps Q ours s t byte k is)
+    by_byte (Keeps Q) ours now s byte (loss_keeps Q s (pace_lost now (pace_at_fault s.pace)) k) (λ t h is. heard_keeps Q ours s t byte k is)
 kept_behind Q s (ticks now) told k = tick_keeps Q now s (is_late now s) k
 kept_behind Q s takes told k = take_keeps Q s s.updates k
 kept_behind Q s decides told k = record { mirror = k.mirror; puts = k.puts }

@@ -12,7 +12,7 @@ use Rattle.chpw_kdc.specs.declared.put.Asked.TheVariants as asked
 use Rattle.chpw_kdc.specs.declared.update.KdcUpdate.{KdcUpdate}
 use Rattle.chpw_kdc.specs.Lines.{Request, list_keys, get, put, answer_of}
 use Rattle.chpw_kdc.specs.Paces.{may_ask}
-use Rattle.chpw_kdc.specs.Dialogs.{State, at_start, ticketed, is_of_change, changes_of, after_loss, after_request, request_by, first_request, put_in}
+use Rattle.chpw_kdc.specs.Dialogs.{State, at_start, ticketed, is_of_change, changes_of, after_fault, after_request, request_by, first_request, put_in}
 use Rattle.chpw_kdc.specs.Dialogs.{get_in, or_else, is_late, without_update}
 use Rattle.chpw_kdc.specs.Answering.{without_first, confirmed_with, later_ticket, is_put_for}
 use Rattle.chpw_kdc.specs.Runs.{Event, holds, holds_none, fills, wants, loses_want, wants_comparison, connects, loses, asks, hears}
@@ -326,7 +326,7 @@ request_holds start events now s (Some (put name key)) is h = record {
 }
 
 tick_holds : (start : ℕ) (events : List Event) (now : ℕ) (s : State) (b : Bool) → Always start events s
-    → Always start events (if b then after_loss now s else s)
+    → Always start events (if b then after_fault now s else s)
 tick_holds start events now s true h = forgets start events s.confirmed s.puts s.issued s.asked h
 tick_holds start events now s false h = h
 
@@ -389,7 +389,7 @@ request_grows now s (Some list_keys) = omega arith
 request_grows now s (Some (get name)) = omega arith
 request_grows now s (Some (put name key)) = omega arith
 
-tick_grows : (now : ℕ) (s : State) (b : Bool) → s.confirmed ≤ (if b then after_loss now s else s).confirmed
+tick_grows : (now : ℕ) (s : State) (b : Bool) → s.confirmed ≤ (if b then after_fault now s else s).confirmed
 tick_grows now s true = omega arith
 tick_grows now s false = omega arith
 

@@ -11,7 +11,7 @@ use Rattle.chpw_kdc.specs.declared.put.Asked.TheVariants as asked
 use Rattle.chpw_kdc.specs.declared.update.KdcUpdate.{KdcUpdate}
 use Rattle.chpw_kdc.specs.Lines.{Request, list_keys, get, put}
 use Rattle.chpw_kdc.specs.Mirrors.{Mirror, told, without, key_of}
-use Rattle.chpw_kdc.specs.Paces.{pace_at_start, pace_connected, pace_lost, pace_awaiting, pace_begun, pace_due, may_ask, later}
+use Rattle.chpw_kdc.specs.Paces.{pace_at_start, pace_connected, pace_lost, pace_at_fault, pace_awaiting, pace_begun, pace_due, may_ask, later}
 use Rattle.chpw_kdc.specs.Tellings.{Tellings, nothing_told, after_lost_change, after_full, after_room, after_notice}
 
 -- The mirror; the keys that the KDC is to get, the first of which may be under way; the last ticket that was given, and the
@@ -112,6 +112,10 @@ after_connect now s = record (forgotten s) { pace = pace_connected now s.pace }
 abbrev pub after_loss : ℕ → State → State
 after_loss now s = record (forgotten s) { pace = pace_lost now s.pace }
 
+-- the connection ends, since the agent is at fault
+abbrev pub after_fault : ℕ → State → State
+after_fault now s = record (forgotten s) { pace = pace_lost now (pace_at_fault s.pace) }
+
 -- ---- what is asked
 
 -- a put has its own key: a newer one of the table's has a put of its own, or is the KDC's
@@ -163,7 +167,7 @@ abbrev pub is_late : ℕ → State → Bool
 is_late now s = is_some s.asked && nat_le s.pace.late_at now
 
 abbrev pub after_tick : ℕ → State → State
-after_tick now s = if is_late now s then after_loss now s else s
+after_tick now s = if is_late now s then after_fault now s else s
 
 -- ---- whether changes reach the KDC in time
 

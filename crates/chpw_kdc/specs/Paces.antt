@@ -17,6 +17,7 @@ pace_at_start now = record {
   since = now;
   call_at = now;
   call_pause = 100;
+  has_listed = false;
   ask_at = now;
   retry_pause = 100;
   late_at = now;
@@ -27,26 +28,29 @@ pace_at_start now = record {
 
 -- a comparison is due, at once
 abbrev pub pace_connected : ℕ → Pace → Pace
-pace_connected now p = record p { connected = true; since = now; ask_at = now; retry_pause = 100; is_due = true; compare_at = now }
+pace_connected now p =
+    record p { connected = true; since = now; has_listed = false; ask_at = now; retry_pause = 100; is_due = true; compare_at = now }
 
--- there is a connection, and it has lasted for as long as the present pause between calls, or longer
-abbrev pub has_lasted : ℕ → Pace → Bool
-has_lasted now p = p.connected && nat_le p.call_pause (now - p.since)
-
--- the pause before the next call: 100 milliseconds again behind a connection that has lasted, else the present one
-abbrev pub pause_now : ℕ → Pace → ℕ
-pause_now now p = if has_lasted now p then 100 else p.call_pause
+-- the pause before the next call: 100 milliseconds again behind a connection over which a list was heard to its end, else the
+-- present one
+abbrev pub pause_now : Pace → ℕ
+pause_now p = if p.has_listed then 100 else p.call_pause
 
 -- the agent is called after that pause, and the next one is twice as long, up to thirty seconds
 abbrev pub pace_lost : ℕ → Pace → Pace
 pace_lost now p = record p {
   connected = false;
   since = if p.connected then now else p.since;
-  call_at = later now (pause_now now p);
-  call_pause = min (times (pause_now now p) 2) 30000;
+  has_listed = false;
+  call_at = later now (pause_now p);
+  call_pause = min (times (pause_now p) 2) 30000;
   late_at = now;
   is_due = true;
 }
+
+-- the agent was at fault: whatever list was heard, the pauses grow
+abbrev pub pace_at_fault : Pace → Pace
+pace_at_fault p = record p { has_listed = false }
 
 -- the next line of the answer is awaited for thirty seconds
 abbrev pub pace_awaiting : ℕ → Pace → Pace
@@ -74,7 +78,7 @@ pace_postponed now p = record p {
 
 -- a list was heard to its end: the next one begins after a second at least, and after ten times as long as this one took
 abbrev pub pace_ended : ℕ → Pace → Pace
-pace_ended now p = record p { compare_at = later now (max (times (now - p.began) 10) 1000) }
+pace_ended now p = record p { compare_at = later now (max (times (now - p.began) 10) 1000); has_listed = true }
 
 abbrev pub pace_due : Pace → Pace
 pace_due p = record p { is_due = true }

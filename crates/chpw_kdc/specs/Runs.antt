@@ -14,7 +14,7 @@ use Rattle.chpw_kdc.specs.declared.update.KdcUpdate.TheVariants as update
 use Rattle.chpw_kdc.specs.Lines.{Request, list_keys, get, put, answer_of, is_sayable, request_line}
 use Rattle.chpw_kdc.specs.Mirrors.{key_of, may_adopt, adopted}
 use Rattle.chpw_kdc.specs.Dialogs.{State, at_start, after_hold, after_none, after_full_table, after_want, after_want_comparison, after_lost_want}
-use Rattle.chpw_kdc.specs.Dialogs.{after_connect, after_loss, after_ask, after_tick, after_take, after_decision, after_telling}
+use Rattle.chpw_kdc.specs.Dialogs.{after_connect, after_loss, after_fault, after_ask, after_tick, after_take, after_decision, after_telling}
 use Rattle.chpw_kdc.specs.Dialogs.{changes_of, request_by, is_late, first_update}
 use Rattle.chpw_kdc.specs.Answering.{after_byte, after_bytes, is_first, is_put_for, is_many, lacked_in, without_first}
 
@@ -43,7 +43,7 @@ pub data Event : Type 0 where
 -- at a fault the connection ends
 abbrev pub or_lost : ℕ → State → Result State ProtocolFault → State
 or_lost now s (Ok t) = t
-or_lost now s (Err why) = after_loss now s
+or_lost now s (Err why) = after_fault now s
 
 abbrev pub behind : State → Event → State
 behind s (holds name key) = after_hold name key s

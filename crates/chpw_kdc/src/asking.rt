@@ -122,7 +122,7 @@ impl KdcDialog {
         if self.asked.is_none() || now < self.pace.late_at {
             return Ok(());
         }
-        self.lose(now);
+        self.end_at_fault(now);
         Err(ProtocolFault::Late)
     }
 

@@ -4,7 +4,7 @@ ghost use Rattle.std.specs.Option.{option_copied};
 ghost use Rattle.chpw_kdc.specs.Lines.{is_sayable};
 ghost use Rattle.chpw_kdc.specs.Mirrors.{key_of, newest};
 ghost use Rattle.chpw_kdc.specs.Dialogs.{at_start, after_hold, after_none, after_full_table, after_want, after_want_comparison, after_lost_want};
-ghost use Rattle.chpw_kdc.specs.Dialogs.{forgotten, after_connect, after_loss, first_update, after_take, after_decision};
+ghost use Rattle.chpw_kdc.specs.Dialogs.{forgotten, after_connect, after_loss, after_fault, first_update, after_take, after_decision};
 ghost use Rattle.chpw_kdc.specs.Dialogs.{after_telling, changes_of, has_most_puts, is_in_reach};
 ghost use Rattle.chpw_kdc.specs.Tellings.{next_notice};
 ghost use Rattle.chpw_kdc.specs.declared.fault.HoldFault.TheVariants.{LongName, NoTicket, TooMany, Memory};
@@ -303,6 +303,15 @@ impl KdcDialog {
         ensures step { self.new ≡ after_loss now self.old }
     {
         self.forget();
+        self.pace.lose(now);
+    }
+
+    // The connection ends, since the agent is at fault.
+    pub(crate) fn end_at_fault(&mut self, now: u64)
+        ensures step { self.new ≡ after_fault now self.old }
+    {
+        self.forget();
+        self.pace.blame();
         self.pace.lose(now);
     }
 

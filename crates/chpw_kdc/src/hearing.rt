@@ -22,7 +22,7 @@ impl KdcDialog {
         let mut rest = bytes;
         while let [byte, others @ ..] = rest {
             if let Err(fault) = self.hear_byte(ours, *byte, now) {
-                self.lose(now);
+                self.end_at_fault(now);
                 return Err(fault);
             }
             rest = others;

@@ -1,6 +1,6 @@
 //! When the agent is called, asked and asked again.
 ghost use Rattle.std.specs.Prelude.{◌≡◌};
-ghost use Rattle.chpw_kdc.specs.Paces.{pace_at_start, pace_connected, pace_lost, pace_awaiting, pace_begun, pace_failed};
+ghost use Rattle.chpw_kdc.specs.Paces.{pace_at_start, pace_connected, pace_lost, pace_at_fault, pace_awaiting, pace_begun, pace_failed};
 ghost use Rattle.chpw_kdc.specs.Paces.{pace_postponed, pace_succeeded, pace_ended, pause_now, may_ask};
 
 /// The first pause before another try, in milliseconds.
@@ -27,8 +27,10 @@ pub struct Pace {
     pub since: u64,
     /// When the agent is called next, if there is no connection.
     pub call_at: u64,
-    /// How long to wait after the next connection that isn't made, or that ends sooner than this.
+    /// How long to wait after the next connection that isn't made, or that ends before a list was heard or by the agent's fault.
     pub call_pause: u64,
+    /// Whether a list was heard to its end over the connection that there is.
+    pub has_listed: bool,
     /// When the next request may be made.
     pub ask_at: u64,
     /// How long to wait after the next request that fails.
@@ -53,6 +55,7 @@ impl Pace {
             since: now,
             call_at: now,
             call_pause: FIRST_PAUSE,
+            has_listed: false,
             ask_at: now,
             retry_pause: FIRST_PAUSE,
             late_at: now,
@@ -68,6 +71,7 @@ impl Pace {
     {
         self.connected = true;
         self.since = now;
+        self.has_listed = false;
         self.ask_at = now;
         self.retry_pause = FIRST_PAUSE;
         self.is_due = true;
@@ -79,7 +83,8 @@ impl Pace {
     pub fn lose(&mut self, now: u64)
         ensures value { self.new ≡ pace_lost now self.old }
     {
-        let pause = self.pause_now(now);
+        let pause = self.pause_now();
+        self.has_listed = false;
         if self.connected {
             self.since = now;
         }
@@ -90,15 +95,22 @@ impl Pace {
         self.is_due = true;
     }
 
-    // The pause before the next call: the first one again behind a connection that has lasted for as long as the present pause.
-    fn pause_now(&self, now: u64) -> u64
-        ensures value { result ≡ pause_now now self.now }
+    // The pause before the next call: the first one again behind a connection over which a list was heard to its end.
+    fn pause_now(&self) -> u64
+        ensures value { result ≡ pause_now self.now }
     {
-        if self.connected && self.call_pause <= now.saturating_sub(self.since) {
+        if self.has_listed {
             FIRST_PAUSE
         } else {
             self.call_pause
         }
+    }
+
+    /// The agent is at fault, and the connection is to end: whatever list was heard, the pauses grow.
+    pub fn blame(&mut self)
+        ensures value { self.new ≡ pace_at_fault self.old }
+    {
+        self.has_listed = false;
     }
 
     /// A request is made.
@@ -156,6 +168,7 @@ impl Pace {
         let took = now.saturating_sub(self.began);
         let pause = took.saturating_mul(10).max(COMPARISON_PAUSE);
         self.compare_at = now.saturating_add(pause);
+        self.has_listed = true;
     }
 
     /// Whether a request may be made now, if there is one.

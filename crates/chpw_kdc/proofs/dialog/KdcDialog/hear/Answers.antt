@@ -8,5 +8,5 @@ loop-rest-preserved g c =
 
 pub returns-in-Err-clause-fault : goal.returns-in-Err-clause-fault
 returns-in-Err-clause-fault g c =
-    fault_on _ _ _ c.loop-rest.self c.hear_byte.new.self c.lose.new.self _ c.loop-rest.rest.now _ c.loop-rest.invariant c.in-len1-up.len_at_least
-    c.in-Err.ensures.fault c.in-Err.ensures.lost c.lose.ensures.step
+    fault_on _ _ _ c.loop-rest.self c.hear_byte.new.self c.end_at_fault.new.self _ c.loop-rest.rest.now _ c.loop-rest.invariant c.in-len1-up.len_at_least
+    c.in-Err.ensures.fault c.in-Err.ensures.lost c.end_at_fault.ensures.step
