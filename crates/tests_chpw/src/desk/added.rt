@@ -60,18 +60,19 @@ fn any_order_at<D: DeskName, R: Wait + Abort>(rt: &R, alloc: Global, unnamed: Un
     desk.abandon(rt);
 }
 
-// Each is shown once it is adopted, and so are those before it.
+// Each is shown once it is adopted, and still when all are.
 fn adopt_all<D: DeskName, R: Wait + Abort>(
     rt: &R,
     alloc: Global,
     desk: &Desk<D, Tally>,
     pass: &mut Pass<D>,
 ) {
-    for (place, (text, kvno)) in ADOPTED.iter().enumerate() {
+    for (text, kvno) in &ADOPTED {
         is_shown(rt, alloc, desk, pass, text, None);
         adopt(rt, alloc, desk, pass, text, *kvno);
-        are_shown(rt, alloc, desk, pass, &ADOPTED[..=place]);
+        is_shown(rt, alloc, desk, pass, text, Some(*kvno));
     }
+    are_shown(rt, alloc, desk, pass, &ADOPTED);
 }
 
 fn adopt<D: DeskName, R: Wait + Abort>(
