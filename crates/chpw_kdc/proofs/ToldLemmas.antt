@@ -10,7 +10,8 @@ use Rattle.chpw_kdc.specs.Lines.{Request, list_keys, get, put}
 use Rattle.chpw_kdc.specs.Mirrors.{Mirror}
 use Rattle.chpw_kdc.specs.Paces.{may_ask, pace_lost, pace_at_fault}
 use Rattle.chpw_kdc.specs.declared.pace.Pace.{Pace}
-use Rattle.chpw_kdc.specs.Dialogs.{State, ticketed, is_of_change, changes_of, forgotten, after_fault, after_request, request_by, first_request, put_in, get_in, or_else}
+use Rattle.chpw_kdc.specs.Dialogs.{State, ticketed, is_of_change, changes_of, forgotten, after_fault, after_request}
+use Rattle.chpw_kdc.specs.Dialogs.{request_by, first_request, put_in, get_in, or_else}
 use Rattle.chpw_kdc.specs.Dialogs.{is_late, without_update}
 use Rattle.chpw_kdc.specs.Answering.{without_first}
 use Rattle.chpw_kdc.specs.Runs.{Event, holds, holds_none, fills, wants, loses_want, wants_comparison, connects, loses, asks, hears}
