@@ -43,7 +43,7 @@ BAD = (
 
 
 # how a block of commands stands in each document, and what is before each of its lines
-FENCED = re.compile(r"^```sh\n(.*?)^```$", re.MULTILINE | re.DOTALL)
+FENCED = re.compile(r"^```sh(?: task)?\n(.*?)^```$", re.MULTILINE | re.DOTALL)
 IN_A_LINE = re.compile(r"`([^`\n]* [^`\n]*(?:%s)/[^`\n]*)`" % "|".join(FOLDERS))
 INDENTED = re.compile(r"((?:^    .*\n(?:^\n(?=    ))?)+)", re.MULTILINE)
 OF_A_PAGE = re.compile(r"^\.Bd -literal.*?\n(.*?)^\.Ed", re.MULTILINE | re.DOTALL)
