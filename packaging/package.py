@@ -38,7 +38,7 @@ UNPROVED = """\
 
 def built(proof, program):
     """What BUILD says: of which sources the packages are, and what was proved."""
-    lines = {"Program before its symbols were taken out, SHA-256": gate_record.sum_of(program)}
+    lines = {"Program with its symbols, SHA-256": gate_record.sum_of(program)}
     if proof:
         lines |= {"Source commit": proof["commit"], "Toolchain": proof["toolchain"], "Last line of the gate's proofs": proof["gate"]}
     else:
@@ -99,7 +99,8 @@ class Package:
         self.put(f"{place}/copyright", self.text("copyright").encode())
         self.put_packed(f"{place}/changelog.Debian", self.text("changelog").encode())
         self.put_packed(f"{place}/changelog", (TOP / "CHANGELOG.md").read_bytes())
-        self.put(f"{place}/BUILD", self.build_text.encode())
+        text = f"{self.build_text}/{self.program.relative_to(self.folder)}, SHA-256: {gate_record.sum_of(self.program)}\n"
+        self.put(f"{place}/BUILD", text.encode())
         if not self.kind:
             self.put(f"{place}/README.Debian", self.text("boddrelyn.README.Debian").encode())
             for name in DOCUMENTS:

@@ -101,7 +101,7 @@ BLOCKS = (
           after={"it says why": "grep 'port 464: in use' /opt/try/printed"}),
     Block("A start failed", 1, before="kill $other; wait $other", after={"it runs": waits(f"{STATUS} | grep -x ok")}),
     Block("Go back to kadmind", after={
-        "the service is gone": "none pidof chpw_server", "kpasswd at kadmind": "changed alice Newest-pass1 Kadmind-pass1",
+        "the service is gone": "none pidof chpw_server", "kpasswd at kadmind": "wait_for grep -q :01D0 /proc/net/tcp; changed alice Newest-pass1 Kadmind-pass1",
         "kvno goes on": "kadmin.local getprinc alice | grep 'Key: vno 5,'",
     }),
 )
