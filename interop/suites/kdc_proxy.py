@@ -77,6 +77,9 @@ def main():
         told.run("kpasswd", lambda: told.wanted("it", "Password changed." in proxy.kpasswd(name, old, new), True))
         told.run("kinit with the new password", lambda: told.wanted("it", realm_inside.logs_in(name, new), True))
         expired = realm_inside.user("proxy", "+needchange")
+    # as on a host with IPv6
+    with open("/etc/hosts", "a", encoding="ascii") as hosts:
+        hosts.write("::1 localhost\n")
     with Proxy("localhost", PORT + 1) as proxy:
         name = realm_inside.user("proxy")
         told.run("kpasswd by a server that is named localhost", lambda: told.wanted("it", "Password changed." in proxy.kpasswd(name, old, new, 15), True))

@@ -10,7 +10,7 @@ def changed(name, old, new):
     """What it raises, in its words, or whether it is done."""
     try:
         return kerberos.changePassword(f"{name}@{realm_inside.REALM}", old, new)
-    except kerberos.PwdChangeException as fault:
+    except kerberos.KrbError as fault:
         return str(fault)
 
 
