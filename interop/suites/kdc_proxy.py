@@ -2,6 +2,7 @@
 
 import pathlib
 import signal
+import socket
 import subprocess
 import sys
 import time
@@ -9,7 +10,7 @@ import time
 import realm_inside
 import told
 
-PORT = 4443
+PORT, MANY = 4443, 100
 SERVER = """
 import ssl, sys
 from wsgiref.simple_server import make_server
@@ -41,7 +42,7 @@ class Proxy:
 
     def __enter__(self):
         settings, client = pathlib.Path(f"/tmp/proxy{self.port}.conf"), pathlib.Path(f"/tmp/client{self.port}.conf")
-        settings.write_text(f"[EXAMPLE.COM]\nkerberos = kerberos+tcp://127.0.0.1:88\nkpasswd = kpasswd+tcp://{self.server}:464\n")
+        settings.write_text(f"[EXAMPLE.COM]\nkerberos = kerberos://127.0.0.1:88\nkpasswd = kpasswd://{self.server}:464\n")
         client.write_text(CLIENT.format(port=self.port))
         self.environment = {"KRB5_CONFIG": str(client)}
         self.output = open(f"/tmp/proxy{self.port}.out", "w")
@@ -60,6 +61,10 @@ class Proxy:
             return realm_inside.ran("kpasswd", name, lines=[old, new, new], check=False, seconds=seconds, **self.environment)
         except subprocess.TimeoutExpired:
             return "no answer"
+
+    def failed(self):
+        """How often it couldn't write to the server."""
+        return pathlib.Path(self.output.name).read_text(errors="replace").count("broken while writing")
 
     def kinit(self, name, password):
         return realm_inside.ran("kinit", "-c", "MEMORY:", name, lines=[password], check=False, **self.environment)
@@ -82,7 +87,10 @@ def main():
         hosts.write("::1 localhost\n")
     with Proxy("localhost", PORT + 1) as proxy:
         name = realm_inside.user("proxy")
-        told.run("kpasswd by a server that is named localhost", lambda: told.wanted("it", "Password changed." in proxy.kpasswd(name, old, new, 15), True))
+        told.run("localhost is ::1 first", lambda: told.wanted("it", socket.getaddrinfo("localhost", 464)[0][4][0], "::1"))
+        # whether the client still waits then is chance
+        proxy.kpasswd(name, old, new, 15)
+        told.run("a server that is named localhost", lambda: told.wanted("tries that failed", "many" if proxy.failed() > MANY else "few", "few"))
 
 
 if __name__ == "__main__":

@@ -18,7 +18,7 @@ def main():
     name = realm_inside.user("python")
     old, new = realm_inside.PASSWORD, "New-pass1"
     told.run("too short", lambda: told.wanted("it", changed(name, old, "short"), "('Password change rejected: password too short', 4)"))
-    told.run("wrong old password", lambda: told.wanted("it", "Preauthentication failed" in str(changed(name, "Wrong-pass1", new)), True))
+    told.run("wrong old password", lambda: told.wanted("it", changed(name, "Wrong-pass1", new) is True, False))
     told.run("a change", lambda: told.wanted("it", changed(name, old, new), True))
     told.run("the KDC takes it", lambda: told.wanted("kinit", realm_inside.logs_in(name, new), True))
     told.run("used before", lambda: told.wanted("it", changed(name, new, old), "('Password change rejected: password used before', 4)"))
