@@ -20,6 +20,8 @@ STATUS = "runuser -u boddrelyn -- chpw_server control --socket /run/boddrelyn/co
 TABLE = "chpw_server table --config /etc/boddrelyn/realm.toml --journal /var/lib/boddrelyn/journal"
 # somebody else at the port
 OTHER = "perl -MIO::Socket::INET -e '$it = IO::Socket::INET->new(LocalAddr => \"127.0.0.1:464\", Listen => 1) or die; sleep 100'"
+# kadmind's socket at port 464 of every address, as the system tells it
+KADMIND = "00000000:01D0 00000000:0000 0A"
 # an address that others could ask
 ADDRESS = "printf '[Match]\\nName=lo\\n[Network]\\nAddress=10.9.0.1/32\\n' > /etc/systemd/network/lo.network; systemctl start systemd-networkd"
 # a client whose clock is ahead of a quiet time, but for what names a configuration of its own
@@ -88,7 +90,9 @@ BLOCKS = (
         "with status 2": f'sh -c "{CHECK}; [ \\$? = 2 ]"',
         "and no longer": f"systemctl start boddrelyn-agent-mit; {waits(CHECK)}",
     }),
-    Block("Back up", before=f"{TABLE} > /opt/try/table", after={"the copies are root's alone": "sh -c '[ $(stat -c %a /var/backups/boddrelyn/journal) = 600 ]'"}),
+    Block("Back up", before=f"{TABLE} > /opt/try/table", after={
+        "the copies are root's alone": "sh -c '[ $(stat -c %a /var/backups/boddrelyn/journal) = 600 ]'",
+    }),
     Block("Back up", 1, before="systemctl stop boddrelyn; rm /etc/boddrelyn/realm.toml; runuser -u boddrelyn -- rm /var/lib/boddrelyn/journal", after={
         "the table is back": f"{TABLE} | diff /opt/try/table -", "it runs": waits(f"{STATUS} | grep -x 'kdc connected'"),
     }),
@@ -105,7 +109,8 @@ BLOCKS = (
           after={"it says why": "grep 'port 464: in use' /opt/try/printed"}),
     Block("A start failed", 1, before="kill $other; wait $other", after={"it runs": waits(f"{STATUS} | grep -x ok")}),
     Block("Go back to kadmind", after={
-        "the service is gone": "none pidof chpw_server", "kpasswd at kadmind": "wait_for grep '00000000:01D0 00000000:0000 0A' /proc/net/tcp; changed alice Newest-pass1 Kadmind-pass1",
+        "the service is gone": "none pidof chpw_server", "it listens": f"wait_for grep '{KADMIND}' /proc/net/tcp",
+        "kpasswd at kadmind": "changed alice Newest-pass1 Kadmind-pass1",
         "kvno goes on": "kadmin.local getprinc alice | grep 'Key: vno 5,'",
     }),
 )
