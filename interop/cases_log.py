@@ -79,7 +79,7 @@ KINDS = {"unopened": "did not open", "skewed": "had too great a clock skew", "re
 
 def held(kind, seconds, micros, loopback, other):
     return (f"{moment(seconds, micros)} worker - peer - client - target - code - error - kvno - "
-            f"text {int(loopback) + int(other)} more {KINDS[kind]}: {loopback} from 127.0.0.0/8, {other} from elsewhere")
+            f"text {int(loopback) + int(other)} more {KINDS[kind]}: {loopback} from 127.0.0.0/8 or ::1, {other} from elsewhere")
 
 
 def limited(words):

@@ -12,12 +12,13 @@ ghost use Rattle.chpw_connections.specs.Noting.{noted_by, NotesEach, IsFirstOver
 
 use crate::set::Connections;
 use chpw_connection::Change;
+use std::net::IpAddr;
 
 /// A reply that no longer waits although its change wasn't confirmed.
 #[derive(Clone, Copy, PartialEq, Eq, Debug, Drop)]
 pub struct Unconfirmed {
-    /// The peer: an IPv4 address, high byte first.
-    pub peer: [u8; 4],
+    /// The address that its message came from.
+    pub peer: IpAddr,
     /// The ticket of the change.
     pub ticket: u64,
 }
@@ -89,7 +90,7 @@ impl Connections {
         ensures queues { queues_of self.new ≡ queues_of self.old }
     {
         let (slot, ticket) = self.first_overdue(wait, now)?;
-        let peer = self.slots.peer(slot);
+        let peer = self.slots.ends(slot).peer;
         self.release(slot, now);
         Some(Unconfirmed { peer, ticket })
     }
@@ -103,7 +104,7 @@ impl Connections {
         ensures held { held_in (slots_of self.new) ≤ held_in (slots_of self.old) }
     {
         let (late, ticket) = self.first_overdue(wait, now)?;
-        let peer = self.slots.peer(late);
+        let peer = self.slots.ends(late).peer;
         self.fail(late);
         Some(Unconfirmed { peer, ticket })
     }

@@ -11,6 +11,7 @@ use crate::engine::{Engine, milliseconds};
 use crate::kdc::KdcTerms;
 use crate::status_reporter::StatusReporter;
 use crate::talking::KdcLink;
+use chpw_endpoints::Endpoints;
 use chpw_sockets::{STEPS, Selector};
 use chpw_transfers::{
     AcceptLimit, Entrance, EventSource, LISTENER, Newcomer, Noting, Progress, Shortage,
@@ -19,6 +20,7 @@ use chpw_transfers::{
 use mio::event::Event;
 use mio::unix::SourceFd;
 use mio::{Events, Interest, Registry};
+use std::io;
 use std::net::{OpenListener, TcpStream};
 use std::os::fd::AsRawFd;
 use std::sync::{MutexGuard, Wait};
@@ -294,8 +296,8 @@ impl<
         ensures came { is_some self.new.entrance.pending ≡ false → is_ready self.new.entrance.accepting ≡ false }
         ensures wanted { self.new.entrance.wanted ≡ self.old.entrance.wanted }
     {
-        match self.listener.accept() {
-            Ok((stream, address)) => self.entrance.keep(Newcomer { stream, address }),
+        match accepted(self.listener) {
+            Ok(newcomer) => self.entrance.keep(newcomer),
             Err(error) => self.entrance.stumble(&error, milliseconds(self.rt)),
         }
     }
@@ -323,6 +325,16 @@ impl<
     fn make_room(&self) -> Option<usize> {
         self.engine.hub.lock(self.rt).make_room()
     }
+}
+
+// The next connection of a listener, and its two addresses.
+fn accepted<L: OpenListener<Stream = TcpStream>>(listener: &L) -> io::Result<Newcomer> {
+    let (stream, peer) = listener.accept()?;
+    let local = stream.local_addr()?;
+    Ok(Newcomer {
+        stream,
+        ends: Endpoints::of(peer, local),
+    })
 }
 
 impl<

@@ -1,6 +1,7 @@
 -- Whom datagrams come from, and whom their replies go to.
 use Rattle.std.specs.Prelude.{◌≡◌, ℕ, ◌⊎◌, List, [], length, nat_lt, Option, Some, None, MatchBool}
 use Rattle.std.specs.declared.net.socket_addr.SocketAddr.{SocketAddr}
+use Rattle.std.specs.declared.net.ip_addr.IpAddr.{IpAddr}
 use Rattle.slab.specs.Slab.{Slab, get}
 use Rattle.chpw_slots.specs.Slots.{Happens}
 use Rattle.chpw_connection.specs.Slot.{left_at}
@@ -83,8 +84,8 @@ PostsAt (Some None) due now before after old new slot = after ≡ before
 PostsAt None due now before after old new slot = after ≡ before
 
 -- a datagram is the first that was left, as much of it as there is room for, and its sender is where it came from
-abbrev pub IsReceived : Sender → List ℕ → ℕ → Mail → Mail → Type 0
-IsReceived sender message room before after = (from : SocketAddr) × ((sender ≡ sender_in from) × Brings from message room before after)
+abbrev pub IsReceived : IpAddr → Sender → List ℕ → ℕ → Mail → Mail → Type 0
+IsReceived local sender message room before after = (from : SocketAddr) × ((sender ≡ sender_in local from) × Brings from message room before after)
 
 -- the reply that is kept for this very datagram of this sender was sent to that sender again
 pub record GoesAgain {D : Type 0} (d : Datagrams D) (sender : Sender) (message : List ℕ) (now : ℕ) (before after : Mail) : Type 0 where
@@ -103,7 +104,7 @@ pub record IsTaken {S D : Type 0} (left sent : D → Mail) (d e : Datagrams D) (
     (b : ConnectionLimits) (now number : ℕ) (old new : Slab Connection) (p : Progress) (workers : ℕ) : Type 0 where
   pub sender : Sender
   pub message : List ℕ
-  pub received : IsReceived sender message room (left d.socket) (left e.socket)
+  pub received : IsReceived d.local sender message room (left d.socket) (left e.socket)
   pub again : Resends d sender message now (sent d.socket) (sent e.socket)
   pub rest : e ≡ record d { socket = e.socket }
   pub queued : (worker : ℕ) → p ≡ progress.Queued worker → QueuesThis d sender message before after b now number old new worker workers

@@ -18,11 +18,9 @@ ghost use Rattle.chpw_transfers.specs.declared.kdc.Release.{Release};
 ghost use Rattle.chpw_sockets.specs.Newcomers.{IsAdmitted, IsBegun};
 ghost use Rattle.chpw_sockets.specs.Places.{RemainsAt, StaysAt};
 ghost use Rattle.chpw_sockets.specs.Faults.{IsUnmade};
-ghost use Rattle.chpw_sockets.specs.Addresses.{peer_in};
 ghost use Rattle.chpw_sockets.specs.Shares.{may_place_stream};
 ghost use Rattle.chpw_transfers.specs.declared.state.Progress.TheVariants as progress;
 
-use crate::addresses::peer_of;
 use crate::places::Sockets;
 use crate::pool_fault::PoolFault;
 use crate::sockets::Selector;
@@ -72,7 +70,7 @@ impl Hub {
     /// Admits a connection that has come: its slot. If there are as many as allowed, in all or over TCP, it is handed
     /// back, and a client waits for room. One whose socket can't be watched ends.
     pub fn admit(&mut self, newcomer: Newcomer, now: u64) -> Result<usize, Newcomer>
-        ensures admitted { IfOk result (λ slot. IsAdmitted (peer_in newcomer.address) now (accepted_by self.old.state.connections)
+        ensures admitted { IfOk result (λ slot. IsAdmitted newcomer.ends now (accepted_by self.old.state.connections)
             (slots_of self.old.state.connections) (slots_of self.new.state.connections) slot) }
         ensures placed { IfOk result (λ slot. slot < length self.old.sockets.by_slot.items → IsFresh self.new.sockets.by_slot.items slot) }
         ensures others { IfOk result (λ slot. AreElsewhere self.old.sockets.by_slot.items self.new.sockets.by_slot.items slot) }
@@ -87,7 +85,7 @@ impl Hub {
             self.state.has_newcomer = true;
             return Err(newcomer);
         }
-        match self.state.accept(peer_of(newcomer.address), now) {
+        match self.state.accept(newcomer.ends, now) {
             None => Err(newcomer),
             Some(slot) => {
                 self.put(slot, newcomer.stream);

@@ -2,7 +2,6 @@
 //! and the workers share them, with the connections, under one lock.
 #![tactic(auto)]
 
-mod addresses;
 mod channel;
 mod deciding;
 mod hub;

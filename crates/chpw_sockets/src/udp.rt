@@ -17,19 +17,20 @@ ghost use Rattle.chpw_transfers.specs.Steps.{IsCalled, Steps, Writes, untold};
 ghost use Rattle.chpw_transfers.specs.Transfers.{is_sent, ComesOfSend};
 ghost use Rattle.chpw_transfers.specs.declared.state.Progress.TheVariants as progress;
 
-use crate::addresses::peer_of;
 use crate::channel::DatagramChannel;
 use crate::pool_fault::PoolFault;
 use chpw_connections::Todo;
+use chpw_endpoints::Endpoints;
 use chpw_datagrams::{Answered, Sender, is_answerable};
 use chpw_transfers::{DATAGRAMS, Progress, State, Transfer, reply_of_datagram};
 use mio::net::UdpSocket;
 use mio::{Interest, Registry};
 use std::alloc::{AllocError, Global};
-use std::net::{self, Ipv4Addr, SocketAddr, SocketAddrV4};
+use std::net::{self, IpAddr, SocketAddr};
 use std::{io, mem};
 
-/// How many bytes the longest datagram over IPv4 has.
+/// How many bytes the longest datagram over IPv4 has. One over IPv6 may have 20 more; it is longer than any message
+/// that is answered.
 pub(crate) const LONGEST: usize = 65_507;
 
 /// A datagram that is being answered.
@@ -44,9 +45,7 @@ impl Datagram {
     pub fn is(&self, sender: Sender, message: &[u8]) -> bool
         ensures value { result ≡ is_same_datagram sender message.now self.now }
     {
-        self.sender.address == sender.address
-            && self.sender.port == sender.port
-            && self.message.as_slice() == message
+        self.sender.is_same(&sender) && self.message.as_slice() == message
     }
 
     /// Does what is to be done for its connection: its reply is sent, in one call of the socket for datagrams, and then
@@ -93,6 +92,8 @@ pub struct DatagramSocket {
 pub struct Datagrams<D> {
     pub alloc: Global,
     socket: D,
+    // Its own address.
+    local: IpAddr,
     // Its own port.
     port: u16,
     // The service's realm.
@@ -117,10 +118,11 @@ impl Datagrams<UdpSocket> {
         };
         match watch(socket, registry) {
             Err(_) => Err(PoolFault::Accept),
-            Ok((socket, port)) => Ok(Datagrams {
+            Ok((socket, own)) => Ok(Datagrams {
                 alloc,
                 socket,
-                port,
+                local: own.ip(),
+                port: own.port(),
                 realm,
                 answered,
             }),
@@ -131,13 +133,13 @@ impl Datagrams<UdpSocket> {
 impl<D: DatagramChannel> Datagrams<D> {
     /// The next datagram: its sender, who is where it came from, and its bytes in the buffer.
     pub fn receive<'a>(&mut self, buffer: &'a mut [u8]) -> io::Result<(Sender, &'a [u8])>
-        ensures received { IfOk result (λ r. IsReceived r.0 r.1.now (length buffer.old) (D.left self.old.socket) (D.left self.new.socket)) }
+        ensures received { IfOk result (λ r. IsReceived self.old.local r.0 r.1.now (length buffer.old) (D.left self.old.socket) (D.left self.new.socket)) }
         ensures nothing { IfErr result (λ _. D.left self.new.socket ≡ D.left self.old.socket) }
         ensures sent { D.sent self.new.socket ≡ D.sent self.old.socket }
         ensures rest { self.new ≡ record self.old { socket = self.new.socket } }
     {
         let (count, from) = self.socket.receive(buffer)?;
-        Ok(message_from(count, from, buffer))
+        Ok(message_from(self.local, count, from, buffer))
     }
 
     /// Whether a datagram is to be answered and wasn't less than five seconds ago; one that was gets that reply again.
@@ -263,21 +265,29 @@ fn send_reply<D: DatagramChannel>(
     }
 }
 
-// The first bytes of this buffer, as they came from this address.
-fn message_from(count: usize, from: SocketAddr, buffer: &[u8]) -> (Sender, &[u8])
+// The first bytes of this buffer, as they came from this address to that of the socket.
+fn message_from(
+    local: IpAddr,
+    count: usize,
+    from: SocketAddr,
+    buffer: &[u8],
+) -> (Sender, &[u8])
     requires within { count ≤ length buffer.now }
-    ensures sender { result.0 ≡ sender_in from }
+    ensures sender { result.0 ≡ sender_in local from }
     ensures bytes { result.1.now ≡ take count buffer.now }
 {
-    (sender_of(from), &buffer[..count])
+    (sender_of(local, from), &buffer[..count])
 }
 
-// The sender at this address: an IPv4 address, or 0.0.0.0 for one of another kind, and the port.
-fn sender_of(from: SocketAddr) -> Sender
-    ensures value { result ≡ sender_in from }
+// The sender at this address, who sent to that of the socket.
+fn sender_of(local: IpAddr, from: SocketAddr) -> Sender
+    ensures value { result ≡ sender_in local from }
 {
     Sender {
-        address: peer_of(from),
+        ends: Endpoints {
+            peer: from.ip(),
+            local,
+        },
         port: from.port(),
     }
 }
@@ -285,9 +295,9 @@ fn sender_of(from: SocketAddr) -> Sender
 // The address of a sender.
 fn address_of(sender: Sender) -> SocketAddr
     ensures value { IsAddressOf sender result }
-    ensures back { sender_in result ≡ sender }
+    ensures back { sender_in sender.ends.local result ≡ sender }
 {
-    SocketAddr::V4(SocketAddrV4::new(Ipv4Addr::from(sender.address), sender.port))
+    SocketAddr::new(sender.ends.peer, sender.port)
 }
 
 /// A datagram to be sent: where to, and its bytes.
@@ -315,11 +325,11 @@ fn addressed<'a>(sender: Sender, request: &[u8], reply: &'a [u8]) -> Option<Outg
     })
 }
 
-// The socket, watched, and its port.
-fn watch(socket: net::UdpSocket, registry: &Registry) -> io::Result<(UdpSocket, u16)> {
+// The socket, watched, and its own address.
+fn watch(socket: net::UdpSocket, registry: &Registry) -> io::Result<(UdpSocket, SocketAddr)> {
     socket.set_nonblocking(true)?;
-    let port = socket.local_addr()?.port();
+    let own = socket.local_addr()?;
     let mut socket = UdpSocket::from_std(socket);
     registry.register(&mut socket, DATAGRAMS, Interest::READABLE)?;
-    Ok((socket, port))
+    Ok((socket, own))
 }

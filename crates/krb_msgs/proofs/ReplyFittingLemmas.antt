@@ -26,9 +26,9 @@ ap_rep_parts_fit ctime cusec number moment lt =
     (and_both moment.0 (and_both moment.1 (and_both (number_range number lt) refl))) (omega arith)
 
 pub priv_parts_fit : PrivPartsFit
-priv_parts_fit user_data number lt le =
-    short_part enc_krb_priv_part (enc_krb_priv_part_value (priv_part_of user_data number))
-    (and_both (number_range number lt) refl) (omega (arith, le))
+priv_parts_fit from user_data number lt le few =
+    short_part enc_krb_priv_part (enc_krb_priv_part_value (priv_part_of from user_data number))
+    (and_both (number_range number lt) refl) (omega (arith, le, few))
 
 pub errors_fit : ErrorsFit
 errors_fit stime susec code realm e_data moment is_code le =

@@ -1,3 +1,4 @@
+pub mod Addresses
 pub mod Checks
 pub mod Answers
 pub mod Codes
@@ -7,6 +8,7 @@ pub mod Presented
 pub mod Tickets
 pub mod Authenticators
 pub mod Accepted
+pub mod Addresses
 pub mod ApExchange
 pub mod PrivateMessages
 pub mod StrictLaws

@@ -1,0 +1,49 @@
+-- The text of an IPv6 address can stand between two spaces.
+use Rattle.std.proofs.Common.{rules, ◌≡◌, ℕ, ◌<◌, List, [], ◌∷◌, ◌++◌, true, length, length-append, length-drop, arith, codes, bytes_eq, nat_lt, take, drop, inl, inr}
+use Rattle.krb_codec.proofs.CompleteLemmas.{same_or_not}
+use Rattle.std.specs.Char.{digit_char}
+use Rattle.std.specs.List.{flat_map}
+use Rattle.std.specs.Net.Addr.{octets_of}
+use Rattle.std.specs.Net.Text.{compressed_text, groups_text, hex, hex_groups_text, ipv4_text, ipv6_text, leading_zero_digits, longest_zero_run}
+use Rattle.chpw_printing.specs.Quoting.{are_graphic, byte_text, is_field, is_plain, quoted}
+use Rattle.chpw_printing.proofs.QuotingLemmas.{field_of}
+
+some_byte : (byte : ℕ) → 0 < length (byte_text byte)
+some_byte byte = elim (same_or_not (is_plain byte)) [
+  | inl plain ↦ rw plain (omega arith)
+  | inr other ↦ rw other (omega arith)
+]
+
+some_quoted : (text : List ℕ) → 0 < length text → 0 < length (quoted text)
+some_quoted [] some = absurd (omega (arith, some))
+some_quoted (byte ∷ rest) some = omega (arith, some_byte byte, length-append (byte_text byte) (quoted rest))
+
+some_hex : (n : ℕ) → 0 < length (hex n)
+unfolding hex
+some_hex n = grind (arith, rules)
+
+some_groups : (s : ℕ) (rest : List ℕ) → 0 < length (groups_text (s ∷ rest))
+some_groups s rest = omega (arith, some_hex s, length-append (hex s) (flat_map (λ t. codes ":" ++ hex t) rest))
+
+some_compressed : (s : ℕ) (rest : List ℕ) (run : ℕ × ℕ) → 0 < length (compressed_text (s ∷ rest) run)
+some_compressed s rest run = elim (same_or_not (nat_lt 1 run.1)) [
+  | inl long ↦
+      let front = groups_text (take run.0 (s ∷ rest)) in
+      let back = groups_text (drop (run.0 + run.1) (s ∷ rest)) in
+      rw long (omega (arith, length-append front (codes "::" ++ back), length-append (codes "::") back))
+  | inr short ↦ rw short (some_groups s rest)
+]
+
+some_text : (segments : List ℕ) → 0 < length segments → 0 < length (ipv6_text segments)
+unfolding ipv6_text, hex_groups_text
+some_text [] some = absurd (omega (arith, some))
+some_text (s ∷ rest) some = elim (same_or_not (bytes_eq (take 6 (s ∷ rest)) (0 ∷ 0 ∷ 0 ∷ 0 ∷ 0 ∷ 0xffff ∷ []))) [
+  | inl mapped ↦
+      let octets = ipv4_text (octets_of (drop 6 (s ∷ rest))) in
+      rw mapped (omega (arith, length-append (codes "::ffff:") octets))
+  | inr other ↦ rw other (some_compressed s rest (longest_zero_run (s ∷ rest)))
+]
+
+pub groups_field : (segments : List ℕ) → 0 < length segments → are_graphic (quoted (ipv6_text segments)) ≡ true
+    → is_field (quoted (ipv6_text segments)) ≡ true
+groups_field segments some h = field_of (quoted (ipv6_text segments)) (some_quoted (ipv6_text segments) (some_text segments some)) h
