@@ -6,14 +6,8 @@ use krb_der::{Authenticator, EncTicketPart, EncryptionKey, HostAddress, Kerberos
 use krb_keys::Key;
 use krb_msgs::ServiceKey;
 use std::alloc::{AllocError, Global};
-use std::net::{IpAddr, Ipv6Addr};
+use std::net::IpAddr;
 use support_messages::{authenticator, bytes, client, host_address, name, ticket_part};
-
-/// 2001:db8::1.
-const SIXTEEN: IpAddr = IpAddr::V6(Ipv6Addr::new(0x2001, 0xdb8, 0, 0, 0, 0, 0, 1));
-
-/// ::ffff:127.0.0.1.
-const MAPPED: IpAddr = IpAddr::V6(Ipv6Addr::new(0, 0, 0, 0, 0, 0xffff, 0x7f00, 1));
 
 /// What an AP-REQ is made from, and the service's keys.
 ///
@@ -186,8 +180,8 @@ fn change_service(case: &mut Case, how: &str) -> Result<(), Refusal> {
             case.held = [SERVICE, other];
         }
         "peer 127.0.0.2" => case.peer = IpAddr::from([127, 0, 0, 2]),
-        "peer 2001:db8::1" => case.peer = SIXTEEN,
-        "peer ::ffff:127.0.0.1" => case.peer = MAPPED,
+        "peer 2001:db8::1" => case.peer = IpAddr::from([0x2001, 0xdb8, 0, 0, 0, 0, 0, 1]),
+        "peer ::ffff:127.0.0.1" => case.peer = IpAddr::from([0, 0, 0, 0, 0, 0xffff, 0x7f00, 1]),
         _ => return Err(Refusal::NoSuchCase),
     }
     Ok(())

@@ -10,6 +10,7 @@ use chpw_log::{Asked, Held, HeldCounts, Line, LineLimits, MessageEvent, write_he
 use chpw_table::{LAST_SECOND, Moment};
 use krb_protocol::Refusal;
 use std::alloc::Global;
+use std::net::IpAddr;
 use support_cases::Fault;
 
 /// What comes before the result in a line: when, at which worker, from whom.
