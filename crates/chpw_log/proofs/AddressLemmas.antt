@@ -1,5 +1,6 @@
 -- The text of an IPv6 address can stand between two spaces.
-use Rattle.std.proofs.Common.{rules, ◌≡◌, ℕ, ◌<◌, List, [], ◌∷◌, ◌++◌, true, length, length-append, length-drop, arith, codes, bytes_eq, nat_lt, take, drop, inl, inr}
+use Rattle.std.proofs.Common.{rules, ◌≡◌, ℕ, ◌<◌, List, [], ◌∷◌, ◌++◌, true, length, length-append, length-drop}
+use Rattle.std.proofs.Common.{arith, codes, bytes_eq, nat_lt, take, drop, inl, inr}
 use Rattle.krb_codec.proofs.CompleteLemmas.{same_or_not}
 use Rattle.std.specs.Char.{digit_char}
 use Rattle.std.specs.List.{flat_map}

@@ -66,7 +66,8 @@ bad_data_changes_none q = (refl, λ s now counts io. bad_data_keeps q s now coun
 -- ---- the parts
 
 -- what they open to in the earlier protocol, if their user-data names a target
-set_parts : (strictness : Strictness) (realm : List ℕ) (keys : List ServiceKey) (ends : Endpoints) (ap_req tail : List ℕ) (a : ApOpened) (p : Private) (o : Opens)
+set_parts : (strictness : Strictness) (realm : List ℕ) (keys : List ServiceKey) (ends : Endpoints) (ap_req tail : List ℕ)
+    (a : ApOpened) (p : Private) (o : Opens)
     → AreProtocolKeys keys → OpensAp realm keys ap_req ends.peer (Ok a) → OpensPriv strictness ends.local a.subkey a.seq_number tail (Ok p)
     → NamesTarget p.user_bytes → OpensParts strictness realm keys ends old_request_version ap_req tail o
     → o ≡ opened (request_of ends.local a p.stamp bad_data)
@@ -180,8 +181,8 @@ despite_none priv.NotSealed = refl
 despite_none priv.WrongSeqNumber = refl
 despite_none priv.Loose = refl
 
-private_set : (strictness : Strictness) (local : IpAddr) (realm : List ℕ) (subkey : Key) (seq_number : Option SeqNumber) (tail : List ℕ) (private : Result Private PrivFault)
-    (content : Content) (target : Target)
+private_set : (strictness : Strictness) (local : IpAddr) (realm : List ℕ) (subkey : Key) (seq_number : Option SeqNumber) (tail : List ℕ)
+    (private : Result Private PrivFault) (content : Content) (target : Target)
     → asked_target content ≡ Some target → OpensPriv strictness local subkey seq_number tail private → IsContent realm request_version private content
     → (p : Private) × OpensPriv strictness local subkey seq_number tail (Ok p) × NamesTarget p.user_bytes
 private_set strictness local realm subkey seq_number tail (Ok p) content target is opens h = (p, opens, asked_names realm p.user_bytes content target is h)

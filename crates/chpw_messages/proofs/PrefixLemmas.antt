@@ -60,8 +60,8 @@ pub request_is : (q r : Request) → opened q ≡ opened r → q ≡ r
 request_is q r h = cc
 
 -- the same AP-REQ with less of a KRB-PRIV behind it
-less_opens : (strictness : Strictness) (local : IpAddr) (realm : List ℕ) (version : ℕ) (tail : List ℕ) (k : ℕ) (m : KrbPriv) (a : Result ApOpened ApFault) (q : Request)
-    → Spells krb_priv tail (krb_priv_value m) → k < length tail
+less_opens : (strictness : Strictness) (local : IpAddr) (realm : List ℕ) (version : ℕ) (tail : List ℕ) (k : ℕ) (m : KrbPriv)
+    (a : Result ApOpened ApFault) (q : Request) → Spells krb_priv tail (krb_priv_value m) → k < length tail
     → OpensAs strictness local realm version tail a (opened q) → OpensAs strictness local realm version (take k tail) a (opened (without_content q))
 less_opens strictness local realm version tail k m (Err fault) q spelled lt h = absurd cc
 less_opens strictness local realm version tail k m (Ok a) q spelled lt h = (
@@ -104,7 +104,8 @@ pub opens_so : (strictness : Strictness) (realm : List ℕ) (keys : List Service
 opens_so strictness realm keys ends bytes o f is h = subst (λ (g : Option FrameFault). OpensFramed strictness realm keys ends bytes g o) (sym is) h
 
 -- a request has no fault
-pub opened_has_none : (strictness : Strictness) (realm : List ℕ) (keys : List ServiceKey) (ends : Endpoints) (bytes : List ℕ) (q : Request) (f : Option FrameFault)
+pub opened_has_none : (strictness : Strictness) (realm : List ℕ) (keys : List ServiceKey) (ends : Endpoints) (bytes : List ℕ) (q : Request)
+    (f : Option FrameFault)
     → first_fault request_versions false bytes ≡ f → OpensFramed strictness realm keys ends bytes f (opened q)
     → (first_fault request_versions false bytes ≡ None) × OpensParts strictness realm keys ends (version_of bytes) (ap_of bytes) (tail_of bytes) (opened q)
 opened_has_none strictness realm keys ends bytes q (Some fault) is h = absurd cc
@@ -170,7 +171,8 @@ module _ (hi lo c d e f : ℕ) (rest : List ℕ) (m : ℕ) (le : m ≤ length re
             let opens : OpensParts strictness realm keys ends (version_of whole) (ap_of left) (tail_of left) (opened (without_content q)) = (
               parts.0,
               subst (λ (b : List ℕ). OpensAp realm keys b ends.peer parts.0) (sym (same_ap ap_le)) parts.1,
-              subst (λ (b : List ℕ). OpensAs strictness ends.local realm (version_of whole) b parts.0 (opened (without_content q))) (sym (less_tail ap_le)) less,
+              subst (λ (b : List ℕ). OpensAs strictness ends.local realm (version_of whole) b parts.0 (opened (without_content q)))
+                  (sym (less_tail ap_le)) less,
             ) in
             opens_so strictness realm keys ends left _ None (fault ∙ rw enough refl) (rw (header, enough) opens)
       ]
