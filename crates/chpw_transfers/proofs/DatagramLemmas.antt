@@ -112,7 +112,8 @@ read_here b now old new slot bytes (inr comes) is = came_here b now old new slot
 
 -- what was begun and is dropped leaves no connection
 module _ (first second : ConnectionLimits) (now number slot : ℕ) (between : Endpoints) (len bytes : List ℕ)
-    (old accepted begun whole over new : Slab Connection) (is_new : IsNew between now number old accepted slot) (length_came : CameOrFailed first now accepted begun slot len)
+    (old accepted begun whole over new : Slab Connection)
+    (is_new : IsNew between now number old accepted slot) (length_came : CameOrFailed first now accepted begun slot len)
     (bytes_came : CameIfRead second now begun whole slot bytes) (ends : Happens 0 whole over slot failed)
     (removed : is_ended_in (get over slot) ≡ true → Updates over new slot None) where
   gone : Updates over new slot None
