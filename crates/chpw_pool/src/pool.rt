@@ -17,6 +17,7 @@ use chpw_workers::{BackgroundTask, Context, Crew, MachineClock, NotStarted, Work
 use std::alloc::{AllocError, Global};
 use std::net::{Net, OpenListener, TcpListener, TcpStream};
 use std::os::fd::AsRawFd;
+use std::slice;
 use std::sync::Wait;
 use std::thread::{Scope, Threads};
 use std::{thread, time};
@@ -216,7 +217,7 @@ impl<R: Wait + Net + time::Clock, L: OpenListener<Stream = TcpStream> + AsRawFd>
 
     fn run(self) {
         self.engine
-            .react(self.rt, self.listener, self.connections, NoKdc);
+            .react(self.rt, slice::from_ref(self.listener), self.connections, NoKdc);
     }
 }
 

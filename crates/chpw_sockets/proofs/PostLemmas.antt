@@ -80,7 +80,7 @@ resent d s sender message now before after (inr same) = inr same
 -- the next datagram was received, and then handled
 pub taken : {S D : Type 0} → (left sent : D → Mail) (d m e : Datagrams D) (count room : ℕ) (sender : Sender) (message : List ℕ)
     (there behind : List (Option (Transport S))) (b : ConnectionLimits) (now number : ℕ) (old new : Slab Connection) (p : Progress) (workers : ℕ)
-    → count ≡ room → IsReceived d.local sender message count (left d.socket) (left m.socket) → sent m.socket ≡ sent d.socket
+    → count ≡ room → IsReceived sender message count (left d.socket) (left m.socket) → sent m.socket ≡ sent d.socket
     → m ≡ record d { socket = m.socket } → left e.socket ≡ left m.socket → Resends m sender message now (sent m.socket) (sent e.socket)
     → e ≡ record m { socket = e.socket }
     → ((worker : ℕ) → p ≡ progress.Queued worker → QueuesThis d sender message there behind b now number old new worker workers)
@@ -90,8 +90,8 @@ taken {D = D} left sent d m e count room sender message there behind b now numbe
       sender = sender;
       message = message;
       received =
-          subst (λ (n : ℕ). IsReceived d.local sender message n (left d.socket) (left e.socket)) all
-          (subst (λ (mail : Mail). IsReceived d.local sender message count (left d.socket) mail) (sym unread) received);
+          subst (λ (n : ℕ). IsReceived sender message n (left d.socket) (left e.socket)) all
+          (subst (λ (mail : Mail). IsReceived sender message count (left d.socket) mail) (sym unread) received);
       again =
           resent d m.socket sender message now (sent d.socket) (sent e.socket)
           (subst (λ (x : Datagrams D). Resends x sender message now (sent d.socket) (sent e.socket)) first

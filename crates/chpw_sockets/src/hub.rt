@@ -21,10 +21,11 @@ ghost use Rattle.chpw_sockets.specs.Faults.{IsUnmade};
 ghost use Rattle.chpw_sockets.specs.Shares.{may_place_stream};
 ghost use Rattle.chpw_transfers.specs.declared.state.Progress.TheVariants as progress;
 
+use crate::own_sockets::OwnSockets;
 use crate::places::Sockets;
 use crate::pool_fault::PoolFault;
 use crate::sockets::Selector;
-use crate::udp::DatagramSocket;
+use crate::udp::DatagramSockets;
 use chpw_connections::{ConnectionLimits, Connections, Todo, Turn};
 use chpw_transfers::{KdcSide, Newcomer, Progress, State};
 use std::alloc::Global;
@@ -37,19 +38,19 @@ pub const STEPS: u32 = 64;
 #[derive(Drop)]
 pub struct Hub {
     pub state: State,
-    pub sockets: Sockets<mio::net::TcpStream, mio::net::UdpSocket>,
+    pub sockets: Sockets<mio::net::TcpStream, OwnSockets>,
 }
 
 impl Hub {
     /// No connections yet, for this many workers, but at least one; within these bounds, and with a place for the socket
-    /// of each connection. With a socket for them, messages come as datagrams too; with a KDC, keys are put there.
-    /// `Accept` if the system can't watch that socket, `Memory` if a growth is refused.
+    /// of each connection. With sockets for them, messages come as datagrams too; with a KDC, keys are put there.
+    /// `Accept` if the system can't watch those sockets, `Memory` if a growth is refused.
     pub fn new(
         alloc: Global,
         selector: &Selector,
         bounds: ConnectionLimits,
         workers: usize,
-        datagrams: Option<DatagramSocket>,
+        datagrams: Option<DatagramSockets>,
         kdc: Option<KdcSide>,
     ) -> Result<Hub, PoolFault>
         ensures begun { IfOk result (λ hub. IsBegun kdc hub.state) }

@@ -5,6 +5,7 @@
 mod channel;
 mod deciding;
 mod hub;
+mod own_sockets;
 mod places;
 mod pool_fault;
 mod shares;
@@ -13,7 +14,8 @@ mod udp;
 
 pub use channel::{Channel, DatagramChannel};
 pub use hub::{Hub, STEPS};
+pub use own_sockets::OwnSockets;
 pub use places::Sockets;
 pub use pool_fault::PoolFault;
 pub use sockets::{Selector, Socket, Transport};
-pub use udp::{Datagram, DatagramSocket, Datagrams};
+pub use udp::{Datagram, DatagramSockets, Datagrams};

@@ -1,4 +1,3 @@
-pub mod Addresses
 pub mod Checks
 pub mod Answers
 pub mod Codes
