@@ -105,8 +105,12 @@ all_given done kept (b ∷ rest) e =
     (all_given (done ++ b ∷ []) (after_keep kept b) rest next)
 
 same_address : (a b : IpAddr) → is_same_address a b ≡ true → a ≡ b
-same_address (V4 a) (V4 b) h = ap (λ (o : List ℕ). V4 (record { octets = o })) ((bytes_eq-Decides a.octets b.octets).0 h)
-same_address (V6 a) (V6 b) h = ap (λ (s : List ℕ). V6 (record { segments = s })) ((bytes_eq-Decides a.segments b.segments).0 h)
+same_address (V4 a) (V4 b) h =
+    let of : List ℕ → IpAddr = λ o. V4 (record { octets = o }) in
+    ap of ((bytes_eq-Decides a.octets b.octets).0 h)
+same_address (V6 a) (V6 b) h =
+    let of : List ℕ → IpAddr = λ s. V6 (record { segments = s }) in
+    ap of ((bytes_eq-Decides a.segments b.segments).0 h)
 same_address (V4 a) (V6 b) h = cc
 same_address (V6 a) (V4 b) h = cc
 
@@ -122,9 +126,10 @@ same_sender a b h =
     same_address a.ends.peer b.ends.peer (first_true (is_same_address a.ends.peer b.ends.peer) (own && (a.port == b.port)) h) in
     let local : a.ends.local ≡ b.ends.local = same_address a.ends.local b.ends.local (first_true own (nat_eq a.port b.port) rest) in
     let port : a.port ≡ b.port = (Decides-eqb a.port b.port).0 (second_true own (nat_eq a.port b.port) rest) in
-    ap (λ (x : IpAddr). record { ends = record { peer = x; local = a.ends.local }; port = a.port }) peer
-    ∙ (ap (λ (x : IpAddr). record { ends = record { peer = b.ends.peer; local = x }; port = a.port }) local
-    ∙ ap (λ (n : ℕ). record { ends = b.ends; port = n }) port)
+    let from : IpAddr → Sender = λ x. record { ends = record { peer = x; local = a.ends.local }; port = a.port } in
+    let to : IpAddr → Sender = λ x. record { ends = record { peer = b.ends.peer; local = x }; port = a.port } in
+    let on : ℕ → Sender = λ n. record { ends = b.ends; port = n } in
+    ap from peer ∙ (ap to local ∙ ap on port)
 
 own_sender : (a : Sender) → is_same_sender a a ≡ true
 own_sender a =

@@ -1,18 +1,22 @@
 -- The text of an IPv6 address can stand between two spaces.
-use Rattle.std.proofs.Common.{rules, ◌≡◌, ℕ, ◌<◌, List, [], ◌∷◌, ◌++◌, true, length, length-append, length-drop}
-use Rattle.std.proofs.Common.{arith, codes, bytes_eq, nat_lt, take, drop, inl, inr}
+use Rattle.std.proofs.Common.{◌≡◌, ℕ, ◌<◌, List, [], ◌∷◌, ◌++◌, true, length, length-append}
+use Rattle.std.proofs.Common.{arith, codes, inl, inr}
+use Rattle.std.specs.Prelude.{◌×◌, ◌+◌, bytes_eq, nat_le, nat_lt, take, drop}
 use Rattle.krb_codec.proofs.CompleteLemmas.{same_or_not}
-use Rattle.std.specs.Char.{digit_char}
 use Rattle.std.specs.List.{flat_map}
 use Rattle.std.specs.Net.Addr.{octets_of}
 use Rattle.std.specs.Net.Text.{compressed_text, groups_text, hex, hex_groups_text, ipv4_text, ipv6_text, leading_zero_digits, longest_zero_run}
 use Rattle.chpw_printing.specs.Quoting.{are_graphic, byte_text, is_field, is_plain, quoted}
 use Rattle.chpw_printing.proofs.QuotingLemmas.{field_of}
 
+-- what has a first byte has some
+some_cons : (x : ℕ) (xs : List ℕ) → 0 < length (x ∷ xs)
+some_cons x xs = omega arith
+
 some_byte : (byte : ℕ) → 0 < length (byte_text byte)
 some_byte byte = elim (same_or_not (is_plain byte)) [
-  | inl plain ↦ rw plain (omega arith)
-  | inr other ↦ rw other (omega arith)
+  | inl plain ↦ rw plain (some_cons _ _)
+  | inr other ↦ rw other (some_cons _ _)
 ]
 
 some_quoted : (text : List ℕ) → 0 < length text → 0 < length (quoted text)
@@ -21,7 +25,16 @@ some_quoted (byte ∷ rest) some = omega (arith, some_byte byte, length-append (
 
 some_hex : (n : ℕ) → 0 < length (hex n)
 unfolding hex
-some_hex n = grind (arith, rules)
+some_hex n = elim (same_or_not (nat_le 0x1000 n)) [
+  | inl e ↦ rw e (some_cons _ _)
+  | inr e ↦ elim (same_or_not (nat_le 0x100 n)) [
+    | inl f ↦ rw (e, f) (some_cons _ _)
+    | inr f ↦ elim (same_or_not (nat_le 0x10 n)) [
+      | inl g ↦ rw (e, f, g) (some_cons _ _)
+      | inr g ↦ rw (e, f, g) (some_cons _ _)
+    ]
+  ]
+]
 
 some_groups : (s : ℕ) (rest : List ℕ) → 0 < length (groups_text (s ∷ rest))
 some_groups s rest = omega (arith, some_hex s, length-append (hex s) (flat_map (λ t. codes ":" ++ hex t) rest))
@@ -45,6 +58,7 @@ some_text (s ∷ rest) some = elim (same_or_not (bytes_eq (take 6 (s ∷ rest)) 
   | inr other ↦ rw other (some_compressed s rest (longest_zero_run (s ∷ rest)))
 ]
 
-pub groups_field : (segments : List ℕ) → 0 < length segments → are_graphic (quoted (ipv6_text segments)) ≡ true
+pub groups_field : (segments : List ℕ) → length segments ≡ 8 → are_graphic (quoted (ipv6_text segments)) ≡ true
     → is_field (quoted (ipv6_text segments)) ≡ true
-groups_field segments some h = field_of (quoted (ipv6_text segments)) (some_quoted (ipv6_text segments) (some_text segments some)) h
+groups_field segments eight h =
+    field_of (quoted (ipv6_text segments)) (some_quoted (ipv6_text segments) (some_text segments (omega (arith, eight)))) h

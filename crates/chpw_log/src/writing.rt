@@ -3,7 +3,6 @@ ghost use Rattle.std.specs.Prelude.{◌≡◌, ◌++◌, ◌∷◌, [], true, co
 ghost use Rattle.std.specs.Option.{option_map};
 ghost use Rattle.std.specs.List.{join_with_byte};
 ghost use Rattle.std.specs.Fmt.{decimal, signed_decimal};
-ghost use Rattle.std.specs.Net.Addr.{ipv6_segments};
 ghost use Rattle.std.specs.Net.Text.{ipv6_text};
 ghost use Rattle.chpw_printing.specs.Quoting.{are_printed, is_field, quoted, words_text};
 ghost use Rattle.chpw_log.specs.Lines.{IsRecord, address_text, are_fields, dotted, fields_of, line_of, named, or_dash, outcome_fields, party_text};
@@ -145,7 +144,7 @@ pub(crate) fn put_address(text: &mut Vec<u8>, address: IpAddr) -> Result<(), All
 {
     match address {
         IpAddr::V4(ip) => put_ipv4(text, ip.octets()),
-        IpAddr::V6(ip) => put_ipv6(text, ip),
+        IpAddr::V6(ip) => put_ipv6(text, ip.segments()),
     }
 }
 
@@ -167,10 +166,10 @@ fn put_ipv4(text: &mut Vec<u8>, address: [u8; 4]) -> Result<(), AllocError>
 
 // Adds an IPv6 address.
 #[tactic(auto, using(crate::proofs::AddressLemmas::groups_field))]
-fn put_ipv6(text: &mut Vec<u8>, address: Ipv6Addr) -> Result<(), AllocError>
-    ensures value { OnOk result (text.new.items ≡ text.old.items ++ quoted (ipv6_text (ipv6_segments address))) }
-    ensures field { OnOk result (is_field (quoted (ipv6_text (ipv6_segments address))) ≡ true) }
+fn put_ipv6(text: &mut Vec<u8>, segments: [u16; 8]) -> Result<(), AllocError>
+    ensures value { OnOk result (text.new.items ≡ text.old.items ++ quoted (ipv6_text segments)) }
+    ensures field { OnOk result (is_field (quoted (ipv6_text segments)) ≡ true) }
 {
-    let groups = address.to_string(*text.allocator())?;
+    let groups = Ipv6Addr::from_segments(segments).to_string(*text.allocator())?;
     put_quoted(text, groups.as_bytes())
 }
