@@ -165,11 +165,11 @@ fn put_ipv4(text: &mut Vec<u8>, address: [u8; 4]) -> Result<(), AllocError>
 }
 
 // Adds an IPv6 address.
-#[tactic(auto, using(crate::proofs::AddressLemmas::groups_field))]
 fn put_ipv6(text: &mut Vec<u8>, segments: [u16; 8]) -> Result<(), AllocError>
     ensures value { OnOk result (text.new.items ≡ text.old.items ++ quoted (ipv6_text segments)) }
     ensures field { OnOk result (is_field (quoted (ipv6_text segments)) ≡ true) }
 {
     let groups = Ipv6Addr::from_segments(segments).to_string(*text.allocator())?;
-    put_quoted(text, groups.as_bytes())
+    put_quoted(text, groups.as_bytes())?;
+    Ok(())
 }

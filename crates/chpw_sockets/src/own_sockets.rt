@@ -1,5 +1,5 @@
 //! The system's sockets for datagrams.
-ghost use Rattle.std.specs.Prelude.{◌≡◌, None};
+ghost use Rattle.std.specs.Prelude.{◌≡◌, ◌≤◌, IfOk, None, length};
 ghost use Rattle.chpw_sockets.specs.Addresses.{IsAddressOf, sender_in};
 
 use crate::channel::DatagramChannel;

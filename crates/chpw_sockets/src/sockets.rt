@@ -303,7 +303,7 @@ impl<S: Channel + Drop, D: DatagramChannel + Drop> Sockets<S, D> {
         ensures bounds { bounds_of state.new.connections ≡ bounds_of state.old.connections }
         ensures dropped { result ≡ progress.Some → DropsDatagram (slots_of state.old.connections) (slots_of state.new.connections) }
         ensures in_turn { result ≡ progress.Some → (state.new ≡ state.old) ⊎ (sender : Sender) × (message : List ℕ)
-            × BeginsAndDrops (bounds_of state.old.connections) now sender.address (accepted_by state.old.connections) message
+            × BeginsAndDrops (bounds_of state.old.connections) now sender.ends (accepted_by state.old.connections) message
             (slots_of state.old.connections) (slots_of state.new.connections) }
         ensures kept { result ≡ progress.Some → self.new.by_slot.items ≡ self.old.by_slot.items }
         ensures idle_places { result ≡ progress.None → self.new.by_slot.items ≡ self.old.by_slot.items }
