@@ -49,8 +49,9 @@ some_groups s rest = some_front (hex s) (flat_map (λ t. codes ":" ++ hex t) res
 some_compressed : (s : ℕ) (rest : List ℕ) (run : ℕ × ℕ) → 0 < length (compressed_text (s ∷ rest) run)
 some_compressed s rest run = elim (same_or_not (nat_lt 1 run.1)) [
   | inl long ↦
+      let front = groups_text (take run.0 (s ∷ rest)) in
       let back = groups_text (drop (run.0 + run.1) (s ∷ rest)) in
-      rw long (some_back (groups_text (take run.0 (s ∷ rest))) (codes "::" ++ back) (some_cons 58 (58 ∷ back)))
+      rw long (some_front (front ++ codes "::") back (some_back front (codes "::") (some_cons 58 (58 ∷ []))))
   | inr short ↦ rw short (some_groups s rest)
 ]
 
