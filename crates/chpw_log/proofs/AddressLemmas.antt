@@ -6,7 +6,7 @@ use Rattle.krb_codec.proofs.CompleteLemmas.{same_or_not}
 use Rattle.std.specs.Char.{digit_char}
 use Rattle.std.specs.List.{flat_map}
 use Rattle.std.specs.Net.Addr.{octets_of}
-use Rattle.std.specs.Net.Text.{compressed_text, groups_text, hex, hex_groups_text, ipv4_text, ipv6_text, leading_zero_digits, longest_zero_run}
+use Rattle.std.specs.Net.Text.{compressed_text, groups_text, hex, hex_groups_text, ipv4_text, ipv6_text, longest_zero_run}
 use Rattle.chpw_printing.specs.Quoting.{are_graphic, byte_text, escaped, is_field, is_plain, quoted}
 use Rattle.chpw_printing.proofs.QuotingLemmas.{field_of}
 
