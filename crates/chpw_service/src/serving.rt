@@ -336,6 +336,7 @@ fn datagrams_of<'a, R: Net + AllocGlobal>(
     ensures none { options.now.udp ≡ false → result ≡ Ok None }
     ensures asked { options.now.udp ≡ true → IfOk result (λ socket. IsSome socket) }
     ensures realm { IfOk result (λ socket. IfSome socket (λ s. s.realm.items ≡ realm.now)) }
+    ensures port { IfOk result (λ socket. IfSome socket (λ s. s.port ≡ options.now.port)) }
     ensures fault { IfErr result IsLate }
 {
     if !options.udp {
@@ -359,6 +360,7 @@ fn in_sockets<'a>(
 ) -> Result<Option<DatagramSockets>, ServeFault<'a>>
     ensures asked { IfOk result (λ sockets. IsSome sockets) }
     ensures realm { IfOk result (λ sockets. IfSome sockets (λ s. s.realm ≡ realm)) }
+    ensures port { IfOk result (λ sockets. IfSome sockets (λ s. s.port ≡ port)) }
     ensures fault { IfErr result IsLate }
 {
     let mut sockets = Vec::new(alloc);
