@@ -4,7 +4,7 @@ use Rattle.clap.specs.Walk.{Rule, Text}
 use Rattle.clap.specs.Simple.{App, Shape, app_of, new_shape}
 use Rattle.clap.specs.declared.builder.command.Command.{Command}
 use Rattle.clap.specs.declared.builder.command.Command.TheViews.{out-Command}
-use Rattle.chpw_invocation.specs.Options.{required, optional, flag, required_word, optional_word, port, workers}
+use Rattle.chpw_invocation.specs.Options.{required, optional, repeated, flag, required_word, optional_word, port, workers}
 use Rattle.chpw_invocation.specs.Options.{connections, idle, clients, buffers, raise, kdc_wait, iterations, kvno}
 
 abbrev pub command : Text → List Rule → Shape
@@ -58,8 +58,8 @@ key = command (codes "key")
     ∷ kvno
     ∷ [])
 
--- serve --config FILE --journal FILE --seed FILE --port N --workers N --connections N [--idle SECONDS]
--- [--clients N] [--buffers MEBIBYTES] [--raise COUNT] [--log FILE] [--kdc SOCKET] [--kdc-wait MILLISECONDS]
+-- serve --config FILE --journal FILE --seed FILE --port N [--listen ADDRESS].. --workers N --connections N
+-- [--idle SECONDS] [--clients N] [--buffers MEBIBYTES] [--raise COUNT] [--log FILE] [--kdc SOCKET] [--kdc-wait MILLISECONDS]
 -- [--require-kdc] [--control SOCKET] [--udp] [--rfc3244-only] [--strict-messages] [--strict-modes]
 abbrev pub serve : Shape
 serve = command (codes "serve")
@@ -67,6 +67,7 @@ serve = command (codes "serve")
     ∷ required (codes "journal")
     ∷ required (codes "seed")
     ∷ port
+    ∷ repeated (codes "listen")
     ∷ workers
     ∷ connections
     ∷ idle
