@@ -1,5 +1,5 @@
 -- The addresses at which a service listens, as `--listen` has them.
-use Rattle.std.specs.Prelude.{◌≡◌, ◌<◌, ◌×◌, ◌⊎◌, ℕ, true, List, [], ◌∷◌, ◌++◌, length, take, codes, Some, unwrap_or}
+use Rattle.std.specs.Prelude.{◌≡◌, ◌<◌, ◌⊎◌, ℕ, true, List, [], ◌∷◌, ◌++◌, length, take, codes, Some, unwrap_or}
 use Rattle.std.specs.Net.Addr.{IsCanonicalOf, IsUnspecifiedV4, IsUnspecifiedV6, MatchIp}
 use Rattle.std.specs.Net.Grammar.{IsIpText}
 use Rattle.std.specs.declared.net.ip_addr.IpAddr.{IpAddr}
