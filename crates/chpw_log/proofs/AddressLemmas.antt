@@ -1,7 +1,7 @@
 -- The text of an IPv6 address can stand between two spaces.
 use Rattle.std.proofs.Common.{◌≡◌, ℕ, ◌<◌, List, [], ◌∷◌, ◌++◌, true, length, length-append}
 use Rattle.std.proofs.Common.{arith, codes, inl, inr}
-use Rattle.std.specs.Prelude.{◌×◌, ◌+◌, bytes_eq, nat_le, nat_lt, take, drop}
+use Rattle.std.specs.Prelude.{◌+◌, bytes_eq, nat_le, nat_lt, take, drop}
 use Rattle.krb_codec.proofs.CompleteLemmas.{same_or_not}
 use Rattle.std.specs.List.{flat_map}
 use Rattle.std.specs.Net.Addr.{octets_of}
@@ -49,7 +49,7 @@ some_compressed s rest run = elim (same_or_not (nat_lt 1 run.1)) [
 ]
 
 some_text : (segments : List ℕ) → 0 < length segments → 0 < length (ipv6_text segments)
-unfolding ipv6_text, hex_groups_text
+unfolding ipv6_text hex_groups_text
 some_text [] some = absurd (omega (arith, some))
 some_text (s ∷ rest) some = elim (same_or_not (bytes_eq (take 6 (s ∷ rest)) (0 ∷ 0 ∷ 0 ∷ 0 ∷ 0 ∷ 0xffff ∷ []))) [
   | inl mapped ↦

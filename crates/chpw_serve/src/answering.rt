@@ -94,7 +94,14 @@ pub fn answer_message<M: Messages, D: Decider, G: Gate + Observer>(
         password.as_slice(),
     )?;
     gate.at(Spot::Opened);
-    let verdict = decide_heard(decider, gate, ends.peer, drawn.now, ready, password.as_slice())?;
+    let verdict = decide_heard(
+        decider,
+        gate,
+        ends.peer,
+        drawn.now,
+        ready,
+        password.as_slice(),
+    )?;
     let bytes = match verdict {
         None => service.make_error(alloc, history_full(), drawn.now)?,
         Some(verdict) => reply(alloc, service, &seal, verdict, drawn)?,

@@ -62,12 +62,7 @@ pub trait Messages {
     fn realm(&self) -> &[u8];
 
     /// Opens a message that came between these two.
-    fn open(
-        &self,
-        alloc: Global,
-        ends: Endpoints,
-        message: &[u8],
-    ) -> Result<OpenResult, AllocError>
+    fn open(&self, alloc: Global, ends: Endpoints, message: &[u8]) -> Result<OpenResult, AllocError>
         ensures opening { IfOk result (λ found. (o : Opens) × opens self.now ends message.now o × IsOpenResult o found) }
         ensures times { IfOk result IsInTime };
 

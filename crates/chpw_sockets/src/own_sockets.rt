@@ -57,6 +57,7 @@ impl OwnSockets {
             };
             match own.socket.recv_from(buffer) {
                 Ok((length, from)) => return Ok((length, sender_of(own.local, from))),
+                Err(error) if error.kind() == ErrorKind::WouldBlock => {}
                 Err(error) => fault = error,
             }
         }

@@ -131,10 +131,7 @@ fn ipv6_address(alloc: Global, front: &[u8; 4]) -> Result<HostAddress, AllocErro
     let [a, b, c, d] = *front;
     Ok(HostAddress {
         addr_type: 24,
-        address: bytes(
-            alloc,
-            &[a, b, c, d, 0, 0, 0, 0, 0, 0, 0, 0, 0, 0, 0, 1],
-        )?,
+        address: bytes(alloc, &[a, b, c, d, 0, 0, 0, 0, 0, 0, 0, 0, 0, 0, 0, 1])?,
     })
 }
 

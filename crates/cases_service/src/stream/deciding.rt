@@ -108,7 +108,16 @@ fn show_answer(
 ) -> io::Result<()> {
     let now = now();
     let bytes = &message.bytes;
-    let reply = answer(alloc, service, Endpoints::LOOPBACK, bytes, decider, &mut NoGate, nine, now)?;
+    let reply = answer(
+        alloc,
+        service,
+        Endpoints::LOOPBACK,
+        bytes,
+        decider,
+        &mut NoGate,
+        nine,
+        now,
+    )?;
     show_reply(alloc, text, message, &reply)
 }
 
