@@ -1,7 +1,8 @@
 """The service beside MIT's kadmind and Heimdal's kpasswdd, on one machine and in turn (interop/three_servers.py).
 
-Each client changes the password of a user of its own again and again, in version 0x0001, over a new connection each time,
-or over UDP where the server has no TCP. The requests are made before the clock starts.
+Each client changes the passwords of many users in turn, as a realm does, in version 0x0001, over a new connection each time, or
+over UDP where the server has no TCP: a server that keeps each user's former keys would otherwise have few users with ever
+more of them. No two clients have a user in common. The requests are made before the clock starts.
 """
 
 import concurrent.futures
@@ -31,6 +32,7 @@ class Sizes:
 
     clients: tuple = (1, 2, 4, 8, 16)
     rounds: int = 3
+    users: int = 1_000
     # changes of all clients in a round, and of a cost
     changes: int = 512
     hostile: tuple = (0, 100, 500, 1_000, 2_000)
@@ -38,24 +40,24 @@ class Sizes:
     honest: int = 100
 
 
-QUICK = Sizes(clients=(1, 2), rounds=1, changes=8, hostile=(0, 20), honest=4)
+QUICK = Sizes(clients=(1, 2), rounds=1, users=8, changes=8, hostile=(0, 20), honest=4)
 
 
 class Client:
-    """Makes requests of a user that no server has seen."""
+    """Makes requests of its users in turn that no server has seen."""
 
     made = 0
 
-    def __init__(self, server, user):
+    def __init__(self, server, users):
         self.server = server
-        self.user = user.encode()
+        self.users = [it.encode() for it in users]
 
     def drafts(self, count):
         found = []
         for _ in range(count):
             Client.made += 1
             draft = crafting.Draft(
-                client=self.user, cusec=Client.made % 1_000_000, now=int(time.time()), service=three_servers.SERVICE_KEYS,
+                client=self.users[Client.made % len(self.users)], cusec=Client.made % 1_000_000, now=int(time.time()), service=three_servers.SERVICE_KEYS,
                 kvno=three_servers.KVNO, version=1, password=b"Bench-pass%d" % Client.made)
             found.append((draft, draft.message()))
         return found
@@ -79,12 +81,13 @@ def made(drafts, answers):
 
 
 def users_of(sizes):
-    return [f"client{number:02}" for number in range(max(sizes.clients))]
+    return [f"user{number:04}" for number in range(sizes.users)]
 
 
-def rate(server, users, count):
-    """Changes a second of that many in all."""
-    clients = [Client(server, user) for user in users]
+def rate(server, sizes, clients, count):
+    """Changes a second by so many clients, of that many changes in all."""
+    users = users_of(sizes)
+    clients = [Client(server, users[number::clients]) for number in range(clients)]
     asked = [client.drafts(max(1, count // len(clients))) for client in clients]
     with concurrent.futures.ThreadPoolExecutor(len(clients)) as pool:
         begun = time.monotonic()
@@ -103,7 +106,7 @@ def rates(servers, sizes, missing):
         for _ in range(sizes.rounds):
             for kind, server in servers.items():
                 what = f"{server.NAME}: changes a second by {clients} clients, of a round"
-                found = tried(missing, what, lambda: rate(server, users_of(sizes)[:clients], sizes.changes))
+                found = tried(missing, what, lambda: rate(server, sizes, clients, sizes.changes))
                 if found is not None:
                     best[kind][clients] = max(found, best[kind].get(clients, 0))
     return best
@@ -122,7 +125,7 @@ def processor(pid):
 def cost(server, sizes):
     """Milliseconds of a processor a change, by the program and by the system for it."""
     before = processor(pid_of(server))
-    rate(server, users_of(sizes)[:1], sizes.changes)
+    rate(server, sizes, 1, sizes.changes)
     return tuple(1000 * (now - then) / sizes.changes for now, then in zip(processor(pid_of(server)), before))
 
 
@@ -139,7 +142,7 @@ def calls(server, sizes):
             if "attached" not in said:
                 raise RuntimeError(f"strace says: {said.strip()}")
             time.sleep(0.5)
-            rate(server, users_of(sizes)[:1], sizes.changes)
+            rate(server, sizes, 1, sizes.changes)
         finally:
             tracer.send_signal(signal.SIGINT)
             tracer.communicate()
@@ -149,7 +152,7 @@ def calls(server, sizes):
 
 def waits(server, hostile, sizes):
     """Median and longest milliseconds of an honest client's changes, None if none was made, and how many weren't."""
-    client = Client(server, users_of(sizes)[0])
+    client = Client(server, users_of(sizes))
     drafts = client.drafts(sizes.honest)
     besiegers = Besiegers(server.tcp, [(Silent, hostile - hostile // 2, b""), (Slow, hostile // 2, b"")] if hostile else [])
     try:

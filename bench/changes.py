@@ -1,7 +1,7 @@
 """Changes a second in a realm of many principals, of whom the KDC has each new key at the end.
 
 MIT's kadmind, the service by itself and the service with a KDC take turns, so that all see the same
-machine. Each client changes the password of a user of its own again and again, over a new connection each
+machine. Each client changes the passwords of many users in turn, as a realm does, over a new connection each
 time, as the projects' clients do. Its requests are made before the clock starts, and its tickets are forged
 with the key of kadmin/changepw, so that the KDC has nothing to do with them. All ask in the earlier protocol,
 as MIT's kpasswd does.
@@ -43,6 +43,9 @@ class Target:
     made: collections.Counter = dataclasses.field(default_factory=collections.Counter)
     best: dict = dataclasses.field(default_factory=dict)
 
+    def __post_init__(self):
+        self.turn = itertools.cycle(self.users)
+
     def request(self, user):
         self.made[user] += 1
         number = self.made[user]
@@ -59,7 +62,7 @@ class Target:
     def round(self, clients):
         """Each of them makes its share of the changes."""
         asked = [
-            [self.request(user) for _ in range(CHANGES // clients)] for user in self.users[:clients]
+            [self.request(next(self.turn)) for _ in range(CHANGES // clients)] for _ in range(clients)
         ]
         with concurrent.futures.ThreadPoolExecutor(clients) as pool:
             begun = time.monotonic()
@@ -99,9 +102,8 @@ def by_itself(realm, program, text, users, stack):
 
 def measure(cases, versions, rounds=ROUNDS):
     """The targets, measured; the KDC has `versions` of the principals, and kadmind is MIT's alone."""
-    realm, most = cases.realm, max(CLIENTS)
-    names = sorted(versions)
-    groups = [names[i : i + most] for i in range(0, 3 * most, most)]
+    realm, names = cases.realm, sorted(versions)
+    groups = [names[i::3] for i in range(3)]
     text = configured(versions, 3)
     with contextlib.ExitStack() as stack:
         targets = [by_itself(realm, cases.program, text, groups[0], stack)]

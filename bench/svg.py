@@ -4,7 +4,7 @@ import html
 import math
 
 WIDTH, HEIGHT = 640, 360
-LEFT, RIGHT, TOP, BOTTOM = 70, 150, 40, 50
+LEFT, RIGHT, TOP, BOTTOM = 70, 150, 56, 50
 COLOURS = "#1b6ca8", "#d1495b", "#66a182", "#8d6a9f", "#edae49", "#444444"
 FONT = 'font-family="sans-serif" font-size="12"'
 
@@ -31,14 +31,15 @@ def line(x1, y1, x2, y2, colour="#ccc", width=1):
 
 
 class Picture:
-    """Axes with a title; y grows upwards from 0."""
+    """Axes with a title, and below it when and where it was measured; y grows upwards from 0."""
 
-    def __init__(self, title, x_title, y_title, most):
+    def __init__(self, title, note, x_title, y_title, most):
         self.steps = steps_of(most)
         self.parts = [
             f'<svg xmlns="http://www.w3.org/2000/svg" width="{WIDTH}" height="{HEIGHT}" viewBox="0 0 {WIDTH} {HEIGHT}">',
             f'<rect width="{WIDTH}" height="{HEIGHT}" fill="white"/>',
             text(LEFT, 22, title, "start", ' font-weight="bold"'),
+            text(LEFT, 40, note, "start", ' fill="#666"'),
             text((LEFT + WIDTH - RIGHT) / 2, HEIGHT - 10, x_title),
             text(14, (TOP + HEIGHT - BOTTOM) / 2, y_title,
                  more=f' transform="rotate(-90 14 {(TOP + HEIGHT - BOTTOM) / 2:.1f})"'),
@@ -60,13 +61,13 @@ class Picture:
         return "\n".join([*self.parts, "</svg>", ""])
 
 
-def lines(title, x_title, y_title, series):
+def lines(title, note, x_title, y_title, series):
     """Of each name its points (x, y); the x that occur stand at even distances. Without a point there is no picture."""
     series = {name: points for name, points in series.items() if points}
     if not series:
         return None
     places = sorted({x for points in series.values() for x, _ in points})
-    picture = Picture(title, x_title, y_title, max(y for points in series.values() for _, y in points))
+    picture = Picture(title, note, x_title, y_title, max(y for points in series.values() for _, y in points))
     room = WIDTH - LEFT - RIGHT
 
     def at(x):
@@ -83,13 +84,13 @@ def lines(title, x_title, y_title, series):
     return picture.done()
 
 
-def bars(title, y_title, groups):
+def bars(title, note, y_title, groups):
     """Of each group its values by name."""
     groups = {group: values for group, values in groups.items() if values}
     if not groups:
         return None
     names = list(dict.fromkeys(name for values in groups.values() for name in values))
-    picture = Picture(title, "", y_title, max(it for values in groups.values() for it in values.values()))
+    picture = Picture(title, note, "", y_title, max(it for values in groups.values() for it in values.values()))
     room = (WIDTH - LEFT - RIGHT) / len(groups)
     for place, (group, values) in enumerate(groups.items()):
         left = LEFT + room * place

@@ -285,7 +285,7 @@ def keys_behind_a_head(program):
     stanzas = program.ended("import", "--keytab", "keytab", "--realm", "EXAMPLE.COM", "--iterations", "8192")
     program.report.tell("import: the service and a user", stanzas[1:], ("", 0))
     (program.folder / "joined").write_text(HEAD.read_text() + stanzas[0] + "\n")
-    program.tell("import: behind a head", ("ok: principals 1, rules 1, service keys 2", "", 0), "check", "--config", "joined")
+    program.tell("import: behind a head", ("ok: principals 1, rules 0, service keys 2", "", 0), "check", "--config", "joined")
     (program.folder / "journal").write_bytes(b"")
     lines = "alice kvno 3 counts 8192 8192\nprincipals 1 changes 0"
     program.tell("import: the keys behind a head", (lines, "", 0), "table", "--config", "joined", "--journal", "journal")

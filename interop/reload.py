@@ -30,6 +30,7 @@ from report import Report
 from server import Server
 
 HEAD = TOP / "samples/head.toml"
+RULE = '[[rule]]\nactor = "admin"\ntarget = "*"\n'
 ROTATION = TOP / "packaging/boddrelyn.logrotate"
 OLD = "Old-pass1"
 DONE = "Password changed."
@@ -127,7 +128,7 @@ class Service:
         """Another file takes the place of the configuration, once it is whole and good."""
         new = self.folder / "new.toml"
         new.touch(mode=0o600)
-        new.write_text(HEAD.read_text() + self.keys + self.principals)
+        new.write_text(HEAD.read_text() + RULE + self.keys + self.principals)
         said = self.printed("check", "--config", new)
         os.replace(new, self.server.configuration)
         return said.strip()

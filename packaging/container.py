@@ -24,7 +24,8 @@ TimeoutStartSec=300
 [Install]
 WantedBy=multi-user.target
 """
-SCRIPT = r"""
+# what the scripts in it call
+HELPERS = r"""
 export LC_ALL=C.UTF-8 HOME=/root DEBIAN_FRONTEND=noninteractive
 cd /root
 S=boddrelyn F=boddrelyn-agent-mit J=/var/lib/boddrelyn/journal
@@ -43,7 +44,8 @@ wait_for() { for _ in $(seq 100); do "$@" > /dev/null 2>&1 && return 0; sleep 0.
 files() { find /etc/boddrelyn /var/lib/boddrelyn /var/log/boddrelyn /run/boddrelyn /run/boddrelyn-agent -printf '%M %u:%g %p\n' | sort > /opt/try/found; diff /opt/try/files /opt/try/found; }
 none() { ! "$@"; }
 status() { chpw_server control --socket /run/boddrelyn/control status | grep -x "$1"; }
-
+"""
+SCRIPT = HELPERS + r"""
 check "install" dpkg -i /opt/try/0/*.deb
 check "the units are without a fault" sh -c "systemd-analyze verify --man=no $S.service $F.service 2>&1 | tee /dev/stderr | grep -c boddrelyn | grep -qx 0"
 for it in $S $F; do
@@ -111,30 +113,35 @@ def run(cache, put, files, report, keep):
         put(where, mit)
         realm = mit.Realm(where)
         realm.write()
-        for name in ("usr/local/bin/systemctl", "etc/machine-id"):
-            where.path(name).unlink(missing_ok=True)
-        where.path("/etc/machine-id").write_text("")
-        where.path("/opt/try/inside").write_text(SCRIPT)
         where.path("/opt/try/first").write_text("cd /root\n" + steps.block("First start"))
         where.path("/opt/try/gives-up").write_text(mit.GIVES_UP)
         where.path("/opt/try/files").write_text("".join(f"{it}\n" for it in files))
-        where.path("/etc/systemd/system/try.service").write_text(UNIT)
-        where.must("/usr/bin/systemctl", "enable", "try.service", SYSTEMD_OFFLINE="1")
-        where.leave()
-        boot(where)
-        output = where.path("/opt/try/output")
-        text = output.read_text(errors="replace") if output.is_file() else ""
-        for line in text.splitlines():
-            if line.startswith("ok: "):
-                report.tell(line[4:], True)
-            elif line.startswith("FAILED: "):
-                report.tell(line[8:], False)
-            elif not line.startswith("systemd: the end"):
-                print(line)
-        report.tell("systemd: the container ran to its end", "systemd: the end" in text)
+        boot(where, SCRIPT, report)
 
 
-def boot(where):
+def boot(where, script, report):
+    """Boots the root with systemd as its first process, which runs the script, and takes the lines of its checks."""
+    for name in ("usr/local/bin/systemctl", "etc/machine-id"):
+        where.path(name).unlink(missing_ok=True)
+    where.path("/etc/machine-id").write_text("")
+    where.path("/opt/try/inside").write_text(script)
+    where.path("/etc/systemd/system/try.service").write_text(UNIT)
+    where.must("/usr/bin/systemctl", "enable", "try.service", SYSTEMD_OFFLINE="1")
+    where.leave()
+    run_to_its_end(where)
+    output = where.path("/opt/try/output")
+    text = output.read_text(errors="replace") if output.is_file() else ""
+    for line in text.splitlines():
+        if line.startswith("ok: "):
+            report.tell(line[4:], True)
+        elif line.startswith("FAILED: "):
+            report.tell(line[8:], False)
+        elif not line.startswith("systemd: the end"):
+            print(line)
+    report.tell("systemd: the container ran to its end", "systemd: the end" in text)
+
+
+def run_to_its_end(where):
     words = ["--quiet", "--register=no", "--keep-unit", "--private-network", "--boot", "--directory", where.folder]
     with where.path("/opt/try/boot").open("w") as out:
         process = subprocess.Popen(["systemd-nspawn", *words], stdin=subprocess.DEVNULL, stdout=out, stderr=out,

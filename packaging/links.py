@@ -25,6 +25,8 @@ SECRET = "known to root alone"
 KINDS = {"a file": "file", "a folder": "folder", "nothing": "folder/nothing"}
 # names that the programs make by themselves, beside those of the commands
 NAMES = {"journal", "journal.new", "log", "log.1", "control", "realm.toml", "new.toml"}
+# what the commands leave elsewhere
+LEFT = "/usr/local/sbin/boddrelyn-check /var/backups/boddrelyn"
 SECONDS = 20
 INFO = "/var/lib/dpkg/info/boddrelyn"
 SCRIPTS = (
@@ -43,7 +45,7 @@ BAD = (
 
 
 # how a block of commands stands in each document, and what is before each of its lines
-FENCED = re.compile(r"^```sh\n(.*?)^```$", re.MULTILINE | re.DOTALL)
+FENCED = re.compile(r"^```sh(?: task)?\n(.*?)^```$", re.MULTILINE | re.DOTALL)
 IN_A_LINE = re.compile(r"`([^`\n]* [^`\n]*(?:%s)/[^`\n]*)`" % "|".join(FOLDERS))
 INDENTED = re.compile(r"((?:^    .*\n(?:^\n(?=    ))?)+)", re.MULTILINE)
 OF_A_PAGE = re.compile(r"^\.Bd -literal.*?\n(.*?)^\.Ed", re.MULTILINE | re.DOTALL)
@@ -69,7 +71,7 @@ class Links:
         self.must(f"""
             tar -C / -cf {SAVED} {' '.join(it[1:] for it in PLACES)}
             mkdir -p {STUBS}
-            for it in apt systemctl; do printf '#!/bin/sh\\n' > {STUBS}/$it; chmod 755 {STUBS}/$it; done""")
+            for it in apt apt-get systemctl; do printf '#!/bin/sh\\n' > {STUBS}/$it; chmod 755 {STUBS}/$it; done""")
         printed = list(blocks())
         self.tell("links: blocks of ADMIN, README.Debian and the manual pages", len({it[0] for it in printed}) >= 3)
         for document, number, text in [*printed, *(("a script", 1, it) for it in SCRIPTS)]:
@@ -78,7 +80,7 @@ class Links:
             self.tell(f"links: {document}:{number}: {first[:80]}", found, [])
         for text in BAD:
             self.tell(f"links: it would be found: {text}", any(self.changed(kind, text) for kind in KINDS))
-        self.must(f"rm -rf {' '.join(PLACES)} {OUTSIDE} {WORK} {STUBS}; tar -C / -xpf {SAVED}; rm {SAVED}")
+        self.must(f"rm -rf {LEFT} {' '.join(PLACES)} {OUTSIDE} {WORK} {STUBS}; tar -C / -xpf {SAVED}; rm {SAVED}")
 
     def must(self, script):
         return self.root.must("sh", "-eu", "-c", script)

@@ -8,6 +8,7 @@ import pathlib
 import re
 import subprocess
 
+import gate_record
 import pages
 import version
 
@@ -25,15 +26,37 @@ FILES = {
     "samples/head.toml": "usr/share/doc/boddrelyn/examples/head.toml",
 }
 DOCUMENTS = ("ADMIN.md", "PROTOCOL.md", "SECURITY.md")
+# of the description
+PROVED = """\
+ The program is proved against its specification with the Rattle toolchain,
+ of which nothing is needed here. An agent, in a package of its own, reads and
+ writes keys in the database of a KDC for it."""
+UNPROVED = """\
+ FOR TESTS ALONE: THE PROGRAM OF THIS PACKAGE WASN'T PROVED. An agent, in a
+ package of its own, reads and writes keys in the database of a KDC for it."""
+
+
+def built(proof, program):
+    """What BUILD says: of which sources the packages are, and what was proved."""
+    lines = {"Program with its symbols, SHA-256": gate_record.sum_of(program)}
+    if proof:
+        lines |= {"Source commit": proof["commit"], "Toolchain": proof["toolchain"], "Last line of the gate's proofs": proof["gate"]}
+    else:
+        changed = " and changes that no commit has" if gate_record.said("git", "status", "--porcelain") else ""
+        lines |= {"Source commit": gate_record.commit() + changed, "Proof": "none. This package is for tests"}
+    return "".join(f"{name}: {value}\n" for name, value in lines.items())
 
 
 class Package:
-    def __init__(self, name, number, folder):
+    def __init__(self, name, number, folder, proof, program):
+        """`proof` is the gate's record of the service's program, or None if it isn't proved."""
+        number = number if proof else f"{number}~unproved"
         self.name, self.version, self.folder = name, number, folder
+        self.build_text = built(proof, program)
         self.kind = name.removeprefix("boddrelyn-agent-") if name != "boddrelyn" else None
         self.arch = subprocess.run(["dpkg", "--print-architecture"], capture_output=True, text=True, check=True).stdout.strip()
         self.words = {"VERSION": number, "ARCH": self.arch, "MAINTAINER": MAINTAINER, "PACKAGE": name,
-                      "DATE": email.utils.formatdate(version.moment(), usegmt=False).replace("-0000", "+0000")}
+                      "PROOF": PROVED if proof else UNPROVED, "DATE": email.utils.formatdate(version.moment(), usegmt=False).replace("-0000", "+0000")}
         (folder / "DEBIAN").mkdir(parents=True)
 
     def put(self, place, data, mode=0o644):
@@ -76,6 +99,8 @@ class Package:
         self.put(f"{place}/copyright", self.text("copyright").encode())
         self.put_packed(f"{place}/changelog.Debian", self.text("changelog").encode())
         self.put_packed(f"{place}/changelog", (TOP / "CHANGELOG.md").read_bytes())
+        text = f"{self.build_text}/{self.program.relative_to(self.folder)}, SHA-256: {gate_record.sum_of(self.program)}\n"
+        self.put(f"{place}/BUILD", text.encode())
         if not self.kind:
             self.put(f"{place}/README.Debian", self.text("boddrelyn.README.Debian").encode())
             for name in DOCUMENTS:

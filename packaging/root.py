@@ -19,6 +19,9 @@ COMMON = ["systemd", "logrotate", "procps"]
 KINDS = {
     "mit": [*COMMON, "krb5-kdc", "krb5-admin-server", "krb5-user"],
     "heimdal": [*COMMON, "heimdal-kdc", "heimdal-clients"],
+    # of interop/peers
+    "peers": [*COMMON, "krb5-kdc", "krb5-admin-server", "krb5-user", "krb5-k5tls", "openssl", "python3-samba", "python3-cryptography",
+              "python3-pyasn1", "python3-kerberos", "python3-kdcproxy", "tshark"],
 }
 SOCKET = "run/systemctl.socket"
 SYSTEMCTL = f"""\

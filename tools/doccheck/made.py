@@ -4,7 +4,7 @@ import subprocess
 
 from .tree import TOP
 
-SCRIPTS = ("promises", "quotes", "picture")
+SCRIPTS = ("promises", "quotes", "picture", "way")
 
 
 def check(_tree, faults):
