@@ -47,7 +47,10 @@ pub fn refuse_exposed<'a, R: Files + AllocGlobal>(
 }
 
 /// Refuses a start without a journal, where one must exist: before the log is made.
-pub fn refuse_missing<'a, R: Files>(rt: &R, options: &ServeOptions<'a>) -> Result<(), ServeFault<'a>>
+pub fn refuse_missing<'a, R: Files>(
+    rt: &R,
+    options: &ServeOptions<'a>,
+) -> Result<(), ServeFault<'a>>
     ensures asked { OnErr result (options.now.existing_journal ≡ true) }
     ensures fault { IfErr result (IsUnread options.now.journal.now) }
 {
