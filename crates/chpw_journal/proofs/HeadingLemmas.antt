@@ -1,10 +1,10 @@
 -- What a journal begins with, and what is restored from behind that.
 use Rattle.std.proofs.Common.{◌≡◌, ◌≢◌, ℕ, ◌+◌, ◌-◌, ◌<◌, ◌≤◌, List, [], ◌∷◌, ◌++◌, length, take, true, false, inl, inr, Option, None, Some, IfSome, refl}
-use Rattle.std.proofs.Common.{sym, ◌∙◌, ap, subst, arith, length-append}
+use Rattle.std.proofs.Common.{sym, ◌∙◌, ap, subst, arith, length-append, append-nil}
 use Rattle.std.specs.Int.{from_be_bytes, to_be_bytes, w16}
-use Rattle.std.specs.Io.KnownBytes.{Consumes}
+use Rattle.std.specs.Io.KnownBytes.{Consumes, IsAtEnd}
 use Rattle.std.proofs.lemmas.List.{take-append-le}
-use Rattle.core.specs.Fmt.{option_append}
+use Rattle.std.specs.Fmt.{option_append}
 use Rattle.chpw_rules.specs.Limits.{is_in, realm_lengths}
 use Rattle.chpw_record.specs.Records.{stated_length}
 use Rattle.chpw_table.specs.Agreement.{Held}
@@ -12,15 +12,15 @@ use Rattle.chpw_journal.specs.declared.fault.RestoreFault.{RestoreFault}
 use Rattle.chpw_journal.specs.declared.fault.RestoreFault.TheVariants as fault
 use Rattle.chpw_journal.specs.declared.restoring.Restored.{Restored}
 use Rattle.chpw_journal.specs.Restoring.{IsRestored, IsRefused}
-use Rattle.chpw_journal.specs.Headings.{begins_as_heading, heading, realm_record, IsPartOfHeading, IsWholeRestored, IsWholeRefused}
+use Rattle.chpw_journal.specs.Headings.{begins_as_heading, realm_record, IsPartOfHeading, IsWholeRestored, IsWholeRefused}
 
 -- ---- its first three bytes
 
 -- three bytes tell
 pub begins_stays : (head rest : List ℕ) → 3 ≤ length head → begins_as_heading (head ++ rest) ≡ begins_as_heading head
-begins_stays [] rest h = absurd h
-begins_stays (a ∷ []) rest h = absurd h
-begins_stays (a ∷ b ∷ []) rest h = absurd h
+begins_stays [] rest h = absurd (omega (arith, h))
+begins_stays (a ∷ []) rest h = absurd (omega (arith, h))
+begins_stays (a ∷ b ∷ []) rest h = absurd (omega (arith, h))
 begins_stays (a ∷ b ∷ k ∷ more) rest h = refl
 
 -- and with fewer there is none
@@ -29,6 +29,15 @@ too_short [] h = refl
 too_short (a ∷ []) h = refl
 too_short (a ∷ b ∷ []) h = refl
 too_short (a ∷ b ∷ k ∷ more) h = absurd (omega (arith, h))
+
+-- nor does all that a reader has, where that is fewer
+pub short_unheaded : (old new : Option (List ℕ)) (read : List ℕ) → Consumes old new read → IsAtEnd new → length read < 3
+    → IfSome old (λ text. false ≡ begins_as_heading text)
+short_unheaded None new read d e h = tt
+short_unheaded (Some xs) None read d e h = absurd d
+short_unheaded (Some xs) (Some ys) read d e h =
+    let same : xs ≡ read = d ∙ (ap (λ (zs : List ℕ). read ++ zs) e ∙ append-nil read) in
+    sym (ap begins_as_heading same ∙ too_short read h)
 
 pub part_of_heading : (head rest : List ℕ) (n : ℕ) → length head ≡ 3 → begins_as_heading head ≡ true → n ≡ stated_length head
     → length rest < n - 1 → IsPartOfHeading (head ++ rest)
@@ -40,22 +49,6 @@ part_of_heading head rest n three begins stated few =
 -- ---- without a realm's record
 
 -- what was read of bytes that aren't known
-forget : (before : Held) (given left : Option (List ℕ)) (r : Restored) → IsRestored before given left r → IsRestored before None left r
-forget before given left r h = record {
-  whole_records = h.whole_records;
-  rest = h.rest;
-  read = tt;
-  end = h.end;
-  reading = h.reading;
-  table = h.table;
-  events = h.events;
-  seen = h.seen;
-  max_entries = h.max_entries;
-  records = h.records;
-  kept = h.kept;
-  torn = h.torn;
-}
-
 forget_fault : (before : Held) (given left : Option (List ℕ)) (f : RestoreFault) → IsRefused before given left f → IsRefused before None left f
 forget_fault before given left (fault.BadRecord n) h = (h.0, tt, h.2)
 forget_fault before given left (fault.WrongVersion n) h = (h.0, tt, h.2)
@@ -65,35 +58,12 @@ forget_fault before given left fault.OtherRealm h = absurd h
 forget_fault before given left fault.CannotRead h = (h.0, h.1, tt, h.3)
 forget_fault before given left fault.Memory h = tt
 
-pub unnamed_restored : (before : Held) (old mid left : Option (List ℕ)) (head : List ℕ) (r : Restored) → Consumes old mid head
-    → IfSome old (λ text. begins_as_heading text ≡ false) → IsRestored before (option_append (Some head) mid) left r → IsWholeRestored before old r
-unnamed_restored before None mid left head r d none h = record {
-  is_named = false;
-  behind = None;
-  left = left;
-  headed = (refl, tt);
-  records = r;
-  read = forget before (option_append (Some head) mid) left r h;
-  whole = refl;
-}
-unnamed_restored before (Some xs) None left head r d none h = absurd d
-unnamed_restored before (Some xs) (Some ys) left head r d none h = record {
-  is_named = false;
-  behind = Some xs;
-  left = left;
-  headed = (refl, none);
-  records = r;
-  read = subst (λ (zs : List ℕ). IsRestored before (Some zs) left r) (sym d) h;
-  whole = refl;
-}
-
-pub unnamed_refused : (before : Held) (old mid left : Option (List ℕ)) (head : List ℕ) (f : RestoreFault) → Consumes old mid head
-    → IfSome old (λ text. begins_as_heading text ≡ false) → IsRefused before (option_append (Some head) mid) left f → IsWholeRefused before old f
-unnamed_refused before None mid left head f d none h =
-    inr (false, None, left, (refl, tt), forget_fault before (option_append (Some head) mid) left f h)
-unnamed_refused before (Some xs) None left head f d none h = absurd d
-unnamed_refused before (Some xs) (Some ys) left head f d none h =
-    inr (false, Some xs, left, (refl, none), subst (λ (zs : List ℕ). IsRefused before (Some zs) left f) (sym d) h)
+pub unnamed_refused : (before : Held) (old mid given left : Option (List ℕ)) (head : List ℕ) (f : RestoreFault) → given ≡ option_append (Some head) mid
+    → Consumes old mid head → IfSome old (λ text. begins_as_heading text ≡ false) → IsRefused before given left f → IsWholeRefused before old f
+unnamed_refused before None mid given left head f e d none h = inr (false, None, left, (refl, tt), forget_fault before given left f h)
+unnamed_refused before (Some xs) None given left head f e d none h = absurd d
+unnamed_refused before (Some xs) (Some ys) given left head f e d none h =
+    inr (false, Some xs, left, (refl, none), subst (λ (o : Option (List ℕ)). IsRefused before o left f) (e ∙ ap Some (sym d)) h)
 
 -- ---- behind the record of the realm
 

@@ -10,7 +10,8 @@ use Rattle.chpw_journal.proofs.heading.read_realm.Goals as goal
 pub returns-in-Short : goal.returns-in-Short
 returns-in-Short g c =
     let head = c.args.head.items in
-    let begins : begins_as_heading head ≡ true = ap begins_as_heading (sym c.deref.ensures.value) ∙ (sym c.begins_as_heading.ensures.value ∙ c.if-not-begins_as_heading.false) in
+    let begins : begins_as_heading head ≡ true = ap begins_as_heading (sym c.deref.ensures.value)
+    ∙ (sym c.begins_as_heading.ensures.value ∙ c.if-not-begins_as_heading.false) in
     let stated : c.length_in-length.result ≡ stated_length head = search rules in
     let l : length c.fill_vec.new.buffer.items ≡ c.length_in-length.result - 1 = grind (arith, common_steps) in
     let e = c.in-Short.ensures.bytes in
@@ -28,7 +29,8 @@ returns-in-Short g c =
 pub returns : goal.returns
 returns g c =
     let head = c.args.head.items in
-    let begins : begins_as_heading head ≡ true = ap begins_as_heading (sym c.deref.ensures.value) ∙ (sym c.begins_as_heading.ensures.value ∙ c.if-not-begins_as_heading.false) in
+    let begins : begins_as_heading head ≡ true = ap begins_as_heading (sym c.deref.ensures.value)
+    ∙ (sym c.begins_as_heading.ensures.value ∙ c.if-not-begins_as_heading.false) in
     let stated : c.length_in-length.result ≡ stated_length head = search rules in
     let l : length c.fill_vec.new.buffer.items ≡ c.length_in-length.result - 1 = grind (arith, common_steps) in
     let e = c.in-Fault.ensures.bytes in
