@@ -129,6 +129,7 @@ fn heading_of<'a, R: Files<File = File> + AllocGlobal>(
 }
 
 // The record of the realm that this text of a configuration sets, if it is wanted.
+#[tactic(auto, using(chpw_start::proofs::FittingLemmas::realm_fits))]
 fn heading_in<'a>(alloc: Global, in_force: &[u8], is_named: bool) -> Result<Vec<u8>, ServeFault<'a>>
     ensures heading { IfOk result (λ text. (config : Settings) × Sets in_force.now (Ok config)
         × (text.items ≡ heading is_named config.realm)) }

@@ -53,6 +53,7 @@ pub fn make_journal<'a, R: Files<File = File> + AllocGlobal>(
 }
 
 /// Makes it as `make_journal` does, at a place that stands for the journal's path.
+#[tactic(auto, using(crate::proofs::FittingLemmas::realm_fits))]
 pub fn make_journal_at<'a, R: Files<File = File> + AllocGlobal, P: JournalMaker>(
     rt: &R,
     options: NewJournalOptions<'a>,
