@@ -1,17 +1,12 @@
 -- A journal's heading is no record of a history, and what is behind it may be opened with.
-use Rattle.std.proofs.Common.{◌≡◌, ◌≢◌, ℕ, ◌+◌, ◌^◌, ◌<◌, ◌≤◌, List, [], ◌∷◌, ◌++◌, length, drop, Bool, true, false, ◌&&◌, inl, inr, Option, None, Some, refl}
+use Rattle.std.proofs.Common.{◌≡◌, ◌≢◌, ℕ, ◌+◌, ◌≤◌, List, [], ◌∷◌, ◌++◌, length, drop, Bool, true, false, ◌&&◌, inl, inr, Option, None, Some, refl}
 use Rattle.std.proofs.Common.{sym, ◌∙◌, ap, subst, arith, length-append, append_assoc, true≢false, ◌⊎◌}
-use Rattle.std.specs.Int.{from_be_bytes, to_be_bytes, w16}
+use Rattle.std.specs.Int.{to_be_bytes, w16}
 use Rattle.std.specs.Prelude.{nat_lt}
-use Rattle.std.specs.Io.KnownBytes.{Consumes}
-use Rattle.std.proofs.lemmas.Bool.{and_parts}
 use Rattle.std.proofs.lemmas.Bool.Decides.{nat_tests}
 use Rattle.std.proofs.lemmas.Nat.{from_be_bytes-to_be_bytes_2}
 use Rattle.std.proofs.Math.Seq.{drop-append_seam}
-use Rattle.chpw_table.proofs.BoolLemmas.{both}
 use Rattle.chpw_rules.specs.Limits.{is_in, realm_lengths}
-use Rattle.chpw_table.specs.State.{State}
-use Rattle.chpw_table.specs.Agreement.{Held}
 use Rattle.chpw_record.specs.declared.record.KeyKind.TheVariants as kind
 use Rattle.chpw_record.specs.declared.record.Record.{Record}
 use Rattle.chpw_record.specs.declared.record.Record.TheVariants as record_of
@@ -20,8 +15,8 @@ use Rattle.chpw_journal.specs.declared.restoring.Restored.{Restored}
 use Rattle.chpw_journal.specs.JournalText.{is_cut_off, HasBadLength, HasBadBody}
 use Rattle.chpw_journal.specs.Restoring.{IsRestored}
 use Rattle.chpw_journal.specs.Runs.{Run, journals, records_in}
-use Rattle.chpw_journal.specs.Joined.{IsAlike, FollowOn, MayOpen}
-use Rattle.chpw_journal.specs.Headings.{begins_as_heading, heading, heading_lengths, realm_record, IsBehind, IsWholeRestored}
+use Rattle.chpw_journal.specs.Joined.{MayOpen}
+use Rattle.chpw_journal.specs.Headings.{begins_as_heading, heading, heading_lengths, realm_record, IsBehind}
 use Rattle.chpw_journal.specs.HeadingLaws.{HeadingsAreApart, HeadingsAreNoRecords, WholeMayOpen}
 use Rattle.chpw_journal.proofs.JoinedLemmas.{read_may_open}
 use Rattle.chpw_journal.proofs.RunLemmas.{records_are_journals}

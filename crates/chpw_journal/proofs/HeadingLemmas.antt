@@ -1,11 +1,10 @@
 -- What a journal begins with, and what is restored from behind that.
-use Rattle.std.proofs.Common.{◌≡◌, ◌≢◌, ℕ, ◌+◌, ◌-◌, ◌<◌, ◌≤◌, List, [], ◌∷◌, ◌++◌, length, take, true, false, inl, inr, Option, None, Some, IfSome, refl}
+use Rattle.std.proofs.Common.{◌≡◌, ℕ, ◌+◌, ◌-◌, ◌<◌, ◌≤◌, List, [], ◌∷◌, ◌++◌, length, true, false, inr, Option, None, Some, IfSome, refl}
 use Rattle.std.proofs.Common.{sym, ◌∙◌, ap, subst, arith, length-append, append-nil}
 use Rattle.std.specs.Int.{from_be_bytes, to_be_bytes, w16}
 use Rattle.std.specs.Io.KnownBytes.{Consumes, IsAtEnd}
 use Rattle.std.proofs.lemmas.List.{take-append-le}
 use Rattle.std.specs.Fmt.{option_append}
-use Rattle.chpw_rules.specs.Limits.{is_in, realm_lengths}
 use Rattle.chpw_record.specs.Records.{stated_length}
 use Rattle.chpw_table.specs.Agreement.{Held}
 use Rattle.chpw_journal.specs.declared.fault.RestoreFault.{RestoreFault}

@@ -7,7 +7,7 @@ use Rattle.chpw_rules.specs.Limits.{range, is_in, realm_lengths}
 use Rattle.chpw_table.specs.Agreement.{Held}
 use Rattle.chpw_record.specs.Records.{framed, stated_length}
 use Rattle.chpw_journal.specs.declared.fault.RestoreFault.{RestoreFault}
-use Rattle.chpw_journal.specs.declared.fault.RestoreFault.TheVariants.{BadRecord, WrongVersion, UnknownPrincipal, TooMany, OtherRealm, CannotRead, Memory}
+use Rattle.chpw_journal.specs.declared.fault.RestoreFault.TheVariants.{BadRecord, OtherRealm, CannotRead, Memory}
 use Rattle.chpw_journal.specs.declared.restoring.Restored.{Restored}
 use Rattle.chpw_journal.specs.Restoring.{IsRestored, IsRefused}
 
