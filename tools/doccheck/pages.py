@@ -52,7 +52,7 @@ def of_source():
     line = re.compile(rf'\b({"|".join(kinds)})\(\s*"([\w-]+)",\s*([^()]*?),?\s*\)')
     commands = {}
     for body in re.split(r"\nfn ", source)[1:]:
-        found = re.search(r'X, body)
+        found = re.search(r'command_with\(\s*alloc,\s*"([\w-]+)"', body)
         if found:
             options = {}
             for kind, name, words in line.findall(body):
