@@ -139,6 +139,19 @@ const STRICT_MESSAGES_HELP: &str =
 
 const STRICT_MODES_HELP: &str = "Don't start if other users may read, write or replace its files";
 
+const EXISTING_JOURNAL_HELP: &str = "Don't start if there is no journal: make one with new-journal";
+
+const NEW_JOURNAL: &str = "Make an empty journal for a realm.";
+
+const NEW_JOURNAL_MORE: &str = "\
+The journal begins with a record of the configuration's realm, and is refused from then on with a
+configuration of another realm. It is readable and writable by its owner alone. Nothing is overwritten.
+
+Example:
+  chpw_server new-journal --config samples/realm.toml --journal realm.journal";
+
+const NEW_JOURNAL_HELP: &str = "The journal to make, where there is no file yet";
+
 const IMPORT: &str = "Convert a keytab's keys, or a KDC's, to a configuration.";
 
 const IMPORT_MORE: &str = "\
@@ -317,6 +330,23 @@ fn key<'a>(alloc: Global) -> Result<Command<'a>, AllocError>
     command_with(alloc, "key", KEY, KEY_MORE, &options)
 }
 
+fn new_journal<'a>(alloc: Global) -> Result<Command<'a>, AllocError>
+    ensures shape { IfOk result (λ c. app_of c ≡ specs_of.alone specs_of.new_journal) }
+    ensures local { IfOk result specs_of.IsLocal }
+{
+    let options = [
+        required_option("config", "FILE", CONFIG_HELP),
+        required_option("journal", "FILE", NEW_JOURNAL_HELP),
+    ];
+    command_with(
+        alloc,
+        "new-journal",
+        NEW_JOURNAL,
+        NEW_JOURNAL_MORE,
+        &options,
+    )
+}
+
 fn serve<'a>(alloc: Global) -> Result<Command<'a>, AllocError>
     ensures shape { IfOk result (λ c. app_of c ≡ specs_of.alone specs_of.serve) }
     ensures local { IfOk result specs_of.IsLocal }
@@ -341,6 +371,7 @@ fn serve<'a>(alloc: Global) -> Result<Command<'a>, AllocError>
         flag("rfc3244-only", RFC3244_ONLY_HELP),
         flag("strict-messages", STRICT_MESSAGES_HELP),
         flag("strict-modes", STRICT_MODES_HELP),
+        flag("existing-journal", EXISTING_JOURNAL_HELP),
     ];
     command_with(alloc, "serve", SERVE, SERVE_MORE, &options)
 }
@@ -410,6 +441,7 @@ pub(crate) fn program<'a>(alloc: Global) -> Result<Command<'a>, AllocError>
     let program = with_command(program, table(alloc));
     let program = with_command(program, import(alloc));
     let program = with_command(program, key(alloc));
+    let program = with_command(program, new_journal(alloc));
     let program = with_command(program, serve(alloc));
     let program = with_command(program, control(alloc));
     with_command(program, client(alloc))

@@ -1,8 +1,9 @@
 -- What a service reads of its files while it runs: for a reload, and for a compact journal.
-use Rattle.std.specs.Prelude.{◌≡◌, ◌≢◌, ◌⊎◌, ℕ, List, Option, Ok, Err}
+use Rattle.std.specs.Prelude.{◌≡◌, ◌≢◌, ◌⊎◌, ℕ, List, Bool, Option, Ok, Err}
 use Rattle.chpw_rules.specs.declared.config.Config.{Config}
 use Rattle.chpw_config.specs.declared.fault.ConfigFault.{ConfigFault}
 use Rattle.chpw_table.specs.Agreement.{Agrees, Held}
+use Rattle.chpw_journal.specs.Headings.{heading}
 use Rattle.chpw_report.specs.Held.{opening}
 use Rattle.chpw_reload.specs.Reloading.{IsPrepared, IsUnprepared}
 use Rattle.chpw_invocation.specs.declared.invocation.ServeOptions.{ServeOptions}
@@ -53,6 +54,10 @@ pub record IsBase (bytes : List ℕ) (base : Held) : Type 0 where
   pub config : Config
   pub sets : Sets bytes (Ok config)
   pub opens : Agrees base.state (opening config)
+
+-- the record of the realm that the configuration of these bytes sets, or nothing
+abbrev pub IsHeadingIn : List ℕ → List ℕ → Type 0
+IsHeadingIn bytes text = (config : Config) × (is_named : Bool) × Sets bytes (Ok config) × (text ≡ heading is_named config.realm)
 
 -- a fault of the configuration's file, or one of the configuration in force and the journal; the file has other bytes
 -- than the configuration in force; or the copy of this name can't be made

@@ -13,7 +13,7 @@ use chpw_commands::{DrillFault, explain_check, run_check, run_drill};
 use chpw_import::{KeysFault, tell_kdc, tell_keytab, tell_password};
 use chpw_invocation::{Invocation, command_of};
 use chpw_service::serve;
-use chpw_start::{ServeFault, read_configuration, tell_table};
+use chpw_start::{ServeFault, make_journal, read_configuration, tell_table};
 use clap::Error;
 use clap::error::ErrorKind;
 use std::alloc::Global;
@@ -50,6 +50,7 @@ where
         Ok(Invocation::Import(options)) => ending_of_keys(tell_keytab(rt, options)),
         Ok(Invocation::ImportKdc(options)) => ending_of_keys(tell_kdc(rt, options)),
         Ok(Invocation::Key(options)) => ending_of_keys(tell_password(rt, options)),
+        Ok(Invocation::NewJournal(options)) => ending_of_service(make_journal(rt, options)),
         Ok(Invocation::Serve(options)) => ending_of_service(serve(rt, options)),
         Ok(Invocation::Control(options)) => send_command(rt, options),
         Ok(Invocation::Client(options)) => ask(rt, errors, options),
@@ -68,7 +69,7 @@ pub fn explain_misuse<'a, W: Write>(errors: &mut W, error: Error) -> Ending<'a>
     Ending::Misused
 }
 
-// The ending of the service, or of the table.
+// The ending of the service, of the table, or of a new journal.
 fn ending_of_service(ended: Result<(), ServeFault<'_>>) -> Ending<'_>
     ensures value { result ≡ ending_served ended.entry }
 {

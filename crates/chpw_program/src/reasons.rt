@@ -107,6 +107,12 @@ impl<'a> Named<'a> {
                 journal: Some(options.journal),
                 port: 0,
             },
+            Invocation::NewJournal(options) => Named {
+                config: Some(options.config),
+                seed: None,
+                journal: Some(options.journal),
+                port: 0,
+            },
             Invocation::Client(options) => Named {
                 config: Some(options.config),
                 seed: Some(options.seed),

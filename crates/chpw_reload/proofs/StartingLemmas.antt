@@ -45,6 +45,7 @@ refused_rest r rest closed (journal.BadRecord n) realm h = (realm, journal.BadRe
 refused_rest r rest closed (journal.WrongVersion n) realm h = (realm, journal.WrongVersion n, h, refl)
 refused_rest r rest closed (journal.UnknownPrincipal n) realm h = (realm, journal.UnknownPrincipal n, h, refl)
 refused_rest r rest closed (journal.TooMany n) realm h = (realm, journal.TooMany n, h, refl)
+refused_rest r rest closed journal.OtherRealm realm h = (realm, journal.OtherRealm, h, refl)
 refused_rest r rest closed journal.CannotRead realm h = (realm, journal.CannotRead, h, refl)
 refused_rest r rest closed journal.Memory realm h = tt
 

@@ -14,6 +14,7 @@ fault_of (journal.BadRecord n) = Journal (journal.BadRecord n)
 fault_of (journal.WrongVersion n) = Journal (journal.WrongVersion n)
 fault_of (journal.UnknownPrincipal n) = Journal (journal.UnknownPrincipal n)
 fault_of (journal.TooMany n) = Journal (journal.TooMany n)
+fault_of journal.OtherRealm = Journal journal.OtherRealm
 fault_of journal.CannotRead = Journal journal.CannotRead
 fault_of journal.Memory = Memory
 
@@ -27,6 +28,7 @@ fault_behind records (journal.BadRecord n) = journal.BadRecord (number_behind re
 fault_behind records (journal.WrongVersion n) = journal.WrongVersion (number_behind records n)
 fault_behind records (journal.UnknownPrincipal n) = journal.UnknownPrincipal (number_behind records n)
 fault_behind records (journal.TooMany n) = journal.TooMany (number_behind records n)
+fault_behind records journal.OtherRealm = journal.OtherRealm
 fault_behind records journal.CannotRead = journal.CannotRead
 fault_behind records journal.Memory = journal.Memory
 

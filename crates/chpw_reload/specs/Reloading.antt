@@ -7,6 +7,7 @@ use Rattle.chpw_rules.specs.Fitting.{config_fits}
 use Rattle.chpw_table.specs.Agreement.{Held, Agrees}
 use Rattle.chpw_journal.specs.declared.fault.RestoreFault.{RestoreFault}
 use Rattle.chpw_journal.specs.declared.restoring.Restored.{Restored}
+use Rattle.chpw_journal.specs.Headings.{IsWholeRestored, IsWholeRefused}
 use Rattle.chpw_journal.specs.JournalFile.{IsReadFrom, IsRefusedFrom}
 use Rattle.chpw_report.specs.Held.{opening}
 use Rattle.chpw_reload.specs.declared.fault.ReloadFault.{ReloadFault}
@@ -22,7 +23,7 @@ pub record IsPrepared (file : Config) (journal : Option (List ℕ)) (r : Prepare
   pub before : Held
   pub opens : Agrees before.state (opening file)
   pub after : Restored
-  pub read : IsReadFrom before journal after
+  pub read : IsWholeRestored before journal after
   pub table : r.table ≡ after.table
   pub records : r.records ≡ after.records
   pub kept : r.kept ≡ after.kept
@@ -33,7 +34,7 @@ abbrev pub IsUnprepared : Config → Option (List ℕ) → ReloadFault → Type 
 IsUnprepared file journal Memory = Unit {0}
 IsUnprepared file journal fault =
     (before : Held) × (found : RestoreFault) × Agrees before.state (opening file)
-    × IsRefusedFrom before journal found × (fault ≡ fault_of found)
+    × IsWholeRefused before journal found × (fault ≡ fault_of found)
 
 -- the rest of the journal is replayed, and the next table is made from that and the closed one
 pub record IsReloaded (r : PreparedReload) (rest : Option (List ℕ)) (closed : Held) (next : Reloaded) : Type 0 where

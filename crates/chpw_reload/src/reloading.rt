@@ -96,6 +96,7 @@ fn fault_behind(records: u64, fault: RestoreFault) -> RestoreFault
             RestoreFault::UnknownPrincipal(number_behind(records, n))
         }
         RestoreFault::TooMany(n) => RestoreFault::TooMany(number_behind(records, n)),
+        RestoreFault::OtherRealm => RestoreFault::OtherRealm,
         RestoreFault::CannotRead => RestoreFault::CannotRead,
         RestoreFault::Memory => RestoreFault::Memory,
     }

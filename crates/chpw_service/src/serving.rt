@@ -33,7 +33,7 @@ use chpw_serve::{Clock as _, Messages as _};
 use chpw_sockets::DatagramSocket;
 use chpw_start::{
     Configuration, Rules, ServeFault, configuration_of, is_shared, kdc_names, open_table, own_ids,
-    raise_where_asked, read_seed, refuse_exposed, rules_of, standing_at,
+    raise_where_asked, read_seed, refuse_exposed, refuse_missing, rules_of, standing_at,
 };
 use chpw_table::Table;
 use chpw_transfers::{AcceptLimit, KdcSide};
@@ -49,7 +49,8 @@ use std::time::Clock;
 
 /// Serves so many connections on 127.0.0.1, the messages of connection i (from 0) by worker i modulo their number,
 /// one after the other. The configuration is read first, then the seed; with strict modes the start is refused then if
-/// others may read, write or replace its files; then the log is opened if there is one, and the journal is read; then the
+/// others may read, write or replace its files, and where the journal must exist, if it doesn't; then the log is opened if
+/// there is one, and the journal is read; then the
 /// iteration count of new keys is raised if that is asked for, and the service listens at the port. A torn tail that
 /// was cut off the journal is reported on standard error. Printed are the result of the raise, `listening on
 /// 127.0.0.1:N` before a connection is accepted, when the service manager is told too, and `entries N changes N` for
@@ -96,6 +97,7 @@ pub fn serve_by<
     let names = kdc_names(rt.alloc(), &text)?;
     let seed = read_seed(rt, options.seed)?;
     refuse_exposed(rt, &options)?;
+    refuse_missing(rt, &options)?;
     let log = log_of(rt, rt.alloc(), &options)?;
     let Ok(rules) = rules_of(rt.alloc(), &config, text, &options) else {
         return Err(ServeFault::Memory);
@@ -106,7 +108,14 @@ pub fn serve_by<
         mut sink,
         found: _,
         cut_at,
-    } = open_table(rt, rt.alloc(), config, options.journal, &mut clock)?;
+    } = open_table(
+        rt,
+        rt.alloc(),
+        config,
+        options.journal,
+        options.existing_journal,
+        &mut clock,
+    )?;
     let journal = journal_length(rt.alloc(), options.journal, &mut sink)?;
     if let Some(kept) = cut_at {
         log.tell(Notice::TailCut(options.journal, kept));

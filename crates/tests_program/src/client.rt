@@ -236,6 +236,7 @@ fn serving<'a>(port: u16, connections: u32, log: &'a str) -> ServeOptions<'a> {
         rfc3244_only: false,
         strict_messages: false,
         strict_modes: false,
+        existing_journal: false,
     }
 }
 
