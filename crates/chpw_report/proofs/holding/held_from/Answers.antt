@@ -5,7 +5,7 @@ pub returns-in-Ok-restore_file-clause-held : goal.returns-in-Ok-restore_file-cla
 returns-in-Ok-restore_file-clause-held g c = record {
   before = c.in-Ok.table;
   opens = c.in-Ok.ensures.opening;
-  after = c.in-Ok-restore_file.field-0.0;
+  after = c.in-Ok-restore_file.restored;
   read = c.in-Ok-restore_file.ensures.restored;
   table = c.held_of.ensures.table;
   changes = c.held_of.ensures.changes;
