@@ -30,6 +30,8 @@ SERVICE_KEYS = {
     for etype, size in ((17, 16), (18, 32))
 }
 WORKERS = 4
+# principals that a command makes
+AT_ONCE = 100
 
 
 def keys_of(name):
@@ -160,7 +162,9 @@ class HeimdalServer(HeimdalRealm):
         (self.folder / "acl").write_text(f"{ADMIN}@{REALM} all\n")
 
     def fill(self):
-        self.kadmin("add", "--use-defaults", f"--password={OLD}", ADMIN, *self.users)
+        names = [ADMIN, *self.users]
+        for first in range(0, len(names), AT_ONCE):
+            self.kadmin("add", "--use-defaults", f"--password={OLD}", *names[first : first + AT_ONCE])
         self.kadmin("passwd", f"--password={SERVICE_PASSWORD}", SERVICE)
         self.kadmin("modify", f"--kvno={KVNO}", SERVICE)
         if service_key(self.keytab([ADMIN])) != (KVNO, SERVICE_KEYS[18]):
