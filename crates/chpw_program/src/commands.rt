@@ -9,7 +9,7 @@ use crate::client::ask;
 use crate::control::send_command;
 use crate::ending::Ending;
 use crate::new_password::unread_ending;
-use chpw_commands::{DrillFault, explain_check, run_check, run_drill};
+use chpw_commands::{DrillFault, explain_check, run_check, run_drill, warn_check};
 use chpw_import::{KeysFault, tell_kdc, tell_keytab, tell_password};
 use chpw_invocation::{Invocation, command_of};
 use chpw_service::serve;
@@ -45,7 +45,7 @@ where
     match command_of(rt.alloc(), words) {
         Err(error) => explain_misuse(errors, error),
         Ok(Invocation::Drill) => drill(rt),
-        Ok(Invocation::Check { config }) => check(rt, config),
+        Ok(Invocation::Check { config }) => check(rt, errors, config),
         Ok(Invocation::Table(options)) => ending_of_service(tell_table(rt, options)),
         Ok(Invocation::Import(options)) => ending_of_keys(tell_keytab(rt, options)),
         Ok(Invocation::ImportKdc(options)) => ending_of_keys(tell_kdc(rt, options)),
@@ -106,12 +106,45 @@ fn ending_of_drill<'a>(ended: Result<(), DrillFault>) -> Ending<'a>
 
 // The configuration in a file.
 #[tactic(auto, using(crate::proofs::CheckLemmas::has_checked, crate::proofs::CheckLemmas::has_unread))]
-fn check<'a>(rt: &(impl Files<File = File> + Print + AllocGlobal), file: &'a str) -> Ending<'a>
+fn check<'a, W: Write>(
+    rt: &(impl Files<File = File> + Print + AllocGlobal),
+    errors: &mut W,
+    file: &'a str,
+) -> Ending<'a>
     ensures checked { HasChecked file.now result }
 {
     match read_configuration(rt, file) {
-        Ok(text) => print_check(rt.alloc(), file, text.as_slice(), &mut io::writer(rt)),
+        Ok(text) => check_text(
+            rt.alloc(),
+            file,
+            text.as_slice(),
+            &mut io::writer(rt),
+            errors,
+        ),
         Err(error) => unread_ending(file, &error),
+    }
+}
+
+// Writes the line about the configuration with this text, and its warnings, which change no ending.
+fn check_text<'a, W: Write, E: Write>(
+    alloc: Global,
+    file: &'a str,
+    text: &[u8],
+    out: &mut W,
+    errors: &mut E,
+) -> Ending<'a>
+    ensures checked { IsChecked file.now text.now result }
+    ensures printed { PrintsCheck text.now result (W.contents out.old) (W.contents out.new) }
+{
+    let ending = print_check(alloc, file, text, out);
+    warn(alloc, file, text, errors);
+    ending
+}
+
+// Writes the warnings about the configuration with this text. If there is no memory for them a line says so.
+fn warn<E: Write>(alloc: Global, file: &str, text: &[u8], errors: &mut E) {
+    if let Err(DrillFault::Memory) = warn_check(alloc, file, text, errors) {
+        let _ = writeln!(errors, "{file}: memory: warnings are left out");
     }
 }
 

@@ -45,9 +45,16 @@ pub record IsReloaded (r : PreparedReload) (rest : Option (List ℕ)) (closed : 
   pub counts : (next.table.events ≡ 0) × (next.table.seen ≡ 0) × (next.table.max_entries ≡ r.settings.max_entries)
   pub lacked : next.lacked.items ≡ lacked closed.state renewed.table.state
 
+-- the realm that is held, and another one of a configuration; or memory ran out
+abbrev pub IsOfRealms : (held new : List ℕ) → ReloadFault → Type 0
+IsOfRealms held new (Realm a b) = (a ≡ held) × (b ≡ new)
+IsOfRealms held new Memory = Unit {0}
+IsOfRealms held new fault = ⊥
+
 -- the first reason: the realm; the journal's first fault, numbered in the whole of it; a name's keys; the limits
 abbrev pub IsRefused : PreparedReload → Option (List ℕ) → Held → ReloadFault → Type 0
-IsRefused r rest closed Realm = closed.state.fixed.realm ≢ r.settings.realm
+IsRefused r rest closed (Realm held new) = (closed.state.fixed.realm ≢ r.settings.realm)
+    × (held ≡ closed.state.fixed.realm) × (new ≡ r.settings.realm)
 IsRefused r rest closed (Journal fault) = (closed.state.fixed.realm ≡ r.settings.realm)
     × (found : RestoreFault) × IsRefusedFrom r.table rest found × (Journal fault ≡ fault_of (fault_behind r.records found))
 IsRefused r rest closed (Keys name) = (closed.state.fixed.realm ≡ r.settings.realm)
