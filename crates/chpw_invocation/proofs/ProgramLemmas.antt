@@ -180,7 +180,7 @@ serve_found = (
                           (refl, refl),
                           (
                             (refl, refl),
-                            ((refl, refl), ((refl, refl), ((refl, refl), ((refl, refl), ((refl, refl), ((refl, refl), tt)))))),
+                            ((refl, refl), ((refl, refl), ((refl, refl), ((refl, refl), ((refl, refl), ((refl, refl), ((refl, refl), tt))))))),
                           ),
                         ),
                       ),

@@ -10,6 +10,7 @@ mod line_output;
 mod ownership;
 mod raising;
 mod readiness;
+mod resuming;
 mod rules;
 mod shared_files;
 mod starting;
@@ -24,6 +25,7 @@ pub use files::{
 pub use line_output::{Kind, LineOutput, is_standard_error};
 pub use ownership::{Exposure, Ids, Standing, is_shared, own_ids, standing_at};
 pub use raising::{RaiseReport, raise_where_asked};
+pub use resuming::{Resumption, SetAside, resume_where_asked};
 pub use rules::{Rules, rules_of};
 pub use shared_files::{Exposed, exposure_at, refuse_exposed};
 pub use starting::open_table;
