@@ -8,7 +8,7 @@ use Rattle.std.proofs.lemmas.Grind.{flat_map-append}
 use Rattle.chpw_blocks.specs.Blocks.{block, joined, IsShort, AreShort, IsOneWay}
 
 -- two lists alike, cut at the same place
-front_same : {A : Type 0} (a b c d : List A) → length a ≡ length c → a ++ b ≡ c ++ d → (a ≡ c) × (b ≡ d)
+pub front_same : {A : Type 0} (a b c d : List A) → length a ≡ length c → a ++ b ≡ c ++ d → (a ≡ c) × (b ≡ d)
 front_same [] b [] d l h = (refl, h)
 front_same [] b (y ∷ ys) d l h = cc
 front_same (x ∷ xs) b [] d l h = cc

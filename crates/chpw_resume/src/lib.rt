@@ -8,7 +8,7 @@ mod reading;
 mod resume;
 mod writing;
 
-pub use fitting::{Misfit, misfit};
+pub use fitting::{Misfit, first_misfit};
 pub use mark::{JournalMark, MARKED, mark_in, mark_of};
 pub use reading::{ResumeFault, read_resume};
 pub use resume::{LONGEST_RESUME, Resume};

@@ -55,7 +55,7 @@ fn behind_header(text: &[u8]) -> Option<&[u8]>
         return None;
     }
     let (line, rest) = text.split_at(HEADER.len());
-    if *line == HEADER { Some(rest) } else { None }
+    if line == HEADER.as_slice() { Some(rest) } else { None }
 }
 
 // What stands before the checksum at the end; none if that is another one.
@@ -68,7 +68,7 @@ fn summed(text: &[u8]) -> Option<&[u8]>
         return None;
     }
     let (body, sum) = text.split_at(text.len() - SUM_BYTES);
-    if *sum == Sha1::digest(body) { Some(body) } else { None }
+    if sum == Sha1::digest(body).as_slice() { Some(body) } else { None }
 }
 
 // What a text without its checksum has.

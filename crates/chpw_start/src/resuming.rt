@@ -12,7 +12,7 @@ use crate::ownership::{Exposure, exposure_of, own_ids, place_at};
 use chpw_invocation::ServeOptions;
 use chpw_journal::beside;
 use chpw_resume::{
-    JournalMark, LONGEST_RESUME, Misfit, ResumeFault, mark_in, misfit, read_resume,
+    JournalMark, LONGEST_RESUME, Misfit, ResumeFault, first_misfit, mark_in, read_resume,
 };
 use chpw_table::{Carried, Moment, Table};
 use std::alloc::{AllocError, Global};
@@ -226,7 +226,7 @@ fn judged(
 ) -> Result<Found, AllocError> {
     match read_resume(alloc, text)? {
         Err(fault) => Ok(Found::Unfit(SetAside::Fault(fault))),
-        Ok(resume) => match misfit(&resume, realm, journal, start.seconds) {
+        Ok(resume) => match first_misfit(&resume, realm, journal, start.seconds) {
             Some(why) => Ok(Found::Unfit(SetAside::Misfit(why))),
             None => Ok(Found::Fit(resume.carried)),
         },
