@@ -232,14 +232,6 @@ class Steps:
         self.tell("kinit: with the new password", self.realm.kinit("alice", new))
         self.tell("the KDC has the new version", self.realm.kvno("alice"), kvno)
 
-    def changes_ahead(self, old, new, kvno):
-        """By a client whose clock is ahead of the quiet time."""
-        time.sleep(300 - AHEAD + 2)
-        say = self.realm.kpasswd("alice", old, new, **self.ahead())
-        self.tell("kpasswd: changed, by a clock that is ahead", self.kind.CHANGED in say) or print(say)
-        self.tell("kinit: with the new password", self.realm.kinit("alice", new))
-        self.tell("the KDC has the new version", self.realm.kvno("alice"), kvno)
-
     def pids(self):
         return [it.process.pid for it in (self.root.unit(SERVICE), self.root.unit(self.agent)) if it.is_active()]
 

@@ -40,12 +40,12 @@ cut_same [] (c ∷ cs) rest s t h =
 cut_same (b ∷ bs) (c ∷ cs) rest s t h =
     let r = block_same b (joined bs) c (joined cs ++ rest) s.0 t.0 (h ∙ append_assoc (block c) (joined cs) rest) in
     let m = cut_same bs cs rest s.1 t.1 r.1 in
-    (m.0, (let e : b ≡ c = r.0 in let f : bs ≡ cs ++ m.0 = m.1 in cc), m.2)
+    (m.0, (let e : b ≡ c = r.0 in let f : bs ≡ cs ++ m.0 = m.1 in cc), m.2, m.3)
 
 pub is_one_way : IsOneWay
 is_one_way bs cs s t h =
     let m = cut_same bs cs [] s t (h ∙ sym (append-nil (joined cs))) in
-    none m.0 m.1 m.2.0
+    none m.0 m.1 m.2
   where
     none : (more : List (List ℕ)) → bs ≡ cs ++ more → [] ≡ joined more → bs ≡ cs
     none [] e f = e ∙ append-nil cs
@@ -58,7 +58,7 @@ pub none_joined : (text : List ℕ) (bs cs : List (List ℕ)) (rest : List ℕ) 
     → ((b more : List ℕ) → IsShort b → rest ≡ block b ++ more → ⊥) → text ≡ joined cs ++ rest → text ≡ joined bs → ⊥
 none_joined text bs cs rest l s t none e h =
     let m = cut_same bs cs rest s t (sym h ∙ e) in
-    at m.0 m.2.0 m.2.1
+    at m.0 m.2 m.3
   where
     at : (ds : List (List ℕ)) → rest ≡ joined ds → AreShort ds → ⊥
     at [] f g = (let n : length rest ≡ 0 = ap length f in omega (arith, l, n))

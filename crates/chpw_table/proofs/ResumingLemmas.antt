@@ -1,10 +1,13 @@
 -- What a table leaves to the one of a next run.
-use Rattle.std.proofs.Common.{◌≡◌, ℕ, ◌+◌, ◌≤◌, List, [], ◌∷◌, ◌++◌, length, Bool, true, false, ◌||◌, if◌then◌else◌, refl, sym, ◌∙◌, ap, subst, arith}
-use Rattle.std.specs.Prelude.{ℤ, int_le, ◌⊎◌}
+use Rattle.std.proofs.Common.{◌≡◌, ℕ, ◌+◌, ◌≤◌, add-one, nat_lt, take, Option, Some, None, List, [], ◌∷◌, ◌++◌, length, Bool, true, false, ◌||◌, if◌then◌else◌, refl, sym, ◌∙◌, ap, subst, arith, inl, inr}
+use Rattle.std.specs.Prelude.{ℤ, int_le, slice_get, ◌⊎◌}
 use Rattle.std.specs.Int.{int_max}
 use Rattle.std.specs.List.{list_any}
 use Rattle.std.specs.List.Sorted.{IsStrictlySortedBy}
-use Rattle.std.proofs.lemmas.List.{length-append}
+use Rattle.std.proofs.lemmas.List.{length-append, take_all}
+use Rattle.std.proofs.lemmas.Bool.Decides.{nat_tests}
+use Rattle.std.proofs.lemmas.Option.{get_or_from_slice_get, slice_get_within, slice_get-get_or}
+use Rattle.std.proofs.Math.Seq.{take-suc}
 use Rattle.chpw_table.specs.declared.times.Moment.{Moment}
 use Rattle.chpw_table.specs.declared.request.Opened.{Opened}
 use Rattle.chpw_table.specs.declared.request.RequestId.{RequestId}
@@ -49,6 +52,28 @@ holds_more clock ids used x h = record {
       ∙ (first_used true x id used
       ∙ (used_more used x id ∙ (ap (λ b. b || is_same_id x id) (h.same id y) ∙ sym (used_more ids x id))));
 }
+
+-- ---- ids that are copied one by one
+
+pub take_more : (xs : List RequestId) (i : ℕ) (x : RequestId) (ys : List RequestId) → slice_get xs i ≡ Some x → ys ≡ take i xs → ys ++ x ∷ [] ≡ take (i + 1) xs
+take_more xs i x ys g e =
+    ap (λ zs. zs ++ x ∷ []) e
+    ∙ sym (ap (λ n. take n xs) (add-one i)
+    ∙ (take-suc xs i x (slice_get_within xs i x g) ∙ ap (λ y. take i xs ++ y ∷ []) (get_or_from_slice_get xs i x x g)))
+
+pub take_whole : (xs : List RequestId) (i : ℕ) (ys : List RequestId) → length xs ≤ i → ys ≡ take i xs → ys ≡ xs
+take_whole xs i ys h e = e ∙ take_all i xs h
+
+clash : (o : Option RequestId) (x : RequestId) → o ≡ None → o ≡ Some x → ⊥
+clash o x e g = cc
+
+pub none_past : (xs : List RequestId) (i : ℕ) → slice_get xs i ≡ None → length xs ≤ i
+none_past [] i e = omega arith
+none_past (x ∷ xs) i e = at (nat_lt i (length (x ∷ xs))) refl
+  where
+    at : (b : Bool) → nat_lt i (length (x ∷ xs)) ≡ b → length (x ∷ xs) ≤ i
+    at true f = absurd (clash (slice_get (x ∷ xs) i) _ e (slice_get-get_or (x ∷ xs) i x (grind (arith, nat_tests))))
+    at false f = grind (arith, nat_tests)
 
 -- ---- the state that takes over what was left
 
