@@ -190,9 +190,8 @@ class Steps:
         self.tell("upgrade: no file changes mode or owner", self.files(), before)
         self.tell("upgrade: the journal stays", self.root.path(JOURNAL).read_bytes(), journal)
         self.tell("upgrade: changed settings stay", self.status().get("workers"), "2")
-        say = self.realm.kpasswd("alice", "New-pass1", "Newer-pass1")
-        self.tell("upgrade: quiet for five minutes", "clock skew" in say.lower()) or print(say)
-        self.changes_ahead("New-pass1", "Newer-pass1", 3)
+        self.tell("upgrade: no quiet time", self.status().get("quiet-until"), "-")
+        self.changes_now("New-pass1", "Newer-pass1", 3)
 
     def former_owner(self):
         """The configuration and its directory become what they were in earlier packages."""
@@ -225,11 +224,10 @@ class Steps:
         self.root.must("chown", "boddrelyn:boddrelyn", "/etc/boddrelyn")
         self.root.must("chmod", "700", "/etc/boddrelyn")
 
-    def changes_ahead(self, old, new, kvno):
-        """By a client whose clock is ahead of the quiet time."""
-        time.sleep(300 - AHEAD + 2)
-        say = self.realm.kpasswd("alice", old, new, **self.ahead())
-        self.tell("kpasswd: changed, by a clock that is ahead", self.kind.CHANGED in say) or print(say)
+    def changes_now(self, old, new, kvno):
+        """Without a quiet time, by a client with the right clock."""
+        say = self.realm.kpasswd("alice", old, new)
+        self.tell("kpasswd: changed at once", self.kind.CHANGED in say) or print(say)
         self.tell("kinit: with the new password", self.realm.kinit("alice", new))
         self.tell("the KDC has the new version", self.realm.kvno("alice"), kvno)
 

@@ -143,6 +143,7 @@ pub record AsksServe (options : List Row) (asked : ServeOptions) : Type 0 where
   pub buffers : HasNumberOr 32 1 1024 options (codes "buffers") asked.buffers
   pub raise : MayHaveNumber 1 16777216 options (codes "raise") asked.raise
   pub log : option_map (λ file. file.now) asked.log ≡ first_of (codes "log") options
+  pub resume : option_map (λ file. file.now) asked.resume ≡ first_of (codes "resume") options
   pub kdc : option_map (λ socket. socket.now) asked.kdc ≡ first_of (codes "kdc") options
   pub kdc_wait : HasNumberOr 2000 1 60000 options (codes "kdc-wait") asked.kdc_wait
   pub require_kdc : IsGiven options (codes "require-kdc") asked.require_kdc

@@ -66,8 +66,9 @@ new_journal = command (codes "new-journal")
     ∷ [])
 
 -- serve --config FILE --journal FILE --seed FILE --port N --workers N --connections N [--idle SECONDS]
--- [--clients N] [--buffers MEBIBYTES] [--raise COUNT] [--log FILE] [--kdc SOCKET] [--kdc-wait MILLISECONDS]
--- [--require-kdc] [--control SOCKET] [--udp] [--rfc3244-only] [--strict-messages] [--strict-modes] [--existing-journal]
+-- [--clients N] [--buffers MEBIBYTES] [--raise COUNT] [--log FILE] [--resume FILE] [--kdc SOCKET]
+-- [--kdc-wait MILLISECONDS] [--require-kdc] [--control SOCKET] [--udp] [--rfc3244-only] [--strict-messages] [--strict-modes]
+-- [--existing-journal]
 abbrev pub serve : Shape
 serve = command (codes "serve")
     (required (codes "config")
@@ -81,6 +82,7 @@ serve = command (codes "serve")
     ∷ buffers
     ∷ raise
     ∷ optional (codes "log")
+    ∷ optional (codes "resume")
     ∷ optional (codes "kdc")
     ∷ kdc_wait
     ∷ flag (codes "require-kdc")

@@ -116,6 +116,8 @@ pub struct ServeOptions<'a> {
     pub raise: Option<u32>,
     /// The file of the log, if there is one.
     pub log: Option<&'a str>,
+    /// The file that a clean end leaves for the next start, if there is one.
+    pub resume: Option<&'a str>,
     /// The socket of the agent at the KDC's database; without one keys go nowhere else, and no reply waits.
     pub kdc: Option<&'a str>,
     /// How many milliseconds the reply to a change waits for the KDC, 1 to [`LONGEST_KDC_WAIT`]; default

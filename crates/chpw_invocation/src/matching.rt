@@ -210,6 +210,7 @@ fn service_of<'a>(options: &ArgMatches<'a>) -> Option<Invocation<'a>>
         buffers: buffers_of(options)?,
         raise: raise_of(options)?,
         log: text_of(options, "log"),
+        resume: text_of(options, "resume"),
         kdc: text_of(options, "kdc"),
         kdc_wait: kdc_wait_of(options)?,
         require_kdc: is_given(options, "require-kdc"),

@@ -89,6 +89,11 @@ anyway, and the log says so. With --require-kdc such a reply isn't sent, and its
 while there is no connection to the agent, or a key has been on its way for longer, each request is
 answered code 2, error 60, 'KDC out of reach', and isn't decided.
 
+After a start that finds a journal, requests are refused for five minutes, since some may have been
+answered before. With --resume FILE a clean end ('control stop') leaves in FILE which requests were
+answered, and the next start removes FILE and goes on from there at once. A FILE that doesn't fit the
+realm, the journal and the clock is set aside, and a line says why.
+
 With --raise COUNT it first prints the result: 'raised COUNT', 'count not higher', 'journal failed' or
 'history full'. It serves after each of them.
 
@@ -117,6 +122,9 @@ const RAISE_HELP: &str =
 
 const LOG_HELP: &str =
     "Append a line for each decision to this file, created if it doesn't exist; - for standard error [default: no log]";
+
+const RESUME_HELP: &str =
+    "Write to this file at a clean end which requests were answered, and take it over at the next start, without a quiet time [default: none]";
 
 const KDC_HELP: &str =
     "The socket of the agent at the KDC's database: keys are written and taken there [default: none]";
@@ -363,6 +371,7 @@ fn serve<'a>(alloc: Global) -> Result<Command<'a>, AllocError>
         optional_number("buffers", "MEBIBYTES", MOST_BUFFERS as u32, BUFFERS_HELP),
         optional_number("raise", "COUNT", GREATEST_COUNT, RAISE_HELP),
         optional("log", "FILE", LOG_HELP),
+        optional("resume", "FILE", RESUME_HELP),
         optional("kdc", "SOCKET", KDC_HELP),
         optional_number("kdc-wait", "MILLISECONDS", LONGEST_KDC_WAIT, KDC_WAIT_HELP),
         flag("require-kdc", REQUIRE_KDC_HELP),

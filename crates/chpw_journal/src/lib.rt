@@ -25,7 +25,7 @@ pub use heading::{heading_bytes, is_headed};
 pub use journal_file::{Journal, JournalFile, OpenFault, open_journal};
 pub use memory_sink::MemorySink;
 pub use quiet::quiet_after;
-pub use replacing::{Replacement, remove_unfinished, replace_journal, write_new};
+pub use replacing::{Replacement, beside, remove_unfinished, replace_journal, write_new};
 pub use restoring::{Restored, restore};
 pub use synced_file::SyncedFile;
 pub use whole::restore_file;

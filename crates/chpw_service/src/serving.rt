@@ -27,15 +27,17 @@ use chpw_desks::{
 use chpw_invocation::{ConnectionLimit, ServeOptions};
 use chpw_journal::{FileSink, Journal};
 use chpw_logging::{Log, Notice, log_of, time_of};
+use chpw_printing::put_time;
 use chpw_reactor::{Engine, PoolOptions, dialog_with};
 use chpw_rules::NamePatterns;
 use chpw_serve::{Clock as _, Messages as _};
 use chpw_sockets::DatagramSocket;
 use chpw_start::{
-    Configuration, Rules, ServeFault, configuration_of, is_shared, kdc_names, open_table, own_ids,
-    raise_where_asked, read_seed, refuse_exposed, refuse_missing, rules_of, standing_at,
+    Configuration, Resumption, Rules, ServeFault, SetAside, configuration_of, is_shared, kdc_names,
+    open_table, own_ids, raise_where_asked, read_seed, refuse_exposed, refuse_missing,
+    resume_where_asked, rules_of, standing_at,
 };
-use chpw_table::Table;
+use chpw_table::{LAST_SECOND, Moment, Table};
 use chpw_transfers::{AcceptLimit, KdcSide};
 use chpw_workers::MachineClock;
 use std::alloc::Global;
@@ -43,6 +45,7 @@ use std::fs::{File, Files};
 use std::marker::Brand;
 use std::net::{Ipv4Addr, Net, TcpListener, TcpStream, UdpSocket};
 use std::rt::Env;
+use std::str;
 use std::sync::Wait;
 use std::thread::Threads;
 use std::time::Clock;
@@ -50,7 +53,8 @@ use std::time::Clock;
 /// Serves so many connections on 127.0.0.1, the messages of connection i (from 0) by worker i modulo their number,
 /// one after the other. The configuration is read first, then the seed; with strict modes the start is refused then if
 /// others may read, write or replace its files, and where the journal must exist, if it doesn't; then the log is opened if
-/// there is one, and the journal is read; then the
+/// there is one, and the journal is read; then what a clean end left in the resume file is taken over, if there is one and it
+/// fits; then the
 /// iteration count of new keys is raised if that is asked for, and the service listens at the port. A torn tail that
 /// was cut off the journal is reported on standard error. Printed are the result of the raise, `listening on
 /// 127.0.0.1:N` before a connection is accepted, when the service manager is told too, and `entries N changes N` for
@@ -116,14 +120,24 @@ pub fn serve_by<
         options.existing_journal,
         &mut clock,
     )?;
+    let Resumption { table, set_aside } = resume_where_asked(
+        rt,
+        &options,
+        clock.now(),
+        table,
+        sink.file(),
+        cut_at.is_some(),
+    )?;
     let journal = journal_length(rt.alloc(), options.journal, &mut sink)?;
     if let Some(kept) = cut_at {
         log.tell(Notice::TailCut(options.journal, kept));
     }
+    tell_set_aside(&log, &options, set_aside);
     tell_shared(rt, &log, &options);
     let listener = control_socket(rt, options.control)?;
     let since = clock.now();
     log.tell_start(since, &table);
+    tell_quiet(rt.alloc(), &log, since, &table);
     let kdc = kdc_side(rt, &options, &table, names);
     let opening = first_opening(table, sink, options.workers);
     let start = Start {
@@ -174,6 +188,31 @@ fn reach_asked(is_asked: bool, wait: u32) -> Option<u64>
         Some(u64::from(wait))
     } else {
         None
+    }
+}
+
+// Reports why the resume file was set aside, if it was.
+fn tell_set_aside<R: Wait + Eprint>(
+    log: &Log<'_, R>,
+    options: &ServeOptions<'_>,
+    set_aside: Option<SetAside>,
+) {
+    if let (Some(path), Some(why)) = (options.resume, set_aside) {
+        log.tell(Notice::SetAside(path, why));
+    }
+}
+
+// Reports until when requests are refused, if they are at this moment.
+fn tell_quiet<R: Wait + Eprint>(alloc: Global, log: &Log<'_, R>, now: Moment, table: &Table) {
+    let until = table.quiet_until();
+    if until < now.seconds || !(0..=LAST_SECOND).contains(&until) {
+        return;
+    }
+    let mut text = Vec::new(alloc);
+    if put_time(&mut text, until, 0).is_ok() {
+        if let Ok(text) = str::from_utf8(&text) {
+            log.tell(Notice::Quiet(text));
+        }
     }
 }
 

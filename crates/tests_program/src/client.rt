@@ -228,6 +228,7 @@ fn serving<'a>(port: u16, connections: u32, log: &'a str) -> ServeOptions<'a> {
         buffers: USUAL_BUFFERS,
         raise: None,
         log: Some(log),
+        resume: None,
         kdc: None,
         kdc_wait: USUAL_KDC_WAIT,
         require_kdc: false,
