@@ -7,7 +7,7 @@ import root
 import steps
 
 # seconds for all of it
-PATIENCE = 400
+PATIENCE = 900
 UNIT = """\
 [Unit]
 Description=Tries the packages
@@ -19,7 +19,7 @@ ExecStart=/bin/sh /opt/try/inside
 ExecStopPost=/usr/bin/systemctl --no-block poweroff
 StandardOutput=append:/opt/try/output
 StandardError=append:/opt/try/output
-TimeoutStartSec=300
+TimeoutStartSec=800
 
 [Install]
 WantedBy=multi-user.target
