@@ -20,7 +20,12 @@ pub enum Misfit {
 }
 
 /// The first reason why it doesn't fit a start of this realm, with this journal, at this time.
-pub fn first_misfit(resume: &Resume, realm: &[u8], journal: &JournalMark, start: i64) -> Option<Misfit>
+pub fn first_misfit(
+    resume: &Resume,
+    realm: &[u8],
+    journal: &JournalMark,
+    start: i64,
+) -> Option<Misfit>
     ensures first { result ≡ misfit_of resume.now realm.now journal.now start }
     ensures time { result ≡ None → IsTime resume.now.carried.clock }
 {

@@ -20,6 +20,7 @@ const SUM_BYTES: usize = 20;
 
 // How many bytes stand in the block behind the realm, and in the first one of an id.
 const STATE_BYTES: usize = 44;
+
 const TIMES_BYTES: usize = 12;
 
 /// Why a text is that of no resume file.
@@ -58,7 +59,11 @@ fn behind_header(text: &[u8]) -> Option<&[u8]>
         return None;
     }
     let (line, rest) = text.split_at(HEADER.len());
-    if line == HEADER.as_slice() { Some(rest) } else { None }
+    if line == HEADER.as_slice() {
+        Some(rest)
+    } else {
+        None
+    }
 }
 
 // What stands before the checksum at the end; none if that is another one.
@@ -71,7 +76,11 @@ fn summed(text: &[u8]) -> Option<&[u8]>
         return None;
     }
     let (body, sum) = text.split_at(text.len() - SUM_BYTES);
-    if is_sum_of(sum, body) { Some(body) } else { None }
+    if is_sum_of(sum, body) {
+        Some(body)
+    } else {
+        None
+    }
 }
 
 fn is_sum_of(sum: &[u8], body: &[u8]) -> bool
@@ -107,11 +116,13 @@ fn read_parts(
     requires ids { AreShort ids.now }
     ensures value { IfOk result (λ found. IsOfResume (λ r. blocks_of r ≡ realm.now ∷ state.now ∷ ids.now) found) }
 {
-    let Some(State {
-        journal,
-        clock,
-        quiet_until,
-    }) = read_state(state)
+    let Some(
+        State {
+            journal,
+            clock,
+            quiet_until,
+        },
+    ) = read_state(state)
     else {
         return Ok(None);
     };

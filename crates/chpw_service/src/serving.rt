@@ -34,8 +34,8 @@ use chpw_serve::{Clock as _, Messages as _};
 use chpw_sockets::DatagramSocket;
 use chpw_start::{
     Configuration, Resumption, Rules, ServeFault, SetAside, configuration_of, is_shared, kdc_names,
-    open_table, own_ids, raise_where_asked, read_seed, refuse_exposed, resume_where_asked, rules_of,
-    standing_at,
+    open_table, own_ids, raise_where_asked, read_seed, refuse_exposed, resume_where_asked,
+    rules_of, standing_at,
 };
 use chpw_table::{LAST_SECOND, Moment, Table};
 use chpw_transfers::{AcceptLimit, KdcSide};

@@ -17,9 +17,8 @@ use chpw_resume::{
 };
 use chpw_table::{Carried, Moment, Table};
 use std::alloc::{AllocError, Global};
-use std::fmt;
 use std::fs::{self, File, Files};
-use std::io;
+use std::{fmt, io};
 
 /// Why a resume file is set aside, as if it weren't there; displayed in words.
 #[derive(Clone, Copy, Drop)]
@@ -47,7 +46,9 @@ impl fmt::Display for SetAside {
             SetAside::Exposed(why) => write!(f, "{why}"),
             SetAside::Unread => f.write_str("it can't be read"),
             SetAside::TooLong => f.write_str("it is too long"),
-            SetAside::Fault(ResumeFault::Unknown) => f.write_str("it is no resume file of this version"),
+            SetAside::Fault(ResumeFault::Unknown) => f.write_str(
+                "it is no resume file of this version",
+            ),
             SetAside::Fault(ResumeFault::Damaged) => f.write_str("it is damaged"),
             SetAside::Misfit(Misfit::Realm) => f.write_str("it is of another realm"),
             SetAside::Misfit(Misfit::Journal) => f.write_str("the journal is not as it was left"),
@@ -114,7 +115,12 @@ fn keep_from_others<'a, R: Files + AllocGlobal>(
     let Ok(beside) = beside(rt.alloc(), path) else {
         return Err(ServeFault::Memory);
     };
-    for file in [options.config, options.seed, options.journal, options.log.unwrap_or("-")] {
+    for file in [
+        options.config,
+        options.seed,
+        options.journal,
+        options.log.unwrap_or("-"),
+    ] {
         let place = place_of(rt, file);
         if is_one(place, place_of(rt, path)) || is_one(place, place_of(rt, beside.as_str())) {
             return Err(ServeFault::CannotWrite(path));
