@@ -131,7 +131,10 @@ impl fmt::Display for Notice<'_> {
             }
             Notice::SetAside(file, why) => write!(f, "{file}: set aside, since {why}"),
             Notice::NotKept(file) => {
-                write!(f, "cannot write {file}: the next start will be quiet for 300 seconds")
+                write!(
+                    f,
+                    "cannot write {file}: the next start will be quiet for 300 seconds"
+                )
             }
             Notice::Quiet(time) => {
                 write!(

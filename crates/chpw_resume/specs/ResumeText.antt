@@ -6,7 +6,6 @@ use Rattle.std.specs.List.{AllByRecursion}
 use Rattle.sha1.specs.Sha1.{sha1}
 use Rattle.chpw_blocks.specs.Blocks.{joined, AreShort, IsShort}
 use Rattle.chpw_table.specs.declared.request.RequestId.{RequestId}
-use Rattle.chpw_table.specs.Times.{IsTime}
 use Rattle.chpw_resume.specs.declared.mark.JournalMark.{JournalMark}
 use Rattle.chpw_resume.specs.declared.reading.ResumeFault.{ResumeFault}
 use Rattle.chpw_resume.specs.declared.reading.State.{State}
@@ -55,7 +54,6 @@ IdFits id = AreShort (id.crealm ∷ id.client.parts) × IsShort (id_text id)
 pub record ResumeFits (r : Resume) : Type 0 where
   pub realm : IsShort r.realm
   pub sum : length r.journal.sum ≡ 20
-  pub clock : IsTime r.carried.clock
   pub ids : AllByRecursion IdFits r.carried.ids
 
 -- ---- what is read
@@ -67,8 +65,8 @@ IsOfResume IsSo found = MatchOption found ((r : Resume) → ResumeFits r → IsS
 -- the numbers of a second block
 abbrev pub IsOfState : List ℕ → Option State → Type 0
 IsOfState bytes found = MatchOption found
-    ((mark : JournalMark) (clock quiet_until : ℤ) → length mark.sum ≡ 20 → IsTime clock → bytes ≢ state_bytes mark clock quiet_until)
-    (λ (s : State). (length s.journal.sum ≡ 20) × IsTime s.clock × (bytes ≡ state_bytes s.journal s.clock s.quiet_until))
+    ((mark : JournalMark) (clock quiet_until : ℤ) → length mark.sum ≡ 20 → bytes ≢ state_bytes mark clock quiet_until)
+    (λ (s : State). (length s.journal.sum ≡ 20) × (bytes ≡ state_bytes s.journal s.clock s.quiet_until))
 
 -- a text is read as what it was written of, and has a fault where it was written of nothing
 abbrev pub IsReadAs : List ℕ → Result Resume ResumeFault → Type 0

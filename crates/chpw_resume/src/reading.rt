@@ -1,14 +1,17 @@
 //! Reading the text of a resume file.
-ghost use Rattle.std.specs.Prelude.{◌≡◌, ◌≢◌, ◌∷◌, ◌++◌, ℕ, List, IfOk, MatchOption, length};
+ghost use Rattle.std.specs.Prelude.{Decides, ◌≡◌, ◌≢◌, ◌∷◌, ◌++◌, ◌<◌, ◌^◌, ℕ, List, IfOk, MatchOption, length, map};
+ghost use Rattle.std.specs.Int.{to_be_bytes, w32, w64};
+ghost use Rattle.std.specs.List.{AllByRecursion};
+ghost use Rattle.chpw_blocks.specs.Blocks.{AreShort, IsShort};
+ghost use Rattle.chpw_table.specs.declared.request.RequestId.{RequestId as Id};
 ghost use Rattle.sha1.specs.Sha1.{sha1};
-ghost use Rattle.chpw_rules.specs.declared.config.Config.{Config};
-ghost use Rattle.chpw_resume.specs.ResumeText.{blocks_of, body_of, header, id_text, times_bytes, IdFits, IsOfResume, IsOfState, IsReadAs};
+ghost use Rattle.chpw_resume.specs.ResumeText.{blocks_of, body_of, header, id_text, time_bytes, times_bytes, IdFits, IsOfResume, IsOfState, IsReadAs};
 
 use crate::mark::JournalMark;
 use crate::resume::{HEADER, Resume};
 use chpw_blocks::read_blocks;
 use chpw_rules::{Items, Name};
-use chpw_table::{Carried, LAST_SECOND, RequestId};
+use chpw_table::{Carried, RequestId};
 use sha1::Sha1;
 use std::alloc::{AllocError, Global};
 
@@ -17,6 +20,7 @@ const SUM_BYTES: usize = 20;
 
 // How many bytes stand in the block behind the realm, and in the first one of an id.
 const STATE_BYTES: usize = 44;
+
 const TIMES_BYTES: usize = 12;
 
 /// Why a text is that of no resume file.
@@ -33,9 +37,9 @@ pub enum ResumeFault {
 pub fn read_resume(alloc: Global, text: &[u8]) -> Result<Result<Resume, ResumeFault>, AllocError>
     ensures value { IfOk result (IsReadAs text.now) }
 {
-    if behind_header(text).is_none() {
+    let Some(_) = behind_header(text) else {
         return Ok(Err(ResumeFault::Unknown));
-    }
+    };
     let Some(body) = summed(text) else {
         return Ok(Err(ResumeFault::Damaged));
     };
@@ -55,7 +59,11 @@ fn behind_header(text: &[u8]) -> Option<&[u8]>
         return None;
     }
     let (line, rest) = text.split_at(HEADER.len());
-    if line == HEADER.as_slice() { Some(rest) } else { None }
+    if line == HEADER.as_slice() {
+        Some(rest)
+    } else {
+        None
+    }
 }
 
 // What stands before the checksum at the end; none if that is another one.
@@ -68,7 +76,17 @@ fn summed(text: &[u8]) -> Option<&[u8]>
         return None;
     }
     let (body, sum) = text.split_at(text.len() - SUM_BYTES);
-    if sum == Sha1::digest(body).as_slice() { Some(body) } else { None }
+    if is_sum_of(sum, body) {
+        Some(body)
+    } else {
+        None
+    }
+}
+
+fn is_sum_of(sum: &[u8], body: &[u8]) -> bool
+    ensures value { Decides result (sum.now ≡ sha1 body.now) }
+{
+    sum == Sha1::digest(body).as_slice()
 }
 
 // What a text without its checksum has.
@@ -94,13 +112,17 @@ fn read_parts(
     state: &[u8],
     ids: &[Items<u8>],
 ) -> Result<Option<Resume>, AllocError>
+    requires realm { IsShort realm.now }
+    requires ids { AreShort ids.now }
     ensures value { IfOk result (λ found. IsOfResume (λ r. blocks_of r ≡ realm.now ∷ state.now ∷ ids.now) found) }
 {
-    let Some(State {
-        journal,
-        clock,
-        quiet_until,
-    }) = read_state(state)
+    let Some(
+        State {
+            journal,
+            clock,
+            quiet_until,
+        },
+    ) = read_state(state)
     else {
         return Ok(None);
     };
@@ -126,45 +148,65 @@ pub(crate) struct State {
     pub quiet_until: i64,
 }
 
-// The numbers in the second block; none if it has another length, or the clock is none.
+// The numbers in the second block; none if it has another length.
 fn read_state(bytes: &[u8]) -> Option<State>
     ensures value { IsOfState bytes.now result }
 {
     if bytes.len() != STATE_BYTES {
         return None;
     }
-    let mut length = [0; 8];
-    length.copy_from_slice(&bytes[..8]);
-    let mut sum = [0; 20];
-    sum.copy_from_slice(&bytes[8..28]);
-    let clock = signed_in(&bytes[28..36]);
-    if !(0..=LAST_SECOND).contains(&clock) {
-        return None;
-    }
+    let (length, behind_length) = bytes.split_at(8);
+    let (summed, times) = behind_length.split_at(SUM_BYTES);
+    let (clock, quiet_until) = times.split_at(8);
+    let mut sum = [0; SUM_BYTES];
+    sum.copy_from_slice(summed);
     Some(State {
         journal: JournalMark {
-            length: u64::from_be_bytes(length),
+            length: long_in(length),
             sum,
         },
-        clock,
-        quiet_until: signed_in(&bytes[36..]),
+        clock: signed_in(clock),
+        quiet_until: signed_in(quiet_until),
     })
 }
 
 // The number in eight bytes.
+fn long_in(bytes: &[u8]) -> u64
+    requires eight { length bytes.now ≡ 8 }
+    ensures bytes { bytes.now ≡ to_be_bytes w64 result }
+{
+    let mut number = [0; 8];
+    number.copy_from_slice(bytes);
+    u64::from_be_bytes(number)
+}
+
+// The same with a sign.
 fn signed_in(bytes: &[u8]) -> i64
     requires eight { length bytes.now ≡ 8 }
+    ensures bytes { bytes.now ≡ time_bytes result }
 {
     let mut number = [0; 8];
     number.copy_from_slice(bytes);
     i64::from_be_bytes(number)
 }
 
-// The ids with these texts.
-fn read_ids(
-    alloc: Global,
-    texts: &[Items<u8>],
-) -> Result<Option<Vec<RequestId>>, AllocError> {
+// The number in four bytes.
+fn short_in(bytes: &[u8]) -> u32
+    requires four { length bytes.now ≡ 4 }
+    ensures bytes { bytes.now ≡ to_be_bytes w32 result }
+{
+    let mut number = [0; 4];
+    number.copy_from_slice(bytes);
+    u32::from_be_bytes(number)
+}
+
+// The ids with these texts; none if one is that of no id.
+fn read_ids(alloc: Global, texts: &[Items<u8>]) -> Result<Option<Vec<RequestId>>, AllocError>
+    requires short { AreShort texts.now }
+    ensures value { IfOk result (λ found. MatchOption found
+        ((ids : List Id) → AllByRecursion IdFits ids → texts.now ≢ map id_text ids)
+        (λ ids. AllByRecursion IdFits ids.items × (texts.now ≡ map id_text ids.items))) }
+{
     let mut ids = Vec::with_capacity(alloc, texts.len())?;
     for text in texts {
         match read_id(alloc, text.as_slice())? {
@@ -175,36 +217,64 @@ fn read_ids(
     Ok(Some(ids))
 }
 
-// The id with this text.
-fn read_id(alloc: Global, text: &[u8]) -> Result<Option<RequestId>, AllocError> {
-    let Some(mut blocks) = read_blocks(alloc, text)? else {
+// The id with this text, if it is that of one.
+fn read_id(alloc: Global, text: &[u8]) -> Result<Option<RequestId>, AllocError>
+    ensures value { IfOk result (λ found. MatchOption found
+        ((id : Id) → IdFits id → text.now ≢ id_text id)
+        (λ id. (text.now ≡ id_text id) × AreShort (id.crealm ∷ id.client.parts))) }
+{
+    let Some(blocks) = read_blocks(alloc, text)? else {
         return Ok(None);
     };
-    if blocks.len() < 2 {
-        return Ok(None);
-    }
-    let times = blocks.remove(0);
-    let crealm = blocks.remove(0);
-    match read_times(times.as_slice()) {
-        Some((ctime, cusec)) => Ok(Some(RequestId {
-            ctime,
-            cusec,
-            crealm,
-            client: Name {
-                parts: Items::of(blocks),
-            },
-        })),
-        None => Ok(None),
+    match blocks.as_slice() {
+        [times, crealm, parts @ ..] => id_with(alloc, times.as_slice(), crealm, parts),
+        _ => Ok(None),
     }
 }
 
+// The id with these blocks.
+fn id_with(
+    alloc: Global,
+    times: &[u8],
+    crealm: &Items<u8>,
+    parts: &[Items<u8>],
+) -> Result<Option<RequestId>, AllocError>
+    ensures value { IfOk result (λ found. MatchOption found
+        (length times.now ≢ 12)
+        (λ id. (times.now ≡ times_bytes id.ctime id.cusec) × (id.crealm ≡ crealm.now) × (id.client.parts ≡ parts.now))) }
+{
+    let Some((ctime, cusec)) = read_times(times) else {
+        return Ok(None);
+    };
+    Ok(Some(RequestId {
+        ctime,
+        cusec,
+        crealm: crealm.clone()?,
+        client: Name {
+            parts: Items::of(copied(alloc, parts)?),
+        },
+    }))
+}
+
+fn copied(alloc: Global, parts: &[Items<u8>]) -> Result<Vec<Items<u8>>, AllocError>
+    ensures value { IfOk result (λ copies. copies.items ≡ parts.now) }
+{
+    let mut copies = Vec::with_capacity(alloc, parts.len())?;
+    for part in parts {
+        copies.push(part.clone()?)?;
+    }
+    Ok(copies)
+}
+
 // An id's ctime and cusec.
-fn read_times(bytes: &[u8]) -> Option<(i64, u32)> {
+fn read_times(bytes: &[u8]) -> Option<(i64, u32)>
+    ensures value { MatchOption result
+        (length bytes.now ≢ 12)
+        (λ times. bytes.now ≡ times_bytes times.0 times.1) }
+{
     if bytes.len() != TIMES_BYTES {
         return None;
     }
     let (ctime, cusec) = bytes.split_at(8);
-    let mut number = [0; 4];
-    number.copy_from_slice(cusec);
-    Some((signed_in(ctime), u32::from_be_bytes(number)))
+    Some((signed_in(ctime), short_in(cusec)))
 }

@@ -59,30 +59,50 @@ fn put(text: &mut Vec<u8>, bytes: &[u8]) -> Result<(), WriteFault>
 fn put_state(alloc: Global, text: &mut Vec<u8>, resume: &Resume) -> Result<(), WriteFault>
     ensures value { OnOk result (text.new.items ≡ text.old.items ++ block (state_text resume.now)) }
 {
-    let mut state = Vec::from_slice(alloc, &resume.journal.length.to_be_bytes())?;
-    state.extend_from_slice(&resume.journal.sum)?;
-    state.extend_from_slice(&resume.carried.clock.to_be_bytes())?;
-    state.extend_from_slice(&resume.carried.quiet_until.to_be_bytes())?;
+    let state = state_of(alloc, resume)?;
     put(text, &state)
+}
+
+fn state_of(alloc: Global, resume: &Resume) -> Result<Vec<u8>, AllocError>
+    ensures value { IfOk result (λ state. state.items ≡ state_text resume.now) }
+{
+    let length = resume.journal.length.to_be_bytes();
+    let clock = resume.carried.clock.to_be_bytes();
+    let quiet_until = resume.carried.quiet_until.to_be_bytes();
+    let mut state = Vec::from_slice(alloc, &length)?;
+    state.extend_from_slice(&resume.journal.sum)?;
+    state.extend_from_slice(&clock)?;
+    state.extend_from_slice(&quiet_until)?;
+    Ok(state)
 }
 
 // Adds a used id.
 fn put_id(alloc: Global, text: &mut Vec<u8>, id: &RequestId) -> Result<(), WriteFault>
     ensures value { OnOk result (text.new.items ≡ text.old.items ++ block (id_text id.now)) }
 {
+    let blocks = id_of(alloc, id)?;
+    put(text, &blocks)
+}
+
+fn id_of(alloc: Global, id: &RequestId) -> Result<Vec<u8>, WriteFault>
+    ensures value { IfOk result (λ text. text.items ≡ id_text id.now) }
+{
+    let times = times_of(alloc, id)?;
     let mut blocks = Vec::new(alloc);
-    put_times(alloc, &mut blocks, id)?;
+    put(&mut blocks, &times)?;
     put(&mut blocks, id.crealm.as_slice())?;
     for part in id.client.parts.as_slice() {
         put(&mut blocks, part.as_slice())?;
     }
-    put(text, &blocks)
+    Ok(blocks)
 }
 
-fn put_times(alloc: Global, text: &mut Vec<u8>, id: &RequestId) -> Result<(), WriteFault>
-    ensures value { OnOk result (text.new.items ≡ text.old.items ++ block (times_bytes id.now.ctime id.now.cusec)) }
+fn times_of(alloc: Global, id: &RequestId) -> Result<Vec<u8>, AllocError>
+    ensures value { IfOk result (λ times. times.items ≡ times_bytes id.now.ctime id.now.cusec) }
 {
-    let mut times = Vec::from_slice(alloc, &id.ctime.to_be_bytes())?;
-    times.extend_from_slice(&id.cusec.to_be_bytes())?;
-    put(text, &times)
+    let ctime = id.ctime.to_be_bytes();
+    let cusec = id.cusec.to_be_bytes();
+    let mut times = Vec::from_slice(alloc, &ctime)?;
+    times.extend_from_slice(&cusec)?;
+    Ok(times)
 }

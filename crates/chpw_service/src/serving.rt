@@ -120,14 +120,10 @@ pub fn serve_by<
         options.existing_journal,
         &mut clock,
     )?;
-    let Resumption { table, set_aside } = resume_where_asked(
-        rt,
-        &options,
-        clock.now(),
-        table,
-        sink.file(),
-        cut_at.is_some(),
-    )?;
+    let start = clock.now();
+    let is_cut = cut_at.is_some();
+    let resumption = resume_where_asked(rt, &options, start, table, sink.file(), is_cut)?;
+    let Resumption { table, set_aside } = resumption;
     let journal = journal_length(rt.alloc(), options.journal, &mut sink)?;
     if let Some(kept) = cut_at {
         log.tell(Notice::TailCut(options.journal, kept));
@@ -140,7 +136,7 @@ pub fn serve_by<
     tell_quiet(rt.alloc(), &log, since, &table);
     let kdc = kdc_side(rt, &options, &table, names);
     let opening = first_opening(table, sink, options.workers);
-    let start = Start {
+    let service = Start {
         options: &options,
         terms: terms_of(&options, seed),
         log: &log,
@@ -152,7 +148,7 @@ pub fn serve_by<
         since: time_of(since),
         workers: options.workers,
     };
-    let ended = serve_opened::<Brand, R, T>(rt, time, start, control, rules, opening, &mut clock);
+    let ended = serve_opened::<Brand, R, T>(rt, time, service, control, rules, opening, &mut clock);
     notify_stopping(rt);
     take_away(rt, options.control);
     log.end(clock.now());

@@ -10,11 +10,14 @@ use Rattle.chpw_resume.specs.declared.reading.ResumeFault.TheVariants.{Unknown, 
 use Rattle.chpw_resume.specs.declared.resume.Resume.{Resume}
 use Rattle.chpw_table.specs.Agreement.{Agrees, Held}
 use Rattle.chpw_table.specs.Resuming.{resumed}
+use Rattle.chpw_table.specs.Times.{IsTime}
 use Rattle.chpw_table.specs.declared.table.resuming.Carried.{Carried}
 use Rattle.chpw_start.specs.Faults.{IsOfJournal, IsUnread}
 use Rattle.chpw_start.specs.Modes.{words_of}
 use Rattle.chpw_start.specs.declared.fault.ServeFault.{ServeFault}
 use Rattle.chpw_start.specs.declared.fault.ServeFault.TheVariants.{CannotWrite}
+use Rattle.chpw_start.specs.declared.resuming.Found.{Found}
+use Rattle.chpw_start.specs.declared.resuming.Found.TheVariants.{Nothing, Unfit, Fit}
 use Rattle.chpw_start.specs.declared.resuming.SetAside.{SetAside}
 use Rattle.chpw_start.specs.declared.resuming.SetAside.TheVariants.{Exposed, Unread, TooLong, Fault, Misfit}
 
@@ -36,11 +39,20 @@ abbrev pub IsTakenOver : ℤ → Held → Option Carried → Held → Type 0
 IsTakenOver start before None next = next ≡ before
 IsTakenOver start before (Some left) next = IsLeft before.state.fixed.realm start left × TakesOver before left next
 
+-- what stands at the path of a resume file, for a start of this realm at this time: where it fits, what it leaves
+abbrev pub IsFound : List ℕ → ℤ → Found → Type 0
+IsFound realm start Nothing = Unit {0}
+IsFound realm start (Unfit why) = Unit {0}
+IsFound realm start (Fit left) = IsLeft realm start left × IsTime left.clock
+
 -- the fault of the resume file at a path: it is none that can be read, or it can't be removed
+abbrev pub IsAtResume : List ℕ → ServeFault → Type 0
+IsAtResume path (CannotWrite file) = file.now ≡ path
+IsAtResume path fault = IsUnread path fault
+
 abbrev pub IsOfResume : Option (Bor (List ℕ)) → ServeFault → Type 0
 IsOfResume None fault = ⊥
-IsOfResume (Some path) (CannotWrite file) = file.now ≡ path.now
-IsOfResume (Some path) fault = IsUnread path.now fault
+IsOfResume (Some path) fault = IsAtResume path.now fault
 
 -- or that of the journal, whose end can't be read
 abbrev pub IsOfResumption : ServeOptions → ServeFault → Type 0

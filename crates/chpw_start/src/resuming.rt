@@ -1,6 +1,7 @@
 //! What a start takes over of the run before it: the resume file that a clean end left.
-ghost use Rattle.std.specs.Prelude.{◌≡◌, IfErr, IfOk, None, Option};
-ghost use Rattle.chpw_start.specs.Resuming.{IsOfResumption, IsTakenOver};
+ghost use Rattle.std.specs.Prelude.{◌≡◌, ℕ, ℤ, List, IfErr, IfOk, None, Option};
+ghost use Rattle.chpw_start.specs.Faults.{IsUnread};
+ghost use Rattle.chpw_start.specs.Resuming.{IsAtResume, IsFound, IsOfResumption, IsTakenOver};
 ghost use Rattle.chpw_table.specs.declared.table.resuming.Carried.{Carried as Left};
 
 use crate::bounded::read_at_most;
@@ -16,9 +17,8 @@ use chpw_resume::{
 };
 use chpw_table::{Carried, Moment, Table};
 use std::alloc::{AllocError, Global};
-use std::fmt;
 use std::fs::{self, File, Files};
-use std::io;
+use std::{fmt, io};
 
 /// Why a resume file is set aside, as if it weren't there; displayed in words.
 #[derive(Clone, Copy, Drop)]
@@ -46,7 +46,9 @@ impl fmt::Display for SetAside {
             SetAside::Exposed(why) => write!(f, "{why}"),
             SetAside::Unread => f.write_str("it can't be read"),
             SetAside::TooLong => f.write_str("it is too long"),
-            SetAside::Fault(ResumeFault::Unknown) => f.write_str("it is no resume file of this version"),
+            SetAside::Fault(ResumeFault::Unknown) => f.write_str(
+                "it is no resume file of this version",
+            ),
             SetAside::Fault(ResumeFault::Damaged) => f.write_str("it is damaged"),
             SetAside::Misfit(Misfit::Realm) => f.write_str("it is of another realm"),
             SetAside::Misfit(Misfit::Journal) => f.write_str("the journal is not as it was left"),
@@ -64,7 +66,7 @@ pub struct Resumption {
 
 /// What is at the path of a resume file.
 #[derive(Drop)]
-enum Found {
+pub(crate) enum Found {
     Nothing,
     Unfit(SetAside),
     Fit(Carried),
@@ -99,7 +101,7 @@ pub fn resume_where_asked<'a, R: Files<File = File> + AllocGlobal>(
     };
     let found = found_at(rt, path, table.realm(), &mark, start)?;
     let found = if is_cut { as_cut(found) } else { found };
-    take_over(rt, path, table, found)
+    take_over(rt, path, table, found, start)
 }
 
 // Refuses a resume file that is another file of the start, by whatever name; or that would be one on its way to its name.
@@ -107,11 +109,18 @@ fn keep_from_others<'a, R: Files + AllocGlobal>(
     rt: &R,
     options: &ServeOptions<'a>,
     path: &'a str,
-) -> Result<(), ServeFault<'a>> {
+) -> Result<(), ServeFault<'a>>
+    ensures fault { IfErr result (IsAtResume path.now) }
+{
     let Ok(beside) = beside(rt.alloc(), path) else {
         return Err(ServeFault::Memory);
     };
-    for file in [options.config, options.seed, options.journal, options.log.unwrap_or("-")] {
+    for file in [
+        options.config,
+        options.seed,
+        options.journal,
+        options.log.unwrap_or("-"),
+    ] {
         let place = place_of(rt, file);
         if is_one(place, place_of(rt, path)) || is_one(place, place_of(rt, beside.as_str())) {
             return Err(ServeFault::CannotWrite(path));
@@ -121,7 +130,9 @@ fn keep_from_others<'a, R: Files + AllocGlobal>(
 }
 
 // A journal with a torn record is longer than the one that was left.
-fn as_cut(found: Found) -> Found {
+fn as_cut(found: Found) -> Found
+    ensures found { (realm : List ℕ) → (start : ℤ) → IsFound realm start result }
+{
     match found {
         Found::Fit(_) => Found::Unfit(SetAside::Misfit(Misfit::Journal)),
         found => found,
@@ -134,7 +145,12 @@ fn take_over<'a, R: Files<File = File> + AllocGlobal>(
     path: &'a str,
     table: Table,
     found: Found,
-) -> Result<Resumption, ServeFault<'a>> {
+    start: Moment,
+) -> Result<Resumption, ServeFault<'a>>
+    requires found { IsFound table.state.fixed.realm start.seconds found }
+    ensures taken { IfOk result (λ r. (left : Option Left) × IsTakenOver start.seconds table left r.table) }
+    ensures fault { IfErr result (IsAtResume path.now) }
+{
     match found {
         Found::Nothing => Ok(Resumption {
             table,
@@ -161,7 +177,9 @@ fn take_over<'a, R: Files<File = File> + AllocGlobal>(
 }
 
 // Removes the file at a path, and syncs its folder.
-fn remove<'a, R: Files<File = File>>(rt: &R, path: &'a str) -> Result<(), ServeFault<'a>> {
+fn remove<'a, R: Files<File = File>>(rt: &R, path: &'a str) -> Result<(), ServeFault<'a>>
+    ensures fault { IfErr result (IsAtResume path.now) }
+{
     let removed = match fs::remove_file(rt, path) {
         Ok(()) => synced_folder(rt, path),
         Err(error) => Err(error),
@@ -183,7 +201,10 @@ fn found_at<'a, R: Files<File = File> + AllocGlobal>(
     realm: &[u8],
     journal: &JournalMark,
     start: Moment,
-) -> Result<Found, ServeFault<'a>> {
+) -> Result<Found, ServeFault<'a>>
+    ensures found { IfOk result (IsFound realm.now start.seconds) }
+    ensures fault { IfErr result (IsAtResume path.now) }
+{
     match kind_of(rt, path) {
         Kind::Missing => return Ok(Found::Nothing),
         Kind::File => {}
@@ -208,7 +229,9 @@ fn found_at<'a, R: Files<File = File> + AllocGlobal>(
 fn text_at<'a, R: Files<File = File> + AllocGlobal>(
     rt: &R,
     path: &'a str,
-) -> Result<Option<Vec<u8>>, ServeFault<'a>> {
+) -> Result<Option<Vec<u8>>, ServeFault<'a>>
+    ensures fault { IfErr result (IsUnread path.now) }
+{
     let mut file = open_file(rt, path)?;
     match read_at_most(rt.alloc(), &mut file, LONGEST_RESUME) {
         Ok(found) => Ok(found),
@@ -223,7 +246,9 @@ fn judged(
     realm: &[u8],
     journal: &JournalMark,
     start: Moment,
-) -> Result<Found, AllocError> {
+) -> Result<Found, AllocError>
+    ensures found { IfOk result (IsFound realm.now start.seconds) }
+{
     match read_resume(alloc, text)? {
         Err(fault) => Ok(Found::Unfit(SetAside::Fault(fault))),
         Ok(resume) => match first_misfit(&resume, realm, journal, start.seconds) {

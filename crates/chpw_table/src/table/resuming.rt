@@ -67,11 +67,7 @@ impl Table {
 }
 
 // The ids in a tree, but for those too old to be judged.
-fn tree_of(
-    alloc: Global,
-    ids: Vec<RequestId>,
-    clock: i64,
-) -> Result<KeyTree<RequestId>, AllocError>
+fn tree_of(alloc: Global, ids: Vec<RequestId>, clock: i64) -> Result<KeyTree<RequestId>, AllocError>
     requires few { length ids.items ≤ 2 ^ 31 }
     ensures holds { IfOk result (λ used. HoldsIds clock ids.items used) }
 {
