@@ -12,6 +12,7 @@ import shlex
 import container
 import mit
 import root
+import steps
 
 ADMIN = pathlib.Path(__file__).resolve().parent.parent / "docs/ADMIN.md"
 LOG, CHECK = "/var/log/boddrelyn/log", "boddrelyn-check"
@@ -19,21 +20,26 @@ STATUS = "runuser -u boddrelyn -- chpw_server control --socket /run/boddrelyn/co
 TABLE = "chpw_server table --config /etc/boddrelyn/realm.toml --journal /var/lib/boddrelyn/journal"
 # somebody else at the port
 OTHER = "perl -MIO::Socket::INET -e '$it = IO::Socket::INET->new(LocalAddr => \"127.0.0.1:464\", Listen => 1) or die; sleep 100'"
+# kadmind's socket at port 464 of every address, as the system tells it
+KADMIND = "00000000:01D0 00000000:0000 0A"
 # an address that others could ask
 ADDRESS = "printf '[Match]\\nName=lo\\n[Network]\\nAddress=10.9.0.1/32\\n' > /etc/systemd/network/lo.network; systemctl start systemd-networkd"
+# a client whose clock is ahead of a quiet time, but for what names a configuration of its own
+AHEAD = "export LD_PRELOAD=/opt/try/ahead.so KRB5_CONFIG=/etc/krb5-ahead.conf; sleep 4; "
 FORWARDED = "sed 's/127.0.0.1:464/10.9.0.1:464/' /etc/krb5.conf > /opt/try/other.conf"
 
 
 @dataclasses.dataclass(frozen=True)
 class Block:
     """The block of that number below a heading: where it is run, what is typed, what is done before it, and, by name, the
-    commands that have to succeed after it."""
+    commands that have to succeed after it. `ahead` is for one in a quiet time: it and they run with a clock that is ahead."""
 
     heading: str
     number: int = 0
     folder: str = "/root"
     typed: str = ""
     before: str = ""
+    ahead: bool = False
     after: dict = dataclasses.field(default_factory=dict)
 
 
@@ -84,7 +90,9 @@ BLOCKS = (
         "with status 2": f'sh -c "{CHECK}; [ \\$? = 2 ]"',
         "and no longer": f"systemctl start boddrelyn-agent-mit; {waits(CHECK)}",
     }),
-    Block("Back up", before=f"{TABLE} > /opt/try/table", after={"the copies are root's alone": "sh -c '[ $(stat -c %a /var/backups/boddrelyn/journal) = 600 ]'"}),
+    Block("Back up", before=f"{TABLE} > /opt/try/table", after={
+        "the copies are root's alone": "sh -c '[ $(stat -c %a /var/backups/boddrelyn/journal) = 600 ]'",
+    }),
     Block("Back up", 1, before="systemctl stop boddrelyn; rm /etc/boddrelyn/realm.toml; runuser -u boddrelyn -- rm /var/lib/boddrelyn/journal", after={
         "the table is back": f"{TABLE} | diff /opt/try/table -", "it runs": waits(f"{STATUS} | grep -x 'kdc connected'"),
     }),
@@ -101,7 +109,8 @@ BLOCKS = (
           after={"it says why": "grep 'port 464: in use' /opt/try/printed"}),
     Block("A start failed", 1, before="kill $other; wait $other", after={"it runs": waits(f"{STATUS} | grep -x ok")}),
     Block("Go back to kadmind", after={
-        "the service is gone": "none pidof chpw_server", "kpasswd at kadmind": "wait_for grep '00000000:01D0 00000000:0000 0A' /proc/net/tcp; changed alice Newest-pass1 Kadmind-pass1",
+        "the service is gone": "none pidof chpw_server", "it listens": f"wait_for grep '{KADMIND}' /proc/net/tcp",
+        "kpasswd at kadmind": "changed alice Newest-pass1 Kadmind-pass1",
         "kvno goes on": "kadmin.local getprinc alice | grep 'Key: vno 5,'",
     }),
 )
@@ -131,10 +140,12 @@ def script(texts, where):
             where.path(f"/opt/try/{kind}-{count}").write_text(words)
         # a monitor asks where it is told
         lines += [block.before] if block.before else []
-        lines.append(f"run() {{ cd {block.folder}; sh -eu /opt/try/block-{count} < /opt/try/typed-{count} > /opt/try/printed 2>&1 || {{ cat /opt/try/printed; return 1; }}; cd /root; }}")
+        clock = AHEAD if block.ahead else ""
+        words = f"sh -eu /opt/try/block-{count} < /opt/try/typed-{count} > /opt/try/printed 2>&1"
+        lines.append(f"run() ( {clock}cd {block.folder}; {words} || {{ cat /opt/try/printed; exit 1; }} )")
         lines.append(f"check {shlex.quote(name)} run")
         for what, command in block.after.items():
-            lines += [f"after() {{ {command}; }}", f"check {shlex.quote(f'{name}: {what}')} after"]
+            lines += [f"after() ( {clock}{command} )", f"check {shlex.quote(f'{name}: {what}')} after"]
     return "\n".join([*lines, 'echo "systemd: the end"', ""])
 
 
@@ -145,6 +156,7 @@ def run(cache, put, report, keep):
     report.tell("ADMIN: each block is run, and each that is run is there", sorted(texts), sorted(named))
     with root.Root("mit", cache, keep) as where:
         print("-- the tasks of ADMIN", flush=True)
+        steps.compile_ahead(where.path("/opt/try"))
         put(where, mit)
         realm = mit.Realm(where)
         realm.write()
