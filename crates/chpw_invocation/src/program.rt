@@ -16,7 +16,7 @@ use crate::options::{
 use clap::Command;
 use std::alloc::{AllocError, Global};
 
-/// The version that `-V` and `status` print.
+/// The version that `status` prints.
 pub const VERSION: &str = "0.2";
 
 // What `--version` prints: the version, and the toolchain by which the program is proved and compiled. `tools/documents`
@@ -400,8 +400,7 @@ fn leading<'a>(alloc: Global) -> Command<'a>
     Command::new(alloc, "chpw_server")
         .about(ABOUT)
         .after_help(STATUSES)
-        .version(VERSION)
-        .long_version(LONG_VERSION)
+        .version(LONG_VERSION)
         .subcommand_required(true)
         .arg_required_else_help(true)
 }

@@ -20,7 +20,7 @@ const LINES: [(&str, &str); 75] = [
     ("--help", "Usage"),
     ("help client", "Usage"),
     ("--version", "chpw_server 0.2\ntoolchain rattle-kit-13 logic"),
-    ("-V", "chpw_server 0.2\n"),
+    ("-V", "chpw_server 0.2\ntoolchain"),
     // the service: each value of a whole line, and each bound
     (
         "serve --config realm.toml --journal journal --seed seed --port 464 --workers 4 --connections 1000 \
