@@ -16,8 +16,12 @@ use crate::options::{
 use clap::Command;
 use std::alloc::{AllocError, Global};
 
-/// The version that `--version` and `status` print.
-pub const VERSION: &str = "0.1";
+/// The version that `status` prints.
+pub const VERSION: &str = "0.2";
+
+// What `--version` prints: the version, and the toolchain by which the program is proved and compiled. `tools/documents`
+// compares both with the documents.
+const LONG_VERSION: &str = "0.2\ntoolchain rattle-kit-13 logic dac8208d650f15bf";
 
 const ABOUT: &str = "The Kerberos change-password service kadmin/changepw (RFC 3244).";
 
@@ -41,7 +45,8 @@ const CHECK: &str = "Check a configuration, and print its first fault.";
 const CHECK_MORE: &str = "\
 Prints 'ok: principals N, rules N, service keys N' with status 0, or the first fault as kind, part and
 index, such as 'C4 policy 0', with status 1; then standard error says where it is and what was
-expected.
+expected. Settings that nothing reads, rules whose names are no principal's, and rules for everybody are
+named on standard error, too; they don't change the status.
 
 Example:
   chpw_server check --config samples/realm.toml";
@@ -435,7 +440,7 @@ fn leading<'a>(alloc: Global) -> Command<'a>
     Command::new(alloc, "chpw_server")
         .about(ABOUT)
         .after_help(STATUSES)
-        .version(VERSION)
+        .version(LONG_VERSION)
         .subcommand_required(true)
         .arg_required_else_help(true)
 }

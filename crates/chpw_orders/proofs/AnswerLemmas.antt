@@ -14,10 +14,12 @@ text_or_empty items (Ok t) text given is same empty = inr (same ∙ is)
 text_or_empty items (Err e) text given is same empty = inl empty
 
 -- the lines of warnings, then those of names, and `ok`
-pub reloaded_text : (warnings : List Warning) (lacked : List Name) (warned named all : List ℕ)
-    → warned ≡ [] ++ lines_text (map warning_line warnings) → named ≡ warned ++ lines_text (map lacked_line lacked)
+pub reloaded_text : (warnings : List Warning) (lacked : List Name) (start warned named all : List ℕ) → start ≡ []
+    → warned ≡ start ++ lines_text (map warning_line warnings) → named ≡ warned ++ lines_text (map lacked_line lacked)
     → all ≡ named ++ lines_text (ok_line ∷ []) → all ≡ lines_text (reloaded_lines warnings lacked)
-reloaded_text warnings lacked warned named all e f g =
+reloaded_text warnings lacked start warned named all empty begun f g =
+    let e : warned ≡ lines_text (map warning_line warnings)
+    = begun ∙ ap (λ (xs : List ℕ). xs ++ lines_text (map warning_line warnings)) empty in
     let w : List (List ℕ) = map warning_line warnings in
     let l : List (List ℕ) = map lacked_line lacked in
     let here : all ≡ (lines_text w ++ lines_text l) ++ lines_text (ok_line ∷ [])
