@@ -19,9 +19,10 @@ returns-clause-shape c =
     ∷ c.optional_number-4.ensures.rule i
     ∷ c.optional.ensures.rule i
     ∷ c.optional-2.ensures.rule i
+    ∷ c.optional-3.ensures.rule i
     ∷ c.optional_number-5.ensures.rule i
     ∷ c.flag.ensures.rule i
-    ∷ c.optional-3.ensures.rule i
+    ∷ c.optional-4.ensures.rule i
     ∷ c.flag-2.ensures.rule i
     ∷ c.flag-3.ensures.rule i
     ∷ c.flag-4.ensures.rule i
