@@ -139,7 +139,8 @@ impl fmt::Display for Notice<'_> {
             Notice::Quiet(time) => {
                 write!(
                     f,
-                    "quiet until {time}: requests are refused as clock skew until then, since some may have been answered before this start; the clients' clocks are not at fault"
+                    "quiet until {time}: requests are refused as clock skew until then, since some may have been answered before this \
+                    start; the clients' clocks are not at fault"
                 )
             }
         }
