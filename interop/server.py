@@ -29,6 +29,8 @@ class Server:
         self.options = list(options)
         # the lines that it printed before it listened
         self.said = []
+        # the lines in which it told, of its start, until when it is quiet
+        self.quiet = []
         [self.port] = free_ports(1)
         private(self.seed).write_bytes(os.urandom(32))
         self.process = None
@@ -89,7 +91,9 @@ class Server:
         except subprocess.TimeoutExpired:
             self.end()
             return "nothing: it waits for connections"
-        return (out + errors).strip()
+        lines = errors.splitlines()
+        self.quiet = [it for it in lines if it.startswith("quiet until ")]
+        return "\n".join([*out.splitlines(), *(it for it in lines if it not in self.quiet)]).strip()
 
     def stop(self, number):
         """Sends it the signal; how it ended, as the shell says it."""

@@ -43,6 +43,7 @@ new_pid() { [ "$(pid "$1")" != "$2" ] && [ "$(pid "$1")" != 0 ]; }
 wait_for() { for _ in $(seq 100); do "$@" > /dev/null 2>&1 && return 0; sleep 0.2; done; "$@"; }
 files() { find /etc/boddrelyn /var/lib/boddrelyn /var/log/boddrelyn /run/boddrelyn /run/boddrelyn-agent -printf '%M %u:%g %p\n' | sort > /opt/try/found; diff /opt/try/files /opt/try/found; }
 none() { ! "$@"; }
+is_quiet_no_more() { for _ in $(seq 70); do status "quiet-until -" && return 0; sleep 5; done; return 1; }
 status() { chpw_server control --socket /run/boddrelyn/control status | grep -x "$1"; }
 """
 SCRIPT = HELPERS + r"""
@@ -58,7 +59,7 @@ sh -eu /opt/try/first > /opt/try/said 2>&1
 check "README.Debian: import and check" grep "ok: principals 0" /opt/try/said
 check "port 464 is taken: it says so" says $S "port 464: in use"
 check "port 464 is taken: it is given up" wait_for is $S Result exit-code
-systemctl stop $S; rm -f $J
+systemctl stop $S
 sed -i "s/# here/$(cat /opt/try/gives-up)/" /etc/krb5kdc/kdc.conf
 check "kadmind gives it up" systemctl restart krb5-admin-server
 systemctl reset-failed $S
@@ -70,6 +71,7 @@ check "the agent runs" says $F "listening"
 check "the service has found it" wait_for status "kdc connected"
 check "the KDC's users are the service's" wait_for sh -c "chpw_server table --config /etc/boddrelyn/realm.toml --journal $J | grep '^alice kvno 1 '"
 check "the files are those of the start by hand" files
+check "the quiet time ends" is_quiet_no_more
 check "kpasswd" changed alice Old-pass1 New-pass1
 check "kinit, at once" logs_in alice New-pass1
 check "the KDC has it" status "kdc-behind 0"

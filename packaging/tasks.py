@@ -54,7 +54,7 @@ BLOCKS = (
         "the KDC's users are the service's": waits(f"{TABLE} | grep '^bob kvno 1 '"),
         "there is no rule": "chpw_server check --config /etc/boddrelyn/realm.toml",
     }),
-    Block("From nothing to a running realm", 1, typed="Old-pass1\nNew-pass1\nNew-pass1\nNew-pass1\n", after={
+    Block("From nothing to a running realm", 1, before="is_quiet_no_more", typed="Old-pass1\nNew-pass1\nNew-pass1\nNew-pass1\n", after={
         "kpasswd": "grep 'Password changed' /opt/try/printed", "a ticket": "klist -s",
     }),
     Block("Let in users of other hosts", before=ADDRESS, after={
@@ -97,7 +97,7 @@ BLOCKS = (
         "the table is back": f"{TABLE} | diff /opt/try/table -", "it runs": waits(f"{STATUS} | grep -x 'kdc connected'"),
     }),
     Block("Start a new journal", after={
-        "the table stays": f"{TABLE} | sed '$d' | diff - /opt/try/principals", "the journal is empty": f"{TABLE} | tail -n 1 | grep 'changes 0'",
+        "the table stays": f"{TABLE} | sed '$d' | diff - /opt/try/principals", "the journal is new": f"{TABLE} | tail -n 1 | grep 'changes 0'",
         "it runs": waits(f"{STATUS} | grep -x 'kdc connected'"),
     }, before="sed '$d' /opt/try/table > /opt/try/principals"),
     Block("Upgrade", folder="/opt/try/1", after={

@@ -52,7 +52,7 @@ def of_source():
     line = re.compile(rf'\b({"|".join(kinds)})\(\s*"([\w-]+)",\s*([^()]*?),?\s*\)')
     commands = {}
     for body in re.split(r"\nfn ", source)[1:]:
-        found = re.search(r'command_with\(\s*alloc,\s*"(\w+)"', body)
+        found = re.search(r'command_with\(\s*alloc,\s*"([\w-]+)"', body)
         if found:
             options = {}
             for kind, name, words in line.findall(body):
@@ -137,7 +137,7 @@ def default_of(text):
 def synopses(body):
     """Of each command in a synopsis the options with their values, and whether they are needed."""
     for part in re.split(r"^\.Nm$", body, flags=re.MULTILINE)[1:]:
-        command = re.search(r"^\.Cm (\w+)", part, re.MULTILINE)
+        command = re.search(r"^\.Cm ([\w-]+)", part, re.MULTILINE)
         options = {}
         for optional, name, value, word in re.findall(r"^\.(Op )?(?:Fl -([\w-]+)(?: Ar (\w+))?|Ar (\w+))$", part, re.MULTILINE):
             options[f"--{name}" if name else word] = (value, not optional)

@@ -55,7 +55,7 @@ of_serve options refusal (inr (inr (inr (inr (inr r))))) = absurd (differ (codes
 
 -- the flag of a service whose KDC has to be in reach is given once
 pub flag_suits : (options : List Row) → Meets serve options → Suits (filled (flag (codes "require-kdc"))) options
-flag_suits options whole = whole.1.1.1.1.1.1.1.1.1.1.1.1.1.0
+flag_suits options whole = whole.1.1.1.1.1.1.1.1.1.1.1.1.1.1.0
 
 pub client_refused : (asked : Option (Text × List Row)) (options : List Row) (refusal : Refusal) → asked ≡ Some (codes "client", options)
     → (Suits (filled (flag (codes "old"))) options → (r : Refusal) → RefusesClient options r → RefusesClient options refusal)

@@ -23,8 +23,9 @@ use Rattle.chpw_invocation.specs.declared.invocation.ServeOptions.{ServeOptions}
 use Rattle.chpw_invocation.specs.declared.invocation.ImportOptions.{ImportOptions}
 use Rattle.chpw_invocation.specs.declared.invocation.KdcOptions.{KdcOptions}
 use Rattle.chpw_invocation.specs.declared.invocation.KeyOptions.{KeyOptions}
+use Rattle.chpw_invocation.specs.declared.invocation.NewJournalOptions.{NewJournalOptions}
 use Rattle.chpw_invocation.specs.declared.invocation.Invocation.{Invocation}
-use Rattle.chpw_invocation.specs.declared.invocation.Invocation.TheVariants.{Drill, Check, Table, Import, ImportKdc, Key, Serve, Control, Client}
+use Rattle.chpw_invocation.specs.declared.invocation.Invocation.TheVariants.{Drill, Check, Table, Import, ImportKdc, Key, NewJournal, Serve, Control, Client}
 use Rattle.chpw_invocation.specs.declared.invocation.PasswordSource.{PasswordSource}
 use Rattle.chpw_invocation.specs.declared.invocation.PasswordSource.TheVariants as source
 use Rattle.chpw_invocation.specs.declared.invocation.TableForm.{TableForm}
@@ -126,6 +127,10 @@ pub record AsksKey (options : List Row) (asked : KeyOptions) : Type 0 where
   pub iterations : HasNumberOr 4096 1 16777216 options (codes "iterations") asked.iterations
   pub kvno : HasNumberOr 1 1 4294967295 options (codes "kvno") asked.kvno
 
+pub record AsksNewJournal (options : List Row) (asked : NewJournalOptions) : Type 0 where
+  pub config : HasText options (codes "config") asked.config.now
+  pub journal : HasText options (codes "journal") asked.journal.now
+
 pub record AsksServe (options : List Row) (asked : ServeOptions) : Type 0 where
   pub config : HasText options (codes "config") asked.config.now
   pub journal : HasText options (codes "journal") asked.journal.now
@@ -138,6 +143,7 @@ pub record AsksServe (options : List Row) (asked : ServeOptions) : Type 0 where
   pub buffers : HasNumberOr 32 1 1024 options (codes "buffers") asked.buffers
   pub raise : MayHaveNumber 1 16777216 options (codes "raise") asked.raise
   pub log : option_map (λ file. file.now) asked.log ≡ first_of (codes "log") options
+  pub resume : option_map (λ file. file.now) asked.resume ≡ first_of (codes "resume") options
   pub kdc : option_map (λ socket. socket.now) asked.kdc ≡ first_of (codes "kdc") options
   pub kdc_wait : HasNumberOr 2000 1 60000 options (codes "kdc-wait") asked.kdc_wait
   pub require_kdc : IsGiven options (codes "require-kdc") asked.require_kdc
@@ -146,6 +152,7 @@ pub record AsksServe (options : List Row) (asked : ServeOptions) : Type 0 where
   pub rfc3244_only : IsGiven options (codes "rfc3244-only") asked.rfc3244_only
   pub strict_messages : IsGiven options (codes "strict-messages") asked.strict_messages
   pub strict_modes : IsGiven options (codes "strict-modes") asked.strict_modes
+  pub existing_journal : IsGiven options (codes "existing-journal") asked.existing_journal
 
 pub record AsksControl (options : List Row) (asked : ControlOptions) : Type 0 where
   pub socket : HasText options (codes "socket") asked.socket.now
@@ -196,6 +203,7 @@ AsksFor (Some p) (Table asked) = (p.0 ≡ codes "table") × AsksTable p.1 asked
 AsksFor (Some p) (Import asked) = (p.0 ≡ codes "import") × AsksImport p.1 asked
 AsksFor (Some p) (ImportKdc asked) = (p.0 ≡ codes "import") × AsksKdc p.1 asked
 AsksFor (Some p) (Key asked) = (p.0 ≡ codes "key") × AsksKey p.1 asked
+AsksFor (Some p) (NewJournal asked) = (p.0 ≡ codes "new-journal") × AsksNewJournal p.1 asked
 AsksFor (Some p) (Serve asked) = (p.0 ≡ codes "serve") × AsksServe p.1 asked
 AsksFor (Some p) (Control asked) = (p.0 ≡ codes "control") × AsksControl p.1 asked
 AsksFor (Some p) (Client asked) = (p.0 ≡ codes "client") × AsksClient p.1 asked

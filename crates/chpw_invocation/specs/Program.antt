@@ -58,9 +58,17 @@ key = command (codes "key")
     ∷ kvno
     ∷ [])
 
+-- new-journal --config FILE --journal FILE
+abbrev pub new_journal : Shape
+new_journal = command (codes "new-journal")
+    (required (codes "config")
+    ∷ required (codes "journal")
+    ∷ [])
+
 -- serve --config FILE --journal FILE --seed FILE --port N --workers N --connections N [--idle SECONDS]
--- [--clients N] [--buffers MEBIBYTES] [--raise COUNT] [--log FILE] [--kdc SOCKET] [--kdc-wait MILLISECONDS]
--- [--require-kdc] [--control SOCKET] [--udp] [--rfc3244-only] [--strict-messages] [--strict-modes]
+-- [--clients N] [--buffers MEBIBYTES] [--raise COUNT] [--log FILE] [--resume FILE] [--kdc SOCKET]
+-- [--kdc-wait MILLISECONDS] [--require-kdc] [--control SOCKET] [--udp] [--rfc3244-only] [--strict-messages] [--strict-modes]
+-- [--existing-journal]
 abbrev pub serve : Shape
 serve = command (codes "serve")
     (required (codes "config")
@@ -74,6 +82,7 @@ serve = command (codes "serve")
     ∷ buffers
     ∷ raise
     ∷ optional (codes "log")
+    ∷ optional (codes "resume")
     ∷ optional (codes "kdc")
     ∷ kdc_wait
     ∷ flag (codes "require-kdc")
@@ -82,6 +91,7 @@ serve = command (codes "serve")
     ∷ flag (codes "rfc3244-only")
     ∷ flag (codes "strict-messages")
     ∷ flag (codes "strict-modes")
+    ∷ flag (codes "existing-journal")
     ∷ [])
 
 -- control --socket SOCKET COMMAND [FILE]
@@ -119,5 +129,5 @@ leading a = record a {
 
 abbrev pub program : App
 program = record (leading (alone (record (new_shape (codes "chpw_server")) { is_leaf = false }))) {
-  subs = drill ∷ check ∷ table ∷ import ∷ key ∷ serve ∷ control ∷ client ∷ [];
+  subs = drill ∷ check ∷ table ∷ import ∷ key ∷ new_journal ∷ serve ∷ control ∷ client ∷ [];
 }

@@ -116,6 +116,8 @@ pub struct ServeOptions<'a> {
     pub raise: Option<u32>,
     /// The file of the log, if there is one.
     pub log: Option<&'a str>,
+    /// The file that a clean end leaves for the next start, if there is one.
+    pub resume: Option<&'a str>,
     /// The socket of the agent at the KDC's database; without one keys go nowhere else, and no reply waits.
     pub kdc: Option<&'a str>,
     /// How many milliseconds the reply to a change waits for the KDC, 1 to [`LONGEST_KDC_WAIT`]; default
@@ -133,6 +135,8 @@ pub struct ServeOptions<'a> {
     pub strict_messages: bool,
     /// Whether a start is refused when others may read or write one of its files.
     pub strict_modes: bool,
+    /// Whether a start is refused when there is no journal.
+    pub existing_journal: bool,
     ghost some_workers: { (1 ≤ workers) × (workers ≤ 16) },
     ghost some_idle: { (1 ≤ idle) × (idle ≤ 3600) },
     ghost some_clients: { (1 ≤ clients) × (clients ≤ 65536) },
@@ -212,6 +216,15 @@ pub struct TableOptions<'a> {
     pub form: TableForm,
 }
 
+/// Which journal is made, and for which realm.
+#[derive(Clone, Copy, Drop)]
+pub struct NewJournalOptions<'a> {
+    /// The configuration's file, which has the realm.
+    pub config: &'a str,
+    /// The file that is made.
+    pub journal: &'a str,
+}
+
 /// The keytab that is imported.
 #[derive(Clone, Copy, Drop)]
 pub struct ImportOptions<'a> {
@@ -270,6 +283,8 @@ pub enum Invocation<'a> {
     ImportKdc(KdcOptions<'a>),
     /// Make the keys of a password.
     Key(KeyOptions<'a>),
+    /// Make a journal.
+    NewJournal(NewJournalOptions<'a>),
     /// Run the service.
     Serve(ServeOptions<'a>),
     /// Send a command to a running service.

@@ -10,9 +10,9 @@ mod refusing;
 pub use invocation::{
     ClientOptions, ConnectionLimit, ControlCommand, ControlOptions, GREATEST_COUNT, GREATEST_KVNO,
     GREATEST_PORT, ImportOptions, Invocation, KdcOptions, KeyOptions, LONGEST_IDLE,
-    LONGEST_KDC_WAIT, LONGEST_REALM, MOST_BUFFERS, MOST_CLIENTS, MOST_WORKERS, PasswordSource,
-    ServeOptions, TableForm, TableOptions, USUAL_BUFFERS, USUAL_CLIENTS, USUAL_COUNT, USUAL_IDLE,
-    USUAL_KDC_WAIT, USUAL_KVNO,
+    LONGEST_KDC_WAIT, LONGEST_REALM, MOST_BUFFERS, MOST_CLIENTS, MOST_WORKERS, NewJournalOptions,
+    PasswordSource, ServeOptions, TableForm, TableOptions, USUAL_BUFFERS, USUAL_CLIENTS,
+    USUAL_COUNT, USUAL_IDLE, USUAL_KDC_WAIT, USUAL_KVNO,
 };
 pub use matching::command_of;
 pub use program::VERSION;

@@ -20,9 +20,9 @@ ghost use Rattle.chpw_invocation.specs.Controls.{file_of, word_of};
 use crate::invocation::{
     ClientOptions, ConnectionLimit, ControlCommand, ControlOptions, GREATEST_COUNT, GREATEST_KVNO,
     GREATEST_PORT, ImportOptions, Invocation, KdcOptions, KeyOptions, LONGEST_IDLE,
-    LONGEST_KDC_WAIT, LONGEST_REALM, MOST_BUFFERS, MOST_CLIENTS, MOST_WORKERS, PasswordSource,
-    ServeOptions, TableForm, TableOptions, USUAL_BUFFERS, USUAL_CLIENTS, USUAL_COUNT, USUAL_IDLE,
-    USUAL_KDC_WAIT, USUAL_KVNO,
+    LONGEST_KDC_WAIT, LONGEST_REALM, MOST_BUFFERS, MOST_CLIENTS, MOST_WORKERS, NewJournalOptions,
+    PasswordSource, ServeOptions, TableForm, TableOptions, USUAL_BUFFERS, USUAL_CLIENTS,
+    USUAL_COUNT, USUAL_IDLE, USUAL_KDC_WAIT, USUAL_KVNO,
 };
 use crate::program::program as new_program;
 use crate::refusing::{Refusal, import_refusal, lacks_kdc, refusal_of};
@@ -65,6 +65,7 @@ fn asked_of<'a>(matches: &ArgMatches<'a>) -> Option<Invocation<'a>>
         "table" => table_of(options),
         "import" => import_of(options),
         "key" => key_of(options),
+        "new-journal" => new_journal_of(options),
         "serve" => serve_of(options),
         "control" => control_of(options),
         "client" => client_of(options),
@@ -168,6 +169,17 @@ fn realm_of<'a>(options: &ArgMatches<'a>) -> Option<&'a str>
     Some(realm)
 }
 
+#[tactic(auto, using(crate::proofs::NeedLemmas::required_there))]
+fn new_journal_of<'a>(options: &ArgMatches<'a>) -> Option<Invocation<'a>>
+    ensures asked { IfSome result (AsksFor (Some (codes "new-journal", rows_of (found_of options.now)))) }
+    ensures whole { Meets specs_of.new_journal (rows_of (found_of options.now)) → result ≢ None }
+{
+    Some(Invocation::NewJournal(NewJournalOptions {
+        config: text_of(options, "config")?,
+        journal: text_of(options, "journal")?,
+    }))
+}
+
 fn serve_of<'a>(options: &ArgMatches<'a>) -> Option<Invocation<'a>>
     ensures asked { IfSome result (AsksFor (Some (codes "serve", rows_of (found_of options.now)))) }
     ensures none { Meets specs_of.serve (rows_of (found_of options.now)) → result ≡ None
@@ -198,6 +210,7 @@ fn service_of<'a>(options: &ArgMatches<'a>) -> Option<Invocation<'a>>
         buffers: buffers_of(options)?,
         raise: raise_of(options)?,
         log: text_of(options, "log"),
+        resume: text_of(options, "resume"),
         kdc: text_of(options, "kdc"),
         kdc_wait: kdc_wait_of(options)?,
         require_kdc: is_given(options, "require-kdc"),
@@ -206,6 +219,7 @@ fn service_of<'a>(options: &ArgMatches<'a>) -> Option<Invocation<'a>>
         rfc3244_only: is_given(options, "rfc3244-only"),
         strict_messages: is_given(options, "strict-messages"),
         strict_modes: is_given(options, "strict-modes"),
+        existing_journal: is_given(options, "existing-journal"),
     }))
 }
 

@@ -16,8 +16,12 @@ use crate::options::{
 use clap::Command;
 use std::alloc::{AllocError, Global};
 
-/// The version that `--version` and `status` print.
-pub const VERSION: &str = "0.1";
+/// The version that `status` prints.
+pub const VERSION: &str = "0.2";
+
+// What `--version` prints: the version, and the toolchain by which the program is proved and compiled. `tools/documents`
+// compares both with the documents.
+const LONG_VERSION: &str = "0.2\ntoolchain rattle-kit-13 logic dac8208d650f15bf";
 
 const ABOUT: &str = "The Kerberos change-password service kadmin/changepw (RFC 3244).";
 
@@ -41,7 +45,8 @@ const CHECK: &str = "Check a configuration, and print its first fault.";
 const CHECK_MORE: &str = "\
 Prints 'ok: principals N, rules N, service keys N' with status 0, or the first fault as kind, part and
 index, such as 'C4 policy 0', with status 1; then standard error says where it is and what was
-expected.
+expected. Settings that nothing reads, rules whose names are no principal's, and rules for everybody are
+named on standard error, too; they don't change the status.
 
 Example:
   chpw_server check --config samples/realm.toml";
@@ -89,6 +94,11 @@ anyway, and the log says so. With --require-kdc such a reply isn't sent, and its
 while there is no connection to the agent, or a key has been on its way for longer, each request is
 answered code 2, error 60, 'KDC out of reach', and isn't decided.
 
+After a start that finds a journal, requests are refused for five minutes, since some may have been
+answered before. With --resume FILE a clean end ('control stop') leaves in FILE which requests were
+answered, and the next start removes FILE and goes on from there at once. A FILE that doesn't fit the
+realm, the journal and the clock is set aside, and a line says why.
+
 With --raise COUNT it first prints the result: 'raised COUNT', 'count not higher', 'journal failed' or
 'history full'. It serves after each of them.
 
@@ -118,6 +128,9 @@ const RAISE_HELP: &str =
 const LOG_HELP: &str =
     "Append a line for each decision to this file, created if it doesn't exist; - for standard error [default: no log]";
 
+const RESUME_HELP: &str =
+    "Write to this file at a clean end which requests were answered, and take it over at the next start, without a quiet time [default: none]";
+
 const KDC_HELP: &str =
     "The socket of the agent at the KDC's database: keys are written and taken there [default: none]";
 
@@ -138,6 +151,19 @@ const STRICT_MESSAGES_HELP: &str =
     "Refuse a KRB-PRIV without an expected sequence number or microseconds, or for another address";
 
 const STRICT_MODES_HELP: &str = "Don't start if other users may read, write or replace its files";
+
+const EXISTING_JOURNAL_HELP: &str = "Don't start if there is no journal: make one with new-journal";
+
+const NEW_JOURNAL: &str = "Make an empty journal for a realm.";
+
+const NEW_JOURNAL_MORE: &str = "\
+The journal begins with a record of the configuration's realm, and is refused from then on with a
+configuration of another realm. It is readable and writable by its owner alone. Nothing is overwritten.
+
+Example:
+  chpw_server new-journal --config samples/realm.toml --journal realm.journal";
+
+const NEW_JOURNAL_HELP: &str = "The journal to make, where there is no file yet";
 
 const IMPORT: &str = "Convert a keytab's keys, or a KDC's, to a configuration.";
 
@@ -317,6 +343,23 @@ fn key<'a>(alloc: Global) -> Result<Command<'a>, AllocError>
     command_with(alloc, "key", KEY, KEY_MORE, &options)
 }
 
+fn new_journal<'a>(alloc: Global) -> Result<Command<'a>, AllocError>
+    ensures shape { IfOk result (λ c. app_of c ≡ specs_of.alone specs_of.new_journal) }
+    ensures local { IfOk result specs_of.IsLocal }
+{
+    let options = [
+        required_option("config", "FILE", CONFIG_HELP),
+        required_option("journal", "FILE", NEW_JOURNAL_HELP),
+    ];
+    command_with(
+        alloc,
+        "new-journal",
+        NEW_JOURNAL,
+        NEW_JOURNAL_MORE,
+        &options,
+    )
+}
+
 fn serve<'a>(alloc: Global) -> Result<Command<'a>, AllocError>
     ensures shape { IfOk result (λ c. app_of c ≡ specs_of.alone specs_of.serve) }
     ensures local { IfOk result specs_of.IsLocal }
@@ -333,6 +376,7 @@ fn serve<'a>(alloc: Global) -> Result<Command<'a>, AllocError>
         optional_number("buffers", "MEBIBYTES", MOST_BUFFERS as u32, BUFFERS_HELP),
         optional_number("raise", "COUNT", GREATEST_COUNT, RAISE_HELP),
         optional("log", "FILE", LOG_HELP),
+        optional("resume", "FILE", RESUME_HELP),
         optional("kdc", "SOCKET", KDC_HELP),
         optional_number("kdc-wait", "MILLISECONDS", LONGEST_KDC_WAIT, KDC_WAIT_HELP),
         flag("require-kdc", REQUIRE_KDC_HELP),
@@ -341,6 +385,7 @@ fn serve<'a>(alloc: Global) -> Result<Command<'a>, AllocError>
         flag("rfc3244-only", RFC3244_ONLY_HELP),
         flag("strict-messages", STRICT_MESSAGES_HELP),
         flag("strict-modes", STRICT_MODES_HELP),
+        flag("existing-journal", EXISTING_JOURNAL_HELP),
     ];
     command_with(alloc, "serve", SERVE, SERVE_MORE, &options)
 }
@@ -395,7 +440,7 @@ fn leading<'a>(alloc: Global) -> Command<'a>
     Command::new(alloc, "chpw_server")
         .about(ABOUT)
         .after_help(STATUSES)
-        .version(VERSION)
+        .version(LONG_VERSION)
         .subcommand_required(true)
         .arg_required_else_help(true)
 }
@@ -410,6 +455,7 @@ pub(crate) fn program<'a>(alloc: Global) -> Result<Command<'a>, AllocError>
     let program = with_command(program, table(alloc));
     let program = with_command(program, import(alloc));
     let program = with_command(program, key(alloc));
+    let program = with_command(program, new_journal(alloc));
     let program = with_command(program, serve(alloc));
     let program = with_command(program, control(alloc));
     with_command(program, client(alloc))

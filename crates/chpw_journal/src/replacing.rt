@@ -30,8 +30,8 @@ pub fn remove_unfinished<R: Files>(rt: &R, alloc: Global, path: &str) -> Result<
     Ok(())
 }
 
-// The name under which a replacement is made.
-fn beside(alloc: Global, path: &str) -> Result<String, AllocError>
+/// The name under which a replacement of the file at a path is made.
+pub fn beside(alloc: Global, path: &str) -> Result<String, AllocError>
     ensures value { IfOk result (λ name. string_bytes name ≡ beside path.now) }
 {
     let mut name = String::from_str(alloc, path)?;

@@ -42,6 +42,7 @@ pub fn restore<R: Read>(
 ) -> Result<Restored, RestoreFault>
     ensures restored { IfOk result (λ r. IsRestored table (R.remaining reader.old) (R.remaining reader.new) r) }
     ensures first { IfErr result (λ fault. IsRefused table (R.remaining reader.old) (R.remaining reader.new) fault) }
+    ensures short { IfOk result (λ r. r.kept ≤ 1092 * 2 ^ 32) }
 {
     let mut restored = Restored {
         table,

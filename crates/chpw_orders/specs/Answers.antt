@@ -5,6 +5,8 @@ use Rattle.chpw_printing.specs.Quoting.{name_text}
 use Rattle.chpw_reload.specs.Reasons.{fault_text}
 use Rattle.chpw_rules.specs.declared.name.Name.{Name}
 use Rattle.chpw_start.specs.Faults.{line_of}
+use Rattle.chpw_warnings.specs.declared.warning.Warning.{Warning}
+use Rattle.chpw_warnings.specs.Lines.{warning_text}
 use Rattle.chpw_start.specs.Modes.{words_of}
 use Rattle.chpw_orders.specs.declared.compacting.CompactFault.{CompactFault}
 use Rattle.chpw_orders.specs.declared.compacting.CompactFault.TheVariants as compaction
@@ -25,12 +27,15 @@ done_lines = ok_line ∷ []
 abbrev pub refused_lines : List ℕ → List (List ℕ)
 refused_lines words = error_line words ∷ []
 
--- a reload: a line for each principal that the configuration lacks, and `ok`
+-- a reload: a line for each warning about the configuration and for each principal that it lacks, and `ok`
+abbrev pub warning_line : Warning → List ℕ
+warning_line warning = codes "warning: " ++ warning_text warning
+
 abbrev pub lacked_line : Name → List ℕ
 lacked_line name = codes "lacked " ++ name_text name
 
-abbrev pub reloaded_lines : List Name → List (List ℕ)
-reloaded_lines lacked = map lacked_line lacked ++ done_lines
+abbrev pub reloaded_lines : List Warning → List Name → List (List ℕ)
+reloaded_lines warnings lacked = map warning_line warnings ++ map lacked_line lacked ++ done_lines
 
 -- why a configuration can't be reloaded: a file's fault as the service prints it, the words of `check`, or a reload's
 -- fault

@@ -1,8 +1,16 @@
 -- What a service reads of its files while it runs: for a reload, and for a compact journal.
-use Rattle.std.specs.Prelude.{◌≡◌, ◌≢◌, ◌⊎◌, ℕ, List, Option, Ok, Err}
+use Rattle.std.specs.Prelude.{◌≡◌, ◌≢◌, ◌⊎◌, ℕ, Bool, List, [], ◌++◌, Option, is_some, position, Ok, Err, if◌then◌else◌}
+use Rattle.std.specs.Str.{is_utf8}
 use Rattle.chpw_rules.specs.declared.config.Config.{Config}
 use Rattle.chpw_config.specs.declared.fault.ConfigFault.{ConfigFault}
+use Rattle.chpw_rules.specs.declared.name.Name.{Name}
+use Rattle.chpw_rules.specs.Names.{is_same_name}
 use Rattle.chpw_table.specs.Agreement.{Agrees, Held}
+use Rattle.chpw_journal.specs.Headings.{heading}
+use Rattle.chpw_table.specs.State.{State}
+use Rattle.chpw_warnings.specs.declared.warning.Warning.{Warning}
+use Rattle.chpw_warnings.specs.Rules.{rule_warnings}
+use Rattle.chpw_warnings.specs.Settings.{setting_warnings}
 use Rattle.chpw_report.specs.Held.{opening}
 use Rattle.chpw_reload.specs.Reloading.{IsPrepared, IsUnprepared}
 use Rattle.chpw_invocation.specs.declared.invocation.ServeOptions.{ServeOptions}
@@ -18,13 +26,26 @@ use Rattle.chpw_orders.specs.declared.rereading.PrepareFault.TheVariants.{Start,
 
 -- ---- a reload
 
--- table and rules are those of one configuration, and the KDC's names are those of its text
+-- the table has a principal of this name
+abbrev pub is_held : State → Name → Bool
+is_held s name = is_some (position (λ p. is_same_name p.name name) s.principals)
+
+-- the settings that nothing reads; bytes that are not UTF-8 have none
+abbrev pub settings_in : List ℕ → List Warning
+settings_in bytes = if is_utf8 bytes then setting_warnings bytes else []
+
+-- what the configuration that these bytes set may not mean, beside the table that it and the journal give
+abbrev pub reload_warnings : List ℕ → Config → State → List Warning
+reload_warnings bytes config s = settings_in bytes ++ rule_warnings (is_held s) 1 config.rules.list
+
+-- table and rules are those of one configuration, and the KDC's names and the warnings are those of its text
 pub record IsReadAnew (options : ServeOptions) (p : PendingReload) : Type 0 where
   pub config : Config
   pub journal : Option (List ℕ)
   pub prepared : IsPrepared config journal p.renewed
   pub rules : AreRulesOf config options p.rules
   pub names : SetsNames p.rules.text.items (Ok p.names)
+  pub warned : p.warnings.items ≡ reload_warnings p.rules.text.items p.renewed.settings p.renewed.table.state
 
 -- the fault of these bytes of a configuration, or of what they say of the KDC's names
 abbrev pub IsOfText : List ℕ → ServeFault → Type 0
@@ -53,6 +74,10 @@ pub record IsBase (bytes : List ℕ) (base : Held) : Type 0 where
   pub config : Config
   pub sets : Sets bytes (Ok config)
   pub opens : Agrees base.state (opening config)
+
+-- the record of the realm that the configuration of these bytes sets, or nothing
+abbrev pub IsHeadingIn : List ℕ → List ℕ → Type 0
+IsHeadingIn bytes text = (config : Config) × (is_named : Bool) × Sets bytes (Ok config) × (text ≡ heading is_named config.realm)
 
 -- a fault of the configuration's file, or one of the configuration in force and the journal; the file has other bytes
 -- than the configuration in force; or the copy of this name can't be made

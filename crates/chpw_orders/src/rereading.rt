@@ -2,17 +2,19 @@
 ghost use Rattle.std.specs.Prelude.{◌≡◌, IfErr, IfOk, Ok, true};
 ghost use Rattle.chpw_rules.specs.Fitting.{config_fits};
 ghost use Rattle.chpw_start.specs.Faults.{IsUnread, Sets, SetsNames};
-ghost use Rattle.chpw_orders.specs.Rereading.{IsNotReadAnew, IsOfText, IsReadAnew, IsUnset};
+ghost use Rattle.chpw_orders.specs.Rereading.{IsNotReadAnew, IsOfText, IsReadAnew, IsUnset, reload_warnings, settings_in};
 
 use crate::checked_reload::CheckedReload;
 use chpw_config::explain;
 use chpw_invocation::ServeOptions;
-use chpw_reload::{ReloadFault, prepare};
-use chpw_rules::{Config, NamePatterns};
+use chpw_reload::{PreparedReload, ReloadFault, prepare};
+use chpw_rules::{Config, Name, NamePatterns};
 use chpw_start::{
     Rules, ServeFault, configuration_text, kdc_names, open_file, rules_of, settings, unread_fault,
 };
-use std::alloc::Global;
+use chpw_table::Table;
+use chpw_warnings::{PrincipalNames, Warning, put_rule_warnings, setting_warnings};
+use std::alloc::{AllocError, Global};
 use std::fs::{File, Files};
 use std::io::{Seek, SeekFrom};
 use std::str;
@@ -25,6 +27,8 @@ pub struct PendingReload {
     pub rest: File,
     pub rules: Rules,
     pub names: NamePatterns,
+    /// What the configuration may not mean.
+    pub warnings: Vec<Warning>,
 }
 
 /// Why a configuration can't be reloaded.
@@ -67,12 +71,63 @@ pub fn read_anew<'a, R: Files<File = File> + AllocGlobal>(
         Ok(rest) => rest,
         Err(fault) => return Err(PrepareFault::Start(fault)),
     };
+    let Ok(warnings) = warnings_of(rt.alloc(), rules.text.as_slice(), &renewal) else {
+        return Err(PrepareFault::Start(ServeFault::Memory));
+    };
     Ok(PendingReload {
         renewed: CheckedReload::of(renewal),
         rest,
         rules,
         names,
+        warnings,
     })
+}
+
+// The warnings of a configuration with this text, where the principals are those of the configuration and the journal.
+fn warnings_of(
+    alloc: Global,
+    text: &[u8],
+    renewal: &PreparedReload,
+) -> Result<Vec<Warning>, AllocError>
+    ensures value { IfOk result (λ warnings. warnings.items
+        ≡ reload_warnings text.now renewal.now.settings renewal.now.table.state) }
+{
+    let mut warnings = settings_of(alloc, text)?;
+    let names = TableNames {
+        table: &renewal.table,
+    };
+    put_rule_warnings(
+        &mut warnings,
+        &names,
+        renewal.settings.rules.list.as_slice(),
+    )?;
+    Ok(warnings)
+}
+
+// The settings that nothing reads; bytes that aren't UTF-8 have none.
+fn settings_of(alloc: Global, text: &[u8]) -> Result<Vec<Warning>, AllocError>
+    ensures value { IfOk result (λ warnings. warnings.items ≡ settings_in text.now) }
+{
+    match str::from_utf8(text) {
+        Ok(text) => setting_warnings(alloc, text),
+        Err(_) => Ok(Vec::new(alloc)),
+    }
+}
+
+// The names of a table.
+#[derive(Clone, Copy, Drop)]
+struct TableNames<'t> {
+    table: &'t Table,
+}
+
+impl PrincipalNames for TableNames<'_> {
+    ghost use Rattle.chpw_orders.specs.Rereading.{is_held};
+
+    ghost has = { λ n. is_held n.table.now.state };
+
+    fn has(&self, name: &Name) -> bool {
+        self.table.number_of(name).is_some()
+    }
 }
 
 // The configuration of a text, and which of the KDC's names it says are the service's.

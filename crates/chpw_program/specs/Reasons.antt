@@ -5,7 +5,7 @@ use Rattle.std.specs.Fmt.{decimal}
 use Rattle.std.specs.Str.{bytes_eq}
 use Rattle.chpw_import.specs.declared.fault.KeysFault.TheVariants as keys
 use Rattle.chpw_invocation.specs.declared.invocation.Invocation.{Invocation}
-use Rattle.chpw_invocation.specs.declared.invocation.Invocation.TheVariants.{Check, Serve, Table, Client}
+use Rattle.chpw_invocation.specs.declared.invocation.Invocation.TheVariants.{Check, NewJournal, Serve, Table, Client}
 use Rattle.chpw_start.specs.declared.fault.ServeFault.TheVariants as service
 use Rattle.chpw_program.specs.declared.ending.Ending.{Ending}
 use Rattle.chpw_program.specs.declared.ending.Ending.TheVariants as ending
@@ -40,13 +40,14 @@ is_privileged port = nat_lt port 1024
 abbrev pub of_type : Bor (List ℕ) → Bool → Bool → Option Reason
 of_type path is_folder is_file = if is_folder then Some (Folder path) else if is_file then None else Some (Special path)
 
--- the files and the port that a command names
+-- the files and the port that a command names; of them it is `serve` that locks one, the journal
 abbrev pub named_by : Invocation → Named
-named_by (Serve o) = record { config = Some o.config; seed = Some o.seed; journal = Some o.journal; port = o.port }
-named_by (Table o) = record { config = Some o.config; seed = None; journal = Some o.journal; port = 0 }
-named_by (Client o) = record { config = Some o.config; seed = Some o.seed; journal = None; port = 0 }
-named_by (Check config) = record { config = Some config; seed = None; journal = None; port = 0 }
-named_by _ = record { config = None; seed = None; journal = None; port = 0 }
+named_by (Serve o) = record { config = Some o.config; seed = Some o.seed; locked = Some o.journal; port = o.port }
+named_by (Table o) = record { config = Some o.config; seed = None; locked = None; port = 0 }
+named_by (NewJournal o) = record { config = Some o.config; seed = None; locked = None; port = 0 }
+named_by (Client o) = record { config = Some o.config; seed = Some o.seed; locked = None; port = 0 }
+named_by (Check config) = record { config = Some config; seed = None; locked = None; port = 0 }
+named_by _ = record { config = None; seed = None; locked = None; port = 0 }
 
 -- standard input has no reason
 abbrev pub of_unread : Bor (List ℕ) → Option Cause

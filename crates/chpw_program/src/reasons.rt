@@ -77,7 +77,8 @@ impl fmt::Display for Reason<'_> {
 struct Named<'a> {
     config: Option<&'a str>,
     seed: Option<&'a str>,
-    journal: Option<&'a str>,
+    // The file that the command locks, so that another process may hold it: the journal of `serve`.
+    locked: Option<&'a str>,
     port: u16,
 }
 
@@ -98,31 +99,37 @@ impl<'a> Named<'a> {
             Invocation::Serve(options) => Named {
                 config: Some(options.config),
                 seed: Some(options.seed),
-                journal: Some(options.journal),
+                locked: Some(options.journal),
                 port: options.port,
             },
             Invocation::Table(options) => Named {
                 config: Some(options.config),
                 seed: None,
-                journal: Some(options.journal),
+                locked: None,
+                port: 0,
+            },
+            Invocation::NewJournal(options) => Named {
+                config: Some(options.config),
+                seed: None,
+                locked: None,
                 port: 0,
             },
             Invocation::Client(options) => Named {
                 config: Some(options.config),
                 seed: Some(options.seed),
-                journal: None,
+                locked: None,
                 port: 0,
             },
             Invocation::Check { config } => Named {
                 config: Some(config),
                 seed: None,
-                journal: None,
+                locked: None,
                 port: 0,
             },
             _ => Named {
                 config: None,
                 seed: None,
-                journal: None,
+                locked: None,
                 port: 0,
             },
         }
@@ -222,7 +229,7 @@ fn of_file<'a, R: Files<File = File>>(
         return Some(Reason::Long(path));
     }
     match File::open(rt, path) {
-        Ok(file) if named.journal == Some(path) && file.try_lock().is_err() => {
+        Ok(file) if named.locked == Some(path) && file.try_lock().is_err() => {
             Some(Reason::Held(path))
         }
         Ok(_) => None,

@@ -27,15 +27,17 @@ use chpw_desks::{
 use chpw_invocation::{ConnectionLimit, ServeOptions};
 use chpw_journal::{FileSink, Journal};
 use chpw_logging::{Log, Notice, log_of, time_of};
+use chpw_printing::put_time;
 use chpw_reactor::{Engine, PoolOptions, dialog_with};
 use chpw_rules::NamePatterns;
 use chpw_serve::{Clock as _, Messages as _};
 use chpw_sockets::DatagramSocket;
 use chpw_start::{
-    Configuration, Rules, ServeFault, configuration_of, is_shared, kdc_names, open_table, own_ids,
-    raise_where_asked, read_seed, refuse_exposed, rules_of, standing_at,
+    Configuration, Resumption, Rules, ServeFault, SetAside, configuration_of, is_shared, kdc_names,
+    open_table, own_ids, raise_where_asked, read_seed, refuse_exposed, refuse_missing,
+    resume_where_asked, rules_of, standing_at,
 };
-use chpw_table::Table;
+use chpw_table::{LAST_SECOND, Moment, Table};
 use chpw_transfers::{AcceptLimit, KdcSide};
 use chpw_workers::MachineClock;
 use std::alloc::Global;
@@ -43,13 +45,16 @@ use std::fs::{File, Files};
 use std::marker::Brand;
 use std::net::{Ipv4Addr, Net, TcpListener, TcpStream, UdpSocket};
 use std::rt::Env;
+use std::str;
 use std::sync::Wait;
 use std::thread::Threads;
 use std::time::Clock;
 
 /// Serves so many connections on 127.0.0.1, the messages of connection i (from 0) by worker i modulo their number,
 /// one after the other. The configuration is read first, then the seed; with strict modes the start is refused then if
-/// others may read, write or replace its files; then the log is opened if there is one, and the journal is read; then the
+/// others may read, write or replace its files, and where the journal must exist, if it doesn't; then the log is opened if
+/// there is one, and the journal is read; then what a clean end left in the resume file is taken over, if there is one and it
+/// fits; then the
 /// iteration count of new keys is raised if that is asked for, and the service listens at the port. A torn tail that
 /// was cut off the journal is reported on standard error. Printed are the result of the raise, `listening on
 /// 127.0.0.1:N` before a connection is accepted, when the service manager is told too, and `entries N changes N` for
@@ -96,6 +101,7 @@ pub fn serve_by<
     let names = kdc_names(rt.alloc(), &text)?;
     let seed = read_seed(rt, options.seed)?;
     refuse_exposed(rt, &options)?;
+    refuse_missing(rt, &options)?;
     let log = log_of(rt, rt.alloc(), &options)?;
     let Ok(rules) = rules_of(rt.alloc(), &config, text, &options) else {
         return Err(ServeFault::Memory);
@@ -106,18 +112,31 @@ pub fn serve_by<
         mut sink,
         found: _,
         cut_at,
-    } = open_table(rt, rt.alloc(), config, options.journal, &mut clock)?;
+    } = open_table(
+        rt,
+        rt.alloc(),
+        config,
+        options.journal,
+        options.existing_journal,
+        &mut clock,
+    )?;
+    let start = clock.now();
+    let is_cut = cut_at.is_some();
+    let resumption = resume_where_asked(rt, &options, start, table, sink.file(), is_cut)?;
+    let Resumption { table, set_aside } = resumption;
     let journal = journal_length(rt.alloc(), options.journal, &mut sink)?;
     if let Some(kept) = cut_at {
         log.tell(Notice::TailCut(options.journal, kept));
     }
+    tell_set_aside(&log, &options, set_aside);
     tell_shared(rt, &log, &options);
     let listener = control_socket(rt, options.control)?;
     let since = clock.now();
     log.tell_start(since, &table);
+    tell_quiet(rt.alloc(), &log, since, &table);
     let kdc = kdc_side(rt, &options, &table, names);
     let opening = first_opening(table, sink, options.workers);
-    let start = Start {
+    let service = Start {
         options: &options,
         terms: terms_of(&options, seed),
         log: &log,
@@ -129,7 +148,7 @@ pub fn serve_by<
         since: time_of(since),
         workers: options.workers,
     };
-    let ended = serve_opened::<Brand, R, T>(rt, time, start, control, rules, opening, &mut clock);
+    let ended = serve_opened::<Brand, R, T>(rt, time, service, control, rules, opening, &mut clock);
     notify_stopping(rt);
     take_away(rt, options.control);
     log.end(clock.now());
@@ -165,6 +184,31 @@ fn reach_asked(is_asked: bool, wait: u32) -> Option<u64>
         Some(u64::from(wait))
     } else {
         None
+    }
+}
+
+// Reports why the resume file was set aside, if it was.
+fn tell_set_aside<R: Wait + Eprint>(
+    log: &Log<'_, R>,
+    options: &ServeOptions<'_>,
+    set_aside: Option<SetAside>,
+) {
+    if let (Some(path), Some(why)) = (options.resume, set_aside) {
+        log.tell(Notice::SetAside(path, why));
+    }
+}
+
+// Reports until when requests are refused, if they are at this moment.
+fn tell_quiet<R: Wait + Eprint>(alloc: Global, log: &Log<'_, R>, now: Moment, table: &Table) {
+    let until = table.quiet_until();
+    if until < now.seconds || !(0..=LAST_SECOND).contains(&until) {
+        return;
+    }
+    let mut text = Vec::new(alloc);
+    if put_time(&mut text, until, 0).is_ok() {
+        if let Ok(text) = str::from_utf8(&text) {
+            log.tell(Notice::Quiet(text));
+        }
     }
 }
 

@@ -4,6 +4,7 @@ pub mod FileIds
 pub mod Modes
 pub mod Opening
 pub mod Raised
+pub mod Resuming
 pub mod Rules
 pub mod Sheets
 pub mod Telling

@@ -73,7 +73,7 @@ fn first_clash(places: &FileIds<'_>) -> Option<Clash>
 }
 
 // Whether there are two, and they are one file.
-fn is_one(one: Option<FileId<'_>>, other: Option<FileId<'_>>) -> bool
+pub(crate) fn is_one(one: Option<FileId<'_>>, other: Option<FileId<'_>>) -> bool
     ensures value { result ≡ are_one one.entry other.entry }
 {
     match (one, other) {
@@ -108,7 +108,8 @@ fn clash_result<'a>(options: &ServeOptions<'a>, clash: Option<Clash>) -> Result<
     }
 }
 
-fn place_of<'a, R: Files>(rt: &R, path: &'a str) -> Option<FileId<'a>> {
+/// Where the file at a path is.
+pub(crate) fn place_of<'a, R: Files>(rt: &R, path: &'a str) -> Option<FileId<'a>> {
     if let Ok(metadata) = fs::metadata(rt, path) {
         return Some(FileId {
             device: metadata.dev(),

@@ -228,6 +228,7 @@ fn serving<'a>(port: u16, connections: u32, log: &'a str) -> ServeOptions<'a> {
         buffers: USUAL_BUFFERS,
         raise: None,
         log: Some(log),
+        resume: None,
         kdc: None,
         kdc_wait: USUAL_KDC_WAIT,
         require_kdc: false,
@@ -236,6 +237,7 @@ fn serving<'a>(port: u16, connections: u32, log: &'a str) -> ServeOptions<'a> {
         rfc3244_only: false,
         strict_messages: false,
         strict_modes: false,
+        existing_journal: false,
     }
 }
 

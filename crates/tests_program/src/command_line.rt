@@ -10,7 +10,7 @@ use std::rt::Env;
 
 /// Command lines without the program's name, and what they ask for; of one that asks for no command, a word
 /// of clap's text.
-const LINES: [(&str, &str); 74] = [
+const LINES: [(&str, &str); 75] = [
     ("drill", "drill"),
     ("drill --config c", "unexpected"),
     ("check --config c", "check c"),
@@ -19,7 +19,8 @@ const LINES: [(&str, &str); 74] = [
     ("", "Usage"),
     ("--help", "Usage"),
     ("help client", "Usage"),
-    ("--version", "chpw_server"),
+    ("--version", "chpw_server 0.2\ntoolchain rattle-kit-13 logic"),
+    ("-V", "chpw_server 0.2\ntoolchain"),
     // the service: each value of a whole line, and each bound
     (
         "serve --config realm.toml --journal journal --seed seed --port 464 --workers 4 --connections 1000 \

@@ -19,7 +19,7 @@ returns-in_err-journal g c =
 pub returns-in_err-listener : goal.returns-in_err-listener
 returns-in_err-listener g c =
     let p = err_from_is_err_and c.from_residual-in_err-listener.result c.from_residual-in_err-listener.ensures.1 in
-    let fault = inr (inr (inr (inr (inr (inl c.in_err-listener.ensures.fault))))) in
+    let fault = inr (inr (inr (inr (inr (inr (inl c.in_err-listener.ensures.fault)))))) in
     record { run = rw p.1 tt; fault = rw p.1 (subst (IsOfService c.args.options) (sym p.2) fault) }
 
 -- what the files say, and what was served from there on
@@ -38,11 +38,12 @@ returns-clause-run g c =
       text = ruled.sets;
     } in
     let opened = c.in_ok-table.ensures.opened in
+    let taken = c.in_ok-resumption.ensures.taken in
     let opening = subst (λ (before : Moment). IsOpening gives_moment config opened.0 before c.open_table.new.clock found)
     c.new-clock.ensures.start opened.1 in
     on_ok_weaker c.serve_opened-ended.result
-    (λ served. whole_run options config c.in-Ok.rules opened.0 c.open_table.new.clock c.now-since.new.self found
-    c.terms_of.result.seed (table_of c.first_opening-opening.result.unnamed) rules opening
+    (λ served. whole_run options config c.in-Ok.rules opened.0 c.open_table.new.clock c.now-start.result c.now-since.new.self found
+    taken.0 c.in_ok-resumption.resumption.table c.terms_of.result.seed (table_of c.first_opening-opening.result.unnamed) rules opening taken.1
     c.first_opening-opening.ensures.table served)
     c.serve_opened-ended.ensures.served
 
