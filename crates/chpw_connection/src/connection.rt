@@ -6,6 +6,7 @@ use crate::eviction::EvictionRule;
 use crate::limits::ConnectionLimits;
 use crate::message::{WholeMessage, at_most, wanted_after, whole_after};
 use crate::remembered::Remembered;
+use chpw_endpoints::Endpoints;
 use std::alloc::{AllocError, Global};
 use std::mem;
 
@@ -81,7 +82,8 @@ pub struct Outgoing {
 #[derive(Drop)]
 pub struct Connection {
     pub number: u64,
-    pub peer: [u8; 4],
+    /// Its two addresses.
+    pub ends: Endpoints,
     pub since: u64,
     pub answered: u32,
     pub phase: Phase,
@@ -100,18 +102,18 @@ impl Connection {
     ghost use Rattle.chpw_connection.specs.Confirming.{is_confirmed as is_confirmed_by, overdue_in};
     ghost use Rattle.chpw_connection.specs.Eviction.{gives_way as gives_way_of, is_among as is_among_of};
 
-    /// A connection that was accepted at this moment.
-    pub fn new(alloc: Global, number: u64, peer: [u8; 4], now: u64) -> Connection
+    /// A connection between these two that was accepted at this moment.
+    pub fn new(alloc: Global, number: u64, ends: Endpoints, now: u64) -> Connection
         ensures stage { stage result ≡ reading [] }
         ensures number { result.number ≡ number }
-        ensures peer { result.peer ≡ peer }
+        ensures ends { result.ends ≡ ends }
         ensures answered { result.answered ≡ 0 }
         ensures since { result.since ≡ now }
         ensures nothing { held_by result.phase ≡ 0 }
     {
         Connection {
             number,
-            peer,
+            ends,
             since: now,
             answered: 0,
             phase: Phase::Reading(Incoming::new(alloc)),

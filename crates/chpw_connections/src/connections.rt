@@ -17,6 +17,7 @@ ghost use Rattle.chpw_connection.specs.Slot.{is_gone_in, ends_closed_in};
 
 use crate::set::Connections;
 use chpw_connection::{Change, Connection, ConnectionLimits, Phase};
+use chpw_endpoints::Endpoints;
 use chpw_slots::{Queues, Slots};
 use std::alloc::{AllocError, Global};
 use std::collections::VecDeque;
@@ -88,12 +89,12 @@ impl Connections {
         self.slots.len() >= self.bounds.connections
     }
 
-    /// A connection of this peer was accepted: it is in this slot, which was free. None if there are as many as
+    /// A connection between these two was accepted: it is in this slot, which was free. None if there are as many as
     /// allowed, or after 18,446,744,073,709,551,615: more than can come in five hundred years.
     #[tactic(auto, using(chpw_slots::proofs::HoldsLemmas::holds_accepted))]
-    pub fn accept(&mut self, peer: [u8; 4], now: u64) -> Option<usize>
+    pub fn accept(&mut self, ends: Endpoints, now: u64) -> Option<usize>
         ensures some { slab_len (slots_of self.old) < (bounds_of self.old).connections → accepted_by self.old < 18446744073709551615 → IsSome result }
-        ensures accepted { IfSome result (λ slot. IsNew peer now (accepted_by self.old) (slots_of self.old) (slots_of self.new) slot) }
+        ensures accepted { IfSome result (λ slot. IsNew ends now (accepted_by self.old) (slots_of self.old) (slots_of self.new) slot) }
         ensures counts { IfSome result (λ slot. Counts self.new (accepted_by self.old + 1) (removed_by self.old)) }
         ensures expired { expired_by self.new ≡ expired_by self.old }
         ensures queues { queues_of self.new ≡ queues_of self.old }
@@ -105,7 +106,7 @@ impl Connections {
         if self.is_full() || self.accepted == u64::MAX {
             return None;
         }
-        let connection = Connection::new(self.alloc, self.accepted, peer, now);
+        let connection = Connection::new(self.alloc, self.accepted, ends, now);
         let slot = self.slots.accept(connection);
         self.accepted += 1;
         Some(slot)

@@ -20,7 +20,7 @@ use chpw_table::{KdcUpdate, Moment, Table, UpdateVerdict};
 use std::alloc::{AllocError, Global};
 use std::fs::{File, Files};
 use std::io::{self, ErrorKind};
-use std::net::Net;
+use std::net::{IpAddr, Net};
 use std::sync::{Mutex, Wait};
 
 /// The reports of a running service: in its log, if there is one, a line for each message, but of those that anybody can
@@ -226,7 +226,7 @@ impl<R: Wait + Eprint> Log<'_, R> {
 
     /// Appends the line of a change that was answered, to this peer, before the KDC had confirmed it: the `ticket`-th since the
     /// service started.
-    pub fn put_unconfirmed(&self, now: Moment, peer: [u8; 4], ticket: u64)
+    pub fn put_unconfirmed(&self, now: Moment, peer: IpAddr, ticket: u64)
         requires moment { IsMoment now }
         requires micros { now.micros < 1000000 }
     {

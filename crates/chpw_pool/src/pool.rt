@@ -19,7 +19,7 @@ use std::net::{Net, OpenListener, TcpListener, TcpStream};
 use std::os::fd::AsRawFd;
 use std::sync::Wait;
 use std::thread::{Scope, Threads};
-use std::{thread, time};
+use std::{slice, thread, time};
 
 /// A worker of a pool: its place at the engine, its gate, the machine's clock, and its words.
 type PoolWorker<'a, R, T, G> = Worker<Seat<'a, R>, G, MachineClock<'a, T>, WorkerWords>;
@@ -215,8 +215,12 @@ impl<R: Wait + Net + time::Clock, L: OpenListener<Stream = TcpStream> + AsRawFd>
     type Done = ();
 
     fn run(self) {
-        self.engine
-            .react(self.rt, self.listener, self.connections, NoKdc);
+        self.engine.react(
+            self.rt,
+            slice::from_ref(self.listener),
+            self.connections,
+            NoKdc,
+        );
     }
 }
 

@@ -1,4 +1,4 @@
-//! The reactor: one thread that has the listener and waits for all sockets, and never for one of them alone. The
+//! The reactor: one thread that has the listeners and waits for all sockets, and never for one of them alone. The
 //! sockets are under the lock that it shares with the workers.
 
 ghost use Rattle.std.specs.Prelude.{◌≡◌, ◌&&◌, ◌||◌, [], is_some, true, false, Some, None};
@@ -11,6 +11,7 @@ use crate::engine::{Engine, milliseconds};
 use crate::kdc::KdcTerms;
 use crate::status_reporter::StatusReporter;
 use crate::talking::KdcLink;
+use chpw_endpoints::Endpoints;
 use chpw_sockets::{STEPS, Selector};
 use chpw_transfers::{
     AcceptLimit, Entrance, EventSource, LISTENER, Newcomer, Noting, Progress, Shortage,
@@ -19,6 +20,7 @@ use chpw_transfers::{
 use mio::event::Event;
 use mio::unix::SourceFd;
 use mio::{Events, Interest, Registry};
+use std::io::{self, Error, ErrorKind};
 use std::net::{OpenListener, TcpStream};
 use std::os::fd::AsRawFd;
 use std::sync::{MutexGuard, Wait};
@@ -35,7 +37,10 @@ const BETWEEN: usize = 64;
 pub(crate) struct Reactor<'a, R, L, F> {
     pub rt: &'a R,
     pub engine: &'a Engine,
-    listener: &'a L,
+    listeners: &'a [L],
+    /// The listener that is asked first for the next connection: each in its turn, so that no crowd at one of them keeps
+    /// others out.
+    turn: usize,
     pub link: KdcLink<F>,
     /// How many there may be at a time: the slots are the numbers below.
     pub clients: usize,
@@ -52,7 +57,7 @@ pub(crate) struct Reactor<'a, R, L, F> {
 }
 
 impl Engine {
-    /// Accepts so many connections, or as many as the listener can; reads their messages and passes them to the
+    /// Accepts so many connections, or as many as the listeners can; reads their messages and passes them to the
     /// workers, connection i (from 0) to worker i modulo their number; and writes the replies. It returns once each
     /// connection has ended, or the engine is deserted. Then no message will come any more. Replies to changes wait until
     /// the agent at the KDC's database has confirmed them. It answers questions at the control socket itself; orders are for the
@@ -62,14 +67,15 @@ impl Engine {
         R: Wait + Clock,
         L: OpenListener<Stream = TcpStream> + AsRawFd,
         F: KdcTerms + StatusReporter + Drop,
-    >(&self, rt: &R, listener: &L, connections: AcceptLimit, mut terms: F) {
+    >(&self, rt: &R, listeners: &[L], connections: AcceptLimit, mut terms: F) {
         let clients = self.hub.lock(rt).sockets.by_slot.len();
         let mut selector = self.selector.lock(rt);
         let port = ControlPort::open(terms.listener(), selector.poll.registry());
         let mut reactor = Reactor {
             rt,
             engine: self,
-            listener,
+            listeners,
+            turn: 0,
             link: KdcLink::new(terms),
             clients,
             entrance: Entrance::new(connections),
@@ -92,15 +98,12 @@ impl<
     L: OpenListener<Stream = TcpStream> + AsRawFd,
     F: KdcTerms + StatusReporter + Drop,
 > Reactor<'a, R, L, F> {
-    // Registers the listener.
+    // Registers the listeners.
     fn listen(&mut self, registry: &Registry) {
-        let descriptor = self.listener.as_raw_fd();
-        let is_watched = self.listener.set_nonblocking(true).is_ok()
-            && registry
-                .register(&mut SourceFd(&descriptor), LISTENER, Interest::READABLE)
-                .is_ok();
-        if !is_watched {
-            self.entrance.fail();
+        for listener in self.listeners {
+            if !is_watched(listener, registry) {
+                self.entrance.fail();
+            }
         }
     }
 
@@ -288,14 +291,16 @@ impl<
         }
     }
 
-    // Takes the next connection of the listener, if one has come. If none has, the listener isn't asked again before it
+    // Takes the next connection of the listeners, if one has come. If none has, they aren't asked again before one of them
     // is reported or time has passed.
     fn next(&mut self)
         ensures came { is_some self.new.entrance.pending ≡ false → is_ready self.new.entrance.accepting ≡ false }
         ensures wanted { self.new.entrance.wanted ≡ self.old.entrance.wanted }
     {
-        match self.listener.accept() {
-            Ok((stream, address)) => self.entrance.keep(Newcomer { stream, address }),
+        let first = self.turn;
+        self.turn = slot_at_turn(first, self.listeners.len(), 1);
+        match accepted(self.listeners, first) {
+            Ok(newcomer) => self.entrance.keep(newcomer),
             Err(error) => self.entrance.stumble(&error, milliseconds(self.rt)),
         }
     }
@@ -323,6 +328,51 @@ impl<
     fn make_room(&self) -> Option<usize> {
         self.engine.hub.lock(self.rt).make_room()
     }
+}
+
+// Whether a listener is watched, and doesn't block.
+fn is_watched<L: OpenListener<Stream = TcpStream> + AsRawFd>(
+    listener: &L,
+    registry: &Registry,
+) -> bool {
+    let descriptor = listener.as_raw_fd();
+    listener.set_nonblocking(true).is_ok()
+        && registry
+            .register(&mut SourceFd(&descriptor), LISTENER, Interest::READABLE)
+            .is_ok()
+}
+
+// The next connection of the first of these listeners, from this one on, to which one has come; otherwise what the last
+// one had to say.
+fn accepted<L: OpenListener<Stream = TcpStream>>(
+    listeners: &[L],
+    first: usize,
+) -> io::Result<Newcomer> {
+    let mut fault = Error::from(ErrorKind::WouldBlock);
+    for turn in 0..listeners.len() {
+        match accepted_by(listeners, slot_at_turn(first, listeners.len(), turn)) {
+            Ok(newcomer) => return Ok(newcomer),
+            Err(error) if error.kind() == ErrorKind::WouldBlock => {}
+            Err(error) => fault = error,
+        }
+    }
+    Err(fault)
+}
+
+// The next connection of one of these listeners, and its two addresses.
+fn accepted_by<L: OpenListener<Stream = TcpStream>>(
+    listeners: &[L],
+    index: usize,
+) -> io::Result<Newcomer> {
+    let Some(listener) = listeners.get(index) else {
+        return Err(Error::from(ErrorKind::WouldBlock));
+    };
+    let (stream, peer) = listener.accept()?;
+    let local = stream.local_addr()?;
+    Ok(Newcomer {
+        stream,
+        ends: Endpoints::of(peer, local),
+    })
 }
 
 impl<

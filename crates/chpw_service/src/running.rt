@@ -21,6 +21,7 @@ use chpw_table::Table;
 use chpw_transfers::AcceptLimit;
 use std::fs::{File, Files};
 use std::net::{Net, TcpListener, TcpStream};
+use std::slice;
 use std::sync::Wait;
 use std::thread::{self, Threads};
 use std::time::Clock;
@@ -166,7 +167,7 @@ fn serve_all<
         {
             let engine = &hall.engine;
             if scope
-                .spawn(move || engine.react(rt, listener, connections, kdc))
+                .spawn(move || engine.react(rt, slice::from_ref(listener), connections, kdc))
                 .is_err()
             {
                 return Err(LateFault::Memory);

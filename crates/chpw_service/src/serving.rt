@@ -31,7 +31,7 @@ use chpw_printing::put_time;
 use chpw_reactor::{Engine, PoolOptions, dialog_with};
 use chpw_rules::NamePatterns;
 use chpw_serve::{Clock as _, Messages as _};
-use chpw_sockets::DatagramSocket;
+use chpw_sockets::DatagramSockets;
 use chpw_start::{
     Configuration, Resumption, Rules, ServeFault, SetAside, configuration_of, is_shared, kdc_names,
     open_table, own_ids, raise_where_asked, read_seed, refuse_exposed, refuse_missing,
@@ -376,10 +376,11 @@ fn datagrams_of<'a, R: Net + AllocGlobal>(
     rt: &R,
     options: &ServeOptions<'_>,
     realm: &[u8],
-) -> Result<Option<DatagramSocket>, ServeFault<'a>>
+) -> Result<Option<DatagramSockets>, ServeFault<'a>>
     ensures none { options.now.udp ≡ false → result ≡ Ok None }
     ensures asked { options.now.udp ≡ true → IfOk result (λ socket. IsSome socket) }
     ensures realm { IfOk result (λ socket. IfSome socket (λ s. s.realm.items ≡ realm.now)) }
+    ensures port { IfOk result (λ socket. IfSome socket (λ s. s.port ≡ options.now.port)) }
     ensures fault { IfErr result IsLate }
 {
     if !options.udp {
@@ -389,8 +390,31 @@ fn datagrams_of<'a, R: Net + AllocGlobal>(
         return Err(ServeFault::Memory);
     };
     match UdpSocket::bind(rt, (Ipv4Addr::LOCALHOST, options.port)) {
-        Ok(socket) => Ok(Some(DatagramSocket { socket, realm })),
+        Ok(socket) => in_sockets(rt.alloc(), socket, options.port, realm),
         Err(_) => Err(ServeFault::CannotListen),
+    }
+}
+
+// One socket for datagrams, at this port.
+fn in_sockets<'a>(
+    alloc: Global,
+    socket: UdpSocket,
+    port: u16,
+    realm: Vec<u8>,
+) -> Result<Option<DatagramSockets>, ServeFault<'a>>
+    ensures asked { IfOk result (λ sockets. IsSome sockets) }
+    ensures realm { IfOk result (λ sockets. IfSome sockets (λ s. s.realm ≡ realm)) }
+    ensures port { IfOk result (λ sockets. IfSome sockets (λ s. s.port ≡ port)) }
+    ensures fault { IfErr result IsLate }
+{
+    let mut sockets = Vec::new(alloc);
+    match sockets.push(socket) {
+        Err(_) => Err(ServeFault::Memory),
+        Ok(()) => Ok(Some(DatagramSockets {
+            sockets,
+            port,
+            realm,
+        })),
     }
 }
 
@@ -423,7 +447,7 @@ fn engine_of<'a, R: Net>(
     alloc: Global,
     workers: u8,
     terms: &PoolOptions,
-    datagrams: Option<DatagramSocket>,
+    datagrams: Option<DatagramSockets>,
     kdc: Option<KdcSide>,
 ) -> Result<Engine, ServeFault<'a>>
     requires some_workers { 1 ≤ workers }

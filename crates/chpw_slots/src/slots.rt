@@ -10,6 +10,7 @@ ghost use Rattle.chpw_connection.specs.Slot.{wanted_at, left_at, queued_at, is_n
 ghost use Rattle.chpw_slots.specs.Waiting.{waits_for};
 
 use chpw_connection::{Change, Connection, Phase, WholeMessage};
+use chpw_endpoints::Endpoints;
 use slab::Slab;
 use std::alloc::{AllocError, Global};
 
@@ -182,13 +183,13 @@ impl Slots {
         }
     }
 
-    /// The peer of the connection in a slot.
-    pub fn peer(&self, slot: usize) -> [u8; 4]
-        ensures value { IfSome (get self.now.connections slot) (λ c. result ≡ c.peer) }
+    /// The two addresses of the connection in a slot.
+    pub fn ends(&self, slot: usize) -> Endpoints
+        ensures value { IfSome (get self.now.connections slot) (λ c. result ≡ c.ends) }
     {
         match self.connections.get(slot) {
-            None => [0; 4],
-            Some(connection) => connection.peer,
+            None => Endpoints::LOOPBACK,
+            Some(connection) => connection.ends,
         }
     }
 

@@ -1,6 +1,7 @@
 -- The connections of a pool at its start, and how one more comes.
 use Rattle.std.specs.Prelude.{◌≡◌, ◌⊎◌, ℕ, List, Option, false}
 use Rattle.slab.specs.Slab.{Slab, slab_len}
+use Rattle.chpw_endpoints.specs.declared.endpoints.Endpoints.{Endpoints}
 use Rattle.chpw_connections.specs.Held.{slots_of}
 use Rattle.chpw_slots.specs.Slots.{Happens, IsNew}
 use Rattle.chpw_connection.specs.Stages.{failed}
@@ -26,7 +27,7 @@ pub record IsBegun (side : Option KdcSide) (s : State) : Type 0 where
   }
 
 -- a new connection, which has ended if its socket can't be watched
-pub record IsAdmitted (peer : List ℕ) (now number : ℕ) (old new : Slab Connection) (slot : ℕ) : Type 0 where
+pub record IsAdmitted (ends : Endpoints) (now number : ℕ) (old new : Slab Connection) (slot : ℕ) : Type 0 where
   pub accepted : Slab Connection
-  pub is_new : IsNew peer now number old accepted slot
+  pub is_new : IsNew ends now number old accepted slot
   pub goes_on : Happens 0 accepted new slot failed ⊎ (new ≡ accepted)

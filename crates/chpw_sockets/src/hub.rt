@@ -18,15 +18,14 @@ ghost use Rattle.chpw_transfers.specs.declared.kdc.Release.{Release};
 ghost use Rattle.chpw_sockets.specs.Newcomers.{IsAdmitted, IsBegun};
 ghost use Rattle.chpw_sockets.specs.Places.{RemainsAt, StaysAt};
 ghost use Rattle.chpw_sockets.specs.Faults.{IsUnmade};
-ghost use Rattle.chpw_sockets.specs.Addresses.{peer_in};
 ghost use Rattle.chpw_sockets.specs.Shares.{may_place_stream};
 ghost use Rattle.chpw_transfers.specs.declared.state.Progress.TheVariants as progress;
 
-use crate::addresses::peer_of;
+use crate::own_sockets::OwnSockets;
 use crate::places::Sockets;
 use crate::pool_fault::PoolFault;
 use crate::sockets::Selector;
-use crate::udp::DatagramSocket;
+use crate::udp::DatagramSockets;
 use chpw_connections::{ConnectionLimits, Connections, Todo, Turn};
 use chpw_transfers::{KdcSide, Newcomer, Progress, State};
 use std::alloc::Global;
@@ -39,19 +38,19 @@ pub const STEPS: u32 = 64;
 #[derive(Drop)]
 pub struct Hub {
     pub state: State,
-    pub sockets: Sockets<mio::net::TcpStream, mio::net::UdpSocket>,
+    pub sockets: Sockets<mio::net::TcpStream, OwnSockets>,
 }
 
 impl Hub {
     /// No connections yet, for this many workers, but at least one; within these bounds, and with a place for the socket
-    /// of each connection. With a socket for them, messages come as datagrams too; with a KDC, keys are put there.
-    /// `Accept` if the system can't watch that socket, `Memory` if a growth is refused.
+    /// of each connection. With sockets for them, messages come as datagrams too; with a KDC, keys are put there.
+    /// `Accept` if the system can't watch those sockets, `Memory` if a growth is refused.
     pub fn new(
         alloc: Global,
         selector: &Selector,
         bounds: ConnectionLimits,
         workers: usize,
-        datagrams: Option<DatagramSocket>,
+        datagrams: Option<DatagramSockets>,
         kdc: Option<KdcSide>,
     ) -> Result<Hub, PoolFault>
         ensures begun { IfOk result (λ hub. IsBegun kdc hub.state) }
@@ -72,7 +71,7 @@ impl Hub {
     /// Admits a connection that has come: its slot. If there are as many as allowed, in all or over TCP, it is handed
     /// back, and a client waits for room. One whose socket can't be watched ends.
     pub fn admit(&mut self, newcomer: Newcomer, now: u64) -> Result<usize, Newcomer>
-        ensures admitted { IfOk result (λ slot. IsAdmitted (peer_in newcomer.address) now (accepted_by self.old.state.connections)
+        ensures admitted { IfOk result (λ slot. IsAdmitted newcomer.ends now (accepted_by self.old.state.connections)
             (slots_of self.old.state.connections) (slots_of self.new.state.connections) slot) }
         ensures placed { IfOk result (λ slot. slot < length self.old.sockets.by_slot.items → IsFresh self.new.sockets.by_slot.items slot) }
         ensures others { IfOk result (λ slot. AreElsewhere self.old.sockets.by_slot.items self.new.sockets.by_slot.items slot) }
@@ -87,7 +86,7 @@ impl Hub {
             self.state.has_newcomer = true;
             return Err(newcomer);
         }
-        match self.state.accept(peer_of(newcomer.address), now) {
+        match self.state.accept(newcomer.ends, now) {
             None => Err(newcomer),
             Some(slot) => {
                 self.put(slot, newcomer.stream);

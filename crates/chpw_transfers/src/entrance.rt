@@ -8,14 +8,15 @@ ghost use Rattle.chpw_transfers.specs.declared.accept_limit.AcceptLimit.TheVaria
 
 use crate::accept_limit::AcceptLimit;
 use crate::accepting::Accepting;
+use chpw_endpoints::Endpoints;
 use std::io::{Error, ErrorKind};
-use std::net::{SocketAddr, TcpStream};
+use std::net::TcpStream;
 
-/// A connection that has come, and where it comes from.
+/// A connection that has come, and its two addresses.
 #[derive(Drop)]
 pub struct Newcomer {
     pub stream: TcpStream,
-    pub address: SocketAddr,
+    pub ends: Endpoints,
 }
 
 /// Lets connections in.

@@ -2,6 +2,7 @@
 
 use crate::connections::script::Script;
 use chpw_connections::ConnectionLimits;
+use chpw_endpoints::Endpoints;
 use std::alloc::Global;
 use std::io;
 use support_cases::Census;
@@ -35,7 +36,7 @@ fn cut_at(alloc: Global, bytes: &[u8], place: usize, is_ended: bool) -> io::Resu
 
 fn cut_told(script: &mut Script, bytes: &[u8], place: usize, is_ended: bool) -> io::Result<String> {
     let alloc = script.alloc;
-    let Some(slot) = script.connections.accept([10, 0, 0, 1], 0) else {
+    let Some(slot) = script.connections.accept(Endpoints::LOOPBACK, 0) else {
         return Ok(String::from_str(alloc, "no room")?);
     };
     let (front, rest) = bytes.split_at(place.min(bytes.len()));

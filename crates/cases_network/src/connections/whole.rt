@@ -5,6 +5,7 @@ use crate::connections::showing::{bytes_text, peer_text, slots_text};
 use crate::connections::words::{address, number};
 use crate::words::no_case;
 use chpw_connections::{TakenMessage, Todo};
+use chpw_endpoints::Endpoints;
 use std::io;
 
 /// More than any case here notes.
@@ -35,8 +36,11 @@ impl Script {
     }
 
     fn accept(&mut self, words: &str, now: u64) -> io::Result<String> {
-        let peer = address(self.alloc, words)?;
-        match self.connections.accept(peer, now) {
+        let ends = Endpoints {
+            peer: address(words)?,
+            ..Endpoints::LOOPBACK
+        };
+        match self.connections.accept(ends, now) {
             None => Ok(String::from_str(self.alloc, "no room")?),
             Some(slot) => Ok(format!(in self.alloc; "slot {slot}")?),
         }
@@ -58,7 +62,7 @@ impl Script {
 
     fn taken_told(&self, taken: &TakenMessage) -> io::Result<String> {
         let slot = taken.slot();
-        let peer = peer_text(self.alloc, taken.peer())?;
+        let peer = peer_text(self.alloc, taken.ends().peer)?;
         let message = bytes_text(self.alloc, taken.message())?;
         Ok(format!(in self.alloc; "slot {slot} from {peer}: {message}")?)
     }

@@ -4,7 +4,7 @@ use Rattle.std.specs.Fmt.{decimal}
 use Rattle.std.proofs.lemmas.List.{nil_from_length}
 use Rattle.chpw_printing.specs.Quoting.{are_graphic}
 use Rattle.chpw_log.proofs.LineLemmas.{address_field}
-use Rattle.chpw_log.proofs.writing.put_address.Goals as goal
+use Rattle.chpw_log.proofs.writing.put_ipv4.Goals as goal
 
 pub returns-clause-field : goal.returns-clause-field
 returns-clause-field c =
