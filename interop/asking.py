@@ -148,10 +148,10 @@ def framed(*requests):
 
 
 class Connection:
-    """A connection, at which no read waits longer than so many seconds; from this address, where there is one."""
+    """A connection to a host, at which no read waits longer than so many seconds; from this address, where there is one."""
 
-    def __init__(self, port, seconds=30, address=None):
-        self.socket = socket.create_connection(("127.0.0.1", port), seconds, address and (address, 0))
+    def __init__(self, port, seconds=30, address=None, host="127.0.0.1"):
+        self.socket = socket.create_connection((host, port), seconds, address and (address, 0))
         self.reader = self.socket.makefile("rb")
 
     def send(self, *requests):

@@ -10,6 +10,7 @@ use Rattle.clap.specs.Values.{IsSignedIn, kind_of, read_as}
 use Rattle.clap.specs.Walk.{Row, Text, first_of, one_of}
 use Rattle.clap.specs.declared.builder.value_parser.Reading.TheVariants.{WithoutMinus}
 use Rattle.clap.specs.declared.error.Error.{Error}
+use Rattle.chpw_invocation.specs.Listening.{Listens, RefusesListen, listened}
 use Rattle.chpw_invocation.specs.Controls.{file_of, takes_file, word_of}
 use Rattle.chpw_invocation.specs.Refusals.{kind_for}
 use Rattle.chpw_invocation.specs.declared.refusing.Refusal.{Refusal}
@@ -136,6 +137,7 @@ pub record AsksServe (options : List Row) (asked : ServeOptions) : Type 0 where
   pub journal : HasText options (codes "journal") asked.journal.now
   pub seed : HasText options (codes "seed") asked.seed.now
   pub port : HasNumber 1 65535 options (codes "port") asked.port
+  pub listen : Listens options (listened asked.listen)
   pub workers : HasNumber 1 16 options (codes "workers") asked.workers
   pub connections : HasLimit options asked.connections
   pub idle : HasNumberOr 30 1 3600 options (codes "idle") asked.idle
@@ -265,11 +267,12 @@ RefusesImport options refusal =
 abbrev pub LacksKdc : List Row → Type 0
 LacksKdc options = IsGiven options (codes "require-kdc") true × (first_of (codes "kdc") options ≡ None)
 
--- Why a service isn't started: it lacks its KDC; otherwise a number of connections or `unlimited`.
+-- Why a service isn't started: it lacks its KDC; otherwise its addresses; otherwise a number of connections or `unlimited`.
 abbrev pub RefusesServe : List Row → Refusal → Type 0
 RefusesServe options refusal =
     ((refusal ≡ NoKdc) × LacksKdc options)
-    ⊎ ((refusal ≡ NoLimit) × LacksLimit options × ¬ (LacksKdc options))
+    ⊎ ((RefusesListen options refusal × ¬ (LacksKdc options))
+    ⊎ ((refusal ≡ NoLimit) × LacksLimit options × ¬ (LacksKdc options)))
 
 -- Why words in which clap finds no fault are refused: a refused client, control, import or service, a table in an unknown
 -- form, or a password of a realm of 0 or more than 255 bytes.

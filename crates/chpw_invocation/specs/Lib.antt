@@ -1,5 +1,6 @@
 pub mod Controls
 pub mod Invocations
+pub mod Listening
 pub mod Needs
 pub mod Options
 pub mod Program

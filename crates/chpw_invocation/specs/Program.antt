@@ -4,7 +4,7 @@ use Rattle.clap.specs.Walk.{Rule, Text}
 use Rattle.clap.specs.Simple.{App, Shape, app_of, new_shape}
 use Rattle.clap.specs.declared.builder.command.Command.{Command}
 use Rattle.clap.specs.declared.builder.command.Command.TheViews.{out-Command}
-use Rattle.chpw_invocation.specs.Options.{required, optional, flag, required_word, optional_word, port, workers}
+use Rattle.chpw_invocation.specs.Options.{required, optional, repeated, flag, required_word, optional_word, port, workers}
 use Rattle.chpw_invocation.specs.Options.{connections, idle, clients, buffers, raise, kdc_wait, iterations, kvno}
 
 abbrev pub command : Text → List Rule → Shape
@@ -65,8 +65,8 @@ new_journal = command (codes "new-journal")
     ∷ required (codes "journal")
     ∷ [])
 
--- serve --config FILE --journal FILE --seed FILE --port N --workers N --connections N [--idle SECONDS]
--- [--clients N] [--buffers MEBIBYTES] [--raise COUNT] [--log FILE] [--resume FILE] [--kdc SOCKET]
+-- serve --config FILE --journal FILE --seed FILE --port N [--listen ADDRESS].. --workers N --connections N
+-- [--idle SECONDS] [--clients N] [--buffers MEBIBYTES] [--raise COUNT] [--log FILE] [--resume FILE] [--kdc SOCKET]
 -- [--kdc-wait MILLISECONDS] [--require-kdc] [--control SOCKET] [--udp] [--rfc3244-only] [--strict-messages] [--strict-modes]
 -- [--existing-journal]
 abbrev pub serve : Shape
@@ -75,6 +75,7 @@ serve = command (codes "serve")
     ∷ required (codes "journal")
     ∷ required (codes "seed")
     ∷ port
+    ∷ repeated (codes "listen")
     ∷ workers
     ∷ connections
     ∷ idle

@@ -2,6 +2,8 @@
 ghost use Rattle.std.specs.Prelude.{◌≡◌, ◌≤◌, ℕ, Some, true, None, length, option_map};
 ghost use Rattle.chpw_invocation.specs.Controls.{file_of, word_of};
 
+use crate::listening::ListenAddresses;
+
 /// The greatest `--port`.
 pub const GREATEST_PORT: u16 = 65_535;
 
@@ -100,6 +102,8 @@ pub struct ServeOptions<'a> {
     pub seed: &'a str,
     /// 1 to 65535.
     pub port: u16,
+    /// The addresses at which it listens; default [`USUAL_ADDRESS`](crate::USUAL_ADDRESS).
+    pub listen: ListenAddresses,
     /// 1 to 16.
     pub workers: u8,
     /// After how many connections it ends.

@@ -2,6 +2,7 @@
 #![tactic(auto)]
 
 mod invocation;
+mod listening;
 mod matching;
 mod options;
 mod program;
@@ -14,5 +15,6 @@ pub use invocation::{
     PasswordSource, ServeOptions, TableForm, TableOptions, USUAL_BUFFERS, USUAL_CLIENTS,
     USUAL_COUNT, USUAL_IDLE, USUAL_KDC_WAIT, USUAL_KVNO,
 };
+pub use listening::{ListenAddresses, MOST_ADDRESSES, USUAL_ADDRESS};
 pub use matching::command_of;
 pub use program::VERSION;

@@ -16,6 +16,7 @@ ghost use Rattle.chpw_invocation.specs.Invocations.{MayHaveNumber};
 ghost use Rattle.chpw_invocation.specs.Invocations.{RefusesClient, RefusesControl, RefusesImport, RefusesServe, form_asked, form_of_name};
 ghost use Rattle.chpw_invocation.specs.Controls as controls;
 ghost use Rattle.chpw_invocation.specs.Controls.{file_of, word_of};
+ghost use Rattle.chpw_invocation.specs.Listening.{Listens, RefusesListen, listened};
 
 use crate::invocation::{
     ClientOptions, ConnectionLimit, ControlCommand, ControlOptions, GREATEST_COUNT, GREATEST_KVNO,
@@ -24,6 +25,7 @@ use crate::invocation::{
     PasswordSource, ServeOptions, TableForm, TableOptions, USUAL_BUFFERS, USUAL_CLIENTS,
     USUAL_COUNT, USUAL_IDLE, USUAL_KDC_WAIT, USUAL_KVNO,
 };
+use crate::listening::{ListenAddresses, addresses_of};
 use crate::program::program as new_program;
 use crate::refusing::{Refusal, import_refusal, lacks_kdc, refusal_of};
 use clap::{ArgMatches, Error};
@@ -188,12 +190,14 @@ fn serve_of<'a>(options: &ArgMatches<'a>) -> Option<Invocation<'a>>
     if lacks_kdc(options) {
         return None;
     }
-    service_of(options)
+    let listen = listen_of(options).ok()?;
+    service_of(options, listen)
 }
 
 // A service whose options agree.
 #[tactic(auto, using(crate::proofs::NeedLemmas::required_there))]
-fn service_of<'a>(options: &ArgMatches<'a>) -> Option<Invocation<'a>>
+fn service_of<'a>(options: &ArgMatches<'a>, listen: ListenAddresses) -> Option<Invocation<'a>>
+    requires listen { Listens (rows_of (found_of options.now)) (listened listen) }
     ensures asked { IfSome result (AsksFor (Some (codes "serve", rows_of (found_of options.now)))) }
     ensures none { Meets specs_of.serve (rows_of (found_of options.now)) → result ≡ None
         → LacksLimit (rows_of (found_of options.now)) }
@@ -203,6 +207,7 @@ fn service_of<'a>(options: &ArgMatches<'a>) -> Option<Invocation<'a>>
         journal: text_of(options, "journal")?,
         seed: text_of(options, "seed")?,
         port: port_of(options)?,
+        listen,
         workers: workers_of(options)?,
         connections: connections_of(options)?,
         idle: idle_of(options)?,
@@ -330,6 +335,18 @@ pub(crate) fn text_of<'a>(options: &ArgMatches<'a>, name: &str) -> Option<&'a st
         ≡ first_of name.now (rows_of (found_of options.now)) }
 {
     options.get_str(name)
+}
+
+/// Where a service listens, if its addresses are such; none may be a wildcard if it takes datagrams.
+pub(crate) fn listen_of(options: &ArgMatches<'_>) -> Result<ListenAddresses, Refusal>
+    ensures listen { IfOk result (λ l. Listens (rows_of (found_of options.now)) (listened l)) }
+    ensures refused { IfErr result (RefusesListen (rows_of (found_of options.now))) }
+{
+    let listen = addresses_of(options.get_strs("listen").unwrap_or(&[]))?;
+    if is_given(options, "udp") && listen.as_slice().iter().any(|a| a.is_unspecified()) {
+        return Err(Refusal::AnyDatagrams);
+    }
+    Ok(listen)
 }
 
 /// Whether a flag is given.

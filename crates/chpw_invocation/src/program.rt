@@ -10,7 +10,7 @@ use crate::invocation::{
     MOST_CLIENTS, MOST_WORKERS,
 };
 use crate::options::{
-    OptionLine, argument_of, flag, number, optional, optional_number, optional_word,
+    OptionLine, argument_of, flag, number, optional, optional_number, optional_word, repeated,
     required_option, word,
 };
 use clap::Command;
@@ -74,11 +74,11 @@ const OLD_JOURNAL_HELP: &str = "The journal of accepted changes, which must exis
 
 const AS_HELP: &str = "lines, configuration or keys [default: lines]";
 
-const SERVE: &str = "Run the service on 127.0.0.1.";
+const SERVE: &str = "Run the service.";
 
 const SERVE_MORE: &str = "\
-Prints 'listening on 127.0.0.1:N' before it accepts the first connection, and 'entries N changes N' at
-the end and whenever a history ends, when it is full or by a reload or 'control compact': how many
+Prints 'listening on ADDRESS:PORT' for each address before it accepts the first connection, and
+'entries N changes N' at the end and whenever a history ends, when it is full or by a reload or 'control compact': how many
 requests were decided, and how many of them changed a password.
 
 Connection i is answered by worker i modulo the number of workers; with --udp each datagram counts as
@@ -142,7 +142,7 @@ const REQUIRE_KDC_HELP: &str =
 
 const CONTROL_HELP: &str = "Accept commands of 'control' at this socket [default: none]";
 
-const UDP_HELP: &str = "Accept messages over UDP too, at the same port";
+const UDP_HELP: &str = "Accept messages over UDP too, at the same port and addresses";
 
 const RFC3244_ONLY_HELP: &str =
     "Answer requests of the earlier protocol, version 0x0001, with 'bad version'";
@@ -251,7 +251,12 @@ Example:
 const SEED_HELP: &str =
     "A file whose first 32 bytes seed the random numbers; use a new seed for each run";
 
-const PORT_HELP: &str = "The service's port on 127.0.0.1, 1 to 65535";
+const LISTEN_HELP: &str =
+    "An address of this host to listen at, IPv4 or IPv6; as often as there are addresses [default: 127.0.0.1]";
+
+const PORT_HELP: &str = "The port to listen at, 1 to 65535";
+
+const CLIENT_PORT_HELP: &str = "The service's port on 127.0.0.1, 1 to 65535";
 
 const CLIENT_HELP: &str =
     "The client's principal: 1 to 8 components of 1 to 128 bytes, with / between them, as alice or alice/admin";
@@ -369,6 +374,7 @@ fn serve<'a>(alloc: Global) -> Result<Command<'a>, AllocError>
         required_option("journal", "FILE", JOURNAL_HELP),
         required_option("seed", "FILE", SEED_HELP),
         number("port", "N", GREATEST_PORT as u32, PORT_HELP),
+        repeated("listen", "ADDRESS", LISTEN_HELP),
         number("workers", "N", MOST_WORKERS as u32, WORKERS_HELP),
         required_option("connections", "N", CONNECTIONS_HELP),
         optional_number("idle", "SECONDS", LONGEST_IDLE as u32, IDLE_HELP),
@@ -409,7 +415,7 @@ fn client<'a>(alloc: Global) -> Result<Command<'a>, AllocError>
     let options = [
         required_option("config", "FILE", CONFIG_HELP),
         required_option("seed", "FILE", SEED_HELP),
-        number("port", "N", GREATEST_PORT as u32, PORT_HELP),
+        number("port", "N", GREATEST_PORT as u32, CLIENT_PORT_HELP),
         required_option("client", "NAME", CLIENT_HELP),
         optional("password", "TEXT", PASSWORD_HELP),
         optional("password-file", "FILE", NEW_PASSWORD_FILE_HELP),

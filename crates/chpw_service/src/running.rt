@@ -21,7 +21,6 @@ use chpw_table::Table;
 use chpw_transfers::AcceptLimit;
 use std::fs::{File, Files};
 use std::net::{Net, TcpListener, TcpStream};
-use std::slice;
 use std::sync::Wait;
 use std::thread::{self, Threads};
 use std::time::Clock;
@@ -46,7 +45,7 @@ pub(crate) fn serve_from<
 >(
     rt: &'h R,
     time: &'h T,
-    listener: &TcpListener,
+    listeners: &[TcpListener],
     hall: &'h ServiceContext<'l, R>,
     control: ControlTerms,
     rules: Rules,
@@ -60,7 +59,7 @@ pub(crate) fn serve_from<
 {
     let kdc = SocketKdc::of(rt, time, hall.log, &hall.journal, hall.kdc, control);
     let mut first = Some(first);
-    let ended = serve_with_staff(rt, time, listener, hall, kdc, rules, &mut first, terms);
+    let ended = serve_with_staff(rt, time, listeners, hall, kdc, rules, &mut first, terms);
     match first {
         None => {}
         Some(Opened { desk, passes }) => {
@@ -93,7 +92,7 @@ fn serve_with_staff<
 >(
     rt: &'h R,
     time: &'t T,
-    listener: &TcpListener,
+    listeners: &[TcpListener],
     hall: &'h ServiceContext<'l, R>,
     kdc: F,
     rules: Rules,
@@ -110,7 +109,7 @@ fn serve_with_staff<
         Ok(workers) => serve_all(
             rt,
             time,
-            listener,
+            listeners,
             hall,
             kdc,
             rules,
@@ -143,7 +142,7 @@ fn serve_all<
 >(
     rt: &'h R,
     time: &'t T,
-    listener: &TcpListener,
+    listeners: &[TcpListener],
     hall: &'h ServiceContext<'l, R>,
     kdc: F,
     rules: Rules,
@@ -167,7 +166,7 @@ fn serve_all<
         {
             let engine = &hall.engine;
             if scope
-                .spawn(move || engine.react(rt, slice::from_ref(listener), connections, kdc))
+                .spawn(move || engine.react(rt, listeners, connections, kdc))
                 .is_err()
             {
                 return Err(LateFault::Memory);

@@ -11,7 +11,7 @@ ghost use Rattle.chpw_start.specs.Raised.{IsRaisedWhereAsked};
 ghost use Rattle.chpw_service.specs.Serving.{IsAskedFor, limit_asked, reach_asked};
 ghost use Rattle.chpw_start.specs.declared.raising.RaiseReport.{RaiseReport};
 ghost use Rattle.chpw_service.specs.WholeRuns.{IsServedFrom, IsWholeRun};
-ghost use Rattle.chpw_start.specs.declared.fault.ServeFault.TheVariants.{CannotListen};
+ghost use Rattle.chpw_invocation.specs.Listening.{listened};
 ghost use Rattle.chpw_logging.specs.declared.logging.LogLines.{LogLines};
 ghost use Rattle.rand_chacha.specs.ChaCha.{key_of};
 
@@ -43,21 +43,21 @@ use chpw_workers::MachineClock;
 use std::alloc::Global;
 use std::fs::{File, Files};
 use std::marker::Brand;
-use std::net::{Ipv4Addr, Net, TcpListener, TcpStream, UdpSocket};
+use std::net::{Net, SocketAddr, TcpListener, TcpStream, UdpSocket};
 use std::rt::Env;
 use std::str;
 use std::sync::Wait;
 use std::thread::Threads;
 use std::time::Clock;
 
-/// Serves so many connections on 127.0.0.1, the messages of connection i (from 0) by worker i modulo their number,
+/// Serves so many connections at its addresses, the messages of connection i (from 0) by worker i modulo their number,
 /// one after the other. The configuration is read first, then the seed; with strict modes the start is refused then if
 /// others may read, write or replace its files, and where the journal must exist, if it doesn't; then the log is opened if
-/// there is one, and the journal is read; then what a clean end left in the resume file is taken over, if there is one and it
-/// fits; then the
-/// iteration count of new keys is raised if that is asked for, and the service listens at the port. A torn tail that
+/// there is one, its addresses are bound, and the journal is read; then what a clean end left in the resume file is taken
+/// over, if there is one and it fits; then the iteration count of new keys is raised if that is asked for, and the service
+/// listens. A torn tail that
 /// was cut off the journal is reported on standard error. Printed are the result of the raise, `listening on
-/// 127.0.0.1:N` before a connection is accepted, when the service manager is told too, and `entries N changes N` for
+/// ADDRESS:PORT` for each address before a connection is accepted, when the service manager is told too, and `entries N changes N` for
 /// each history: when one is full, its desk is closed, and the next one opens with the closed table and its used ids.
 /// With a control socket it carries out the commands that come there, and ends when told to stop.
 pub fn serve<
@@ -106,6 +106,7 @@ pub fn serve_by<
     let Ok(rules) = rules_of(rt.alloc(), &config, text, &options) else {
         return Err(ServeFault::Memory);
     };
+    let doors = doors_of(rt, &options, rules.service.realm())?;
     let mut clock = MachineClock::new(time);
     let Journal {
         table,
@@ -142,6 +143,7 @@ pub fn serve_by<
         log: &log,
         journal,
         kdc,
+        doors,
     };
     let control = ControlTerms {
         listener,
@@ -229,6 +231,14 @@ struct Start<'l, R> {
     log: &'l Log<'l, R>,
     journal: JournalLength,
     kdc: Option<KdcSide>,
+    doors: Doors,
+}
+
+/// The sockets at the service's addresses: a listener for each, and with datagrams a socket for each.
+#[derive(Drop)]
+struct Doors {
+    listeners: Vec<TcpListener>,
+    datagrams: Option<DatagramSockets>,
 }
 
 // Serves what is opened: at the first desk the count is raised if that is asked for, and then the service listens at
@@ -268,11 +278,10 @@ fn serve_opened<
         return Err(ServeFault::Memory);
     };
     let terms = start.terms;
-    let realm = rules.service.realm();
-    match raise_and_listen(rt, time, start, realm, &desk, &mut passes, clock) {
-        Ok((listener, hall)) => {
+    match raise_and_listen(rt, time, start, &desk, &mut passes, clock) {
+        Ok((listeners, hall)) => {
             let first = Opened { desk, passes };
-            serve_from(rt, time, &listener, &hall, control, rules, first, terms)
+            serve_from(rt, time, &listeners, &hall, control, rules, first, terms)
         }
         Err(fault) => {
             desk.abandon(rt);
@@ -293,11 +302,10 @@ fn raise_and_listen<
     rt: &R,
     time: &T,
     start: Start<'l, R>,
-    realm: &[u8],
     desk: &Desk<D, FileSink<File>>,
     passes: &mut [Pass<D>],
     clock: &mut C,
-) -> Result<(TcpListener, ServiceContext<'l, R>), ServeFault<'a>>
+) -> Result<(Vec<TcpListener>, ServiceContext<'l, R>), ServeFault<'a>>
     ensures workers { IfOk result (λ r. r.1.workers ≡ start.entry.options.now.workers) }
     ensures options { IfOk result (λ r. r.1.options.now ≡ start.entry.options.now) }
     ensures kdc { IfOk result (λ r. (r.1.kdc.socket ≡ start.entry.options.now.kdc)
@@ -310,10 +318,10 @@ fn raise_and_listen<
     if let Some(told) = raise_where_asked(rt, desk, passes, clock, start.options.raise)? {
         start.log.tell_raise(MachineClock::new(time).now(), told);
     }
-    listening(rt, start, realm)
+    listening(rt, start)
 }
 
-// Listens at the port, and prints that. Over UDP tickets of this realm are answered.
+// Listens, and prints at which addresses.
 fn listening<
     'a,
     'l,
@@ -321,8 +329,7 @@ fn listening<
 >(
     rt: &R,
     start: Start<'l, R>,
-    realm: &[u8],
-) -> Result<(TcpListener, ServiceContext<'l, R>), ServeFault<'a>>
+) -> Result<(Vec<TcpListener>, ServiceContext<'l, R>), ServeFault<'a>>
     ensures workers { IfOk result (λ r. r.1.workers ≡ start.entry.options.now.workers) }
     ensures options { IfOk result (λ r. r.1.options.now ≡ start.entry.options.now) }
     ensures kdc { IfOk result (λ r. (r.1.kdc.socket ≡ start.entry.options.now.kdc)
@@ -335,9 +342,11 @@ fn listening<
         log,
         journal,
         kdc,
+        doors: Doors {
+            listeners,
+            datagrams,
+        },
     } = start;
-    let listener = listen(rt, options.port)?;
-    let datagrams = datagrams_of(rt, options, realm)?;
     let engine = engine_of(rt, rt.alloc(), options.workers, &terms, datagrams, kdc)?;
     let hall = ServiceContext {
         engine,
@@ -350,37 +359,61 @@ fn listening<
         },
         options,
     };
-    match println!(rt; "listening on 127.0.0.1:{}", options.port) {
-        Ok(()) => {
-            notify_ready(rt, hall.log);
-            Ok((listener, hall))
+    for address in options.listen.as_slice() {
+        let place = SocketAddr::new(*address, options.port);
+        if println!(rt; "listening on {place}").is_err() {
+            return Err(ServeFault::CannotPrint);
         }
-        Err(_) => Err(ServeFault::CannotPrint),
     }
+    notify_ready(rt, hall.log);
+    Ok((listeners, hall))
 }
 
-fn listen<'a, R: Net<Listener = TcpListener, Stream = TcpStream>>(
+// The sockets at the service's addresses; over UDP tickets of this realm are answered.
+fn doors_of<'a, R: Net<Listener = TcpListener, Stream = TcpStream> + AllocGlobal>(
     rt: &R,
-    port: u16,
-) -> Result<TcpListener, ServeFault<'a>>
-    ensures fault { IfErr result (λ fault. fault ≡ CannotListen) }
+    options: &ServeOptions<'_>,
+    realm: &[u8],
+) -> Result<Doors, ServeFault<'a>>
+    ensures fault { IfErr result IsLate }
 {
-    match TcpListener::bind(rt, (Ipv4Addr::LOCALHOST, port)) {
-        Ok(listener) => Ok(listener),
-        Err(_) => Err(ServeFault::CannotListen),
-    }
+    Ok(Doors {
+        listeners: listeners_of(rt, options)?,
+        datagrams: datagrams_of(rt, options, realm)?,
+    })
 }
 
-// The port over UDP, if that is asked for, where tickets of this realm are answered.
+// A listener for each address.
+fn listeners_of<'a, R: Net<Listener = TcpListener, Stream = TcpStream> + AllocGlobal>(
+    rt: &R,
+    options: &ServeOptions<'_>,
+) -> Result<Vec<TcpListener>, ServeFault<'a>>
+    ensures each { IfOk result (λ v. length v.items ≡ length (listened options.now.listen)) }
+    ensures fault { IfErr result IsLate }
+{
+    let mut listeners = Vec::new(rt.alloc());
+    for address in options.listen.as_slice() {
+        let listener = match TcpListener::bind(rt, (*address, options.port)) {
+            Ok(listener) => listener,
+            Err(_) => return Err(ServeFault::CannotListen),
+        };
+        if listeners.push(listener).is_err() {
+            return Err(ServeFault::Memory);
+        }
+    }
+    Ok(listeners)
+}
+
+// A socket for datagrams at each address, if they are asked for, where tickets of this realm are answered.
 fn datagrams_of<'a, R: Net + AllocGlobal>(
     rt: &R,
     options: &ServeOptions<'_>,
     realm: &[u8],
 ) -> Result<Option<DatagramSockets>, ServeFault<'a>>
     ensures none { options.now.udp ≡ false → result ≡ Ok None }
-    ensures asked { options.now.udp ≡ true → IfOk result (λ socket. IsSome socket) }
-    ensures realm { IfOk result (λ socket. IfSome socket (λ s. s.realm.items ≡ realm.now)) }
-    ensures port { IfOk result (λ socket. IfSome socket (λ s. s.port ≡ options.now.port)) }
+    ensures asked { options.now.udp ≡ true → IfOk result (λ sockets. IsSome sockets) }
+    ensures realm { IfOk result (λ sockets. IfSome sockets (λ s. s.realm.items ≡ realm.now)) }
+    ensures port { IfOk result (λ sockets. IfSome sockets (λ s. s.port ≡ options.now.port)) }
     ensures fault { IfErr result IsLate }
 {
     if !options.udp {
@@ -389,33 +422,32 @@ fn datagrams_of<'a, R: Net + AllocGlobal>(
     let Ok(realm) = Vec::from_slice(rt.alloc(), realm) else {
         return Err(ServeFault::Memory);
     };
-    match UdpSocket::bind(rt, (Ipv4Addr::LOCALHOST, options.port)) {
-        Ok(socket) => in_sockets(rt.alloc(), socket, options.port, realm),
-        Err(_) => Err(ServeFault::CannotListen),
-    }
+    Ok(Some(DatagramSockets {
+        sockets: sockets_of(rt, options)?,
+        port: options.port,
+        realm,
+    }))
 }
 
-// One socket for datagrams, at this port.
-fn in_sockets<'a>(
-    alloc: Global,
-    socket: UdpSocket,
-    port: u16,
-    realm: Vec<u8>,
-) -> Result<Option<DatagramSockets>, ServeFault<'a>>
-    ensures asked { IfOk result (λ sockets. IsSome sockets) }
-    ensures realm { IfOk result (λ sockets. IfSome sockets (λ s. s.realm ≡ realm)) }
-    ensures port { IfOk result (λ sockets. IfSome sockets (λ s. s.port ≡ port)) }
+// A socket for datagrams at each address.
+fn sockets_of<'a, R: Net + AllocGlobal>(
+    rt: &R,
+    options: &ServeOptions<'_>,
+) -> Result<Vec<UdpSocket>, ServeFault<'a>>
+    ensures each { IfOk result (λ v. length v.items ≡ length (listened options.now.listen)) }
     ensures fault { IfErr result IsLate }
 {
-    let mut sockets = Vec::new(alloc);
-    match sockets.push(socket) {
-        Err(_) => Err(ServeFault::Memory),
-        Ok(()) => Ok(Some(DatagramSockets {
-            sockets,
-            port,
-            realm,
-        })),
+    let mut sockets = Vec::new(rt.alloc());
+    for address in options.listen.as_slice() {
+        let socket = match UdpSocket::bind(rt, (*address, options.port)) {
+            Ok(socket) => socket,
+            Err(_) => return Err(ServeFault::CannotListen),
+        };
+        if sockets.push(socket).is_err() {
+            return Err(ServeFault::Memory);
+        }
     }
+    Ok(sockets)
 }
 
 // The terms of the pool.
