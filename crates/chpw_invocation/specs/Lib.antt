@@ -5,3 +5,4 @@ pub mod Needs
 pub mod Options
 pub mod Program
 pub mod Refusals
+pub mod Sharing
