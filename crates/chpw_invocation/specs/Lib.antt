@@ -1,3 +1,4 @@
+pub mod Addresses
 pub mod Controls
 pub mod Invocations
 pub mod Listening
