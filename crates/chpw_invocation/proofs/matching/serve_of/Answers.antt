@@ -10,7 +10,7 @@ returns-then-lacks_kdc-clause-none c = λ whole none. (NoKdc, inl (refl, c.lacks
 
 pub returns-in-Err-clause-none : goal.returns-in-Err-clause-none
 returns-in-Err-clause-none c = λ whole none. (
-  c.in-Err.refusal,
+  c.in-Err.field-0,
   inr (inl (
     c.in-Err.ensures.refused,
     c.lacks_kdc.ensures.own (flag_suits (rows_of (found_of c.args.options.now)) whole) c.if-lacks_kdc.false,
