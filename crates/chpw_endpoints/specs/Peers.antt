@@ -1,5 +1,5 @@
 -- Whose share of the connections one counts in.
-use Rattle.std.specs.Prelude.{◌≡◌, ℕ, ◌/◌, ◌^◌, ◌==◌, ◌⊎◌, Bool, false, Option, MatchOption}
+use Rattle.std.specs.Prelude.{◌≡◌, ◌/◌, ◌^◌, ◌==◌, ◌⊎◌, Bool, false, Option, MatchOption}
 use Rattle.std.specs.Net.Addr.{MatchIp, IsLoopbackV4, IsLoopbackV6, ipv4_bits, ipv6_bits}
 use Rattle.std.specs.declared.net.ip_addr.IpAddr.{IpAddr}
 use Rattle.std.specs.declared.net.ip_addr.IpAddr.TheVariants.{V4, V6}
@@ -13,7 +13,7 @@ peer_of (V4 ip) = Host (ipv4_bits ip)
 peer_of (V6 ip) = Network (ipv6_bits ip / 2 ^ 64)
 
 -- the same one
-abbrev pub is_peer : Peer → Peer → Bool
+unfoldable pub is_peer : Peer → Peer → Bool
 is_peer (Host a) (Host b) = a == b
 is_peer (Network a) (Network b) = a == b
 is_peer (Host a) (Network b) = false

@@ -27,6 +27,7 @@ impl Peer {
     }
 
     /// Whether it is this one.
+    #[tactic(auto, unfolding(crate::specs::Peers::is_peer))]
     pub fn is(self, other: Peer) -> bool
         ensures value { result ≡ is_peer self other }
     {

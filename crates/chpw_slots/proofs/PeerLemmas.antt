@@ -1,14 +1,15 @@
 -- How many connections a peer has, where one of them comes, changes or goes.
-use Rattle.std.proofs.Common.{◌≡◌, ℕ, ◌+◌, ◌<◌, ◌≤◌, ap, arith, refl, subst, sym, ◌∙◌, Bool, true, false, not, nat_lt, cond, ◌==◌, Option, Some, None, List, []}
+use Rattle.std.proofs.Common.{◌≡◌, ℕ, ◌+◌, ◌<◌, ◌≤◌, ap, arith, refl, Bool, true, false, cond, Option, Some, None, List, [], length}
 use Rattle.std.specs.List.{sum_by}
 use Rattle.std.proofs.lemmas.Bool.Decides.{nat_tests}
 use Rattle.slab.specs.Slab.{Slab, get, Updates}
 use Rattle.chpw_endpoints.specs.Peers.{is_peer}
 use Rattle.chpw_endpoints.specs.declared.peer.Peer.{Peer}
-use Rattle.chpw_endpoints.specs.declared.peer.Peer.TheVariants.{Host, Network}
+use Rattle.chpw_endpoints.proofs.PeerLemmas.{same_peer}
 use Rattle.chpw_connection.specs.Shares.{is_share_of, one_of_share, one_of_peer}
 use Rattle.chpw_connection.specs.declared.connection.Connection.{Connection}
 use Rattle.chpw_slots.specs.Shares.{count_of, is_share_full, IsShared}
+use Rattle.chpw_slots.proofs.CountLemmas.{below, below_all}
 use Rattle.chpw_slots.proofs.HeldLemmas.{changed_sum}
 
 pub one_of_peer_le : (peer : Peer) (o : Option Connection) → one_of_peer peer o ≤ 1
@@ -22,6 +23,7 @@ one_of_peer_le peer (Some c) = by_test (is_share_of peer c.share)
 -- what was in the slot goes, and what is there now comes
 count_updates : (peer : Peer) (old new : Slab Connection) (key : ℕ) (o : Option Connection) → Updates old new key o
     → count_of peer new + one_of_peer peer (get old key) ≡ count_of peer old + one_of_peer peer o
+unfolding count_of
 count_updates peer old new key o updates =
     omega (
       arith,
@@ -31,9 +33,15 @@ count_updates peer old new key o updates =
 
 -- no connections are in no share
 pub shared_none : (most : ℕ) (slots : Slab Connection) → slots.slots ≡ [] → IsShared most slots
+unfolding count_of
 shared_none most slots is peer =
     let none : count_of peer slots ≡ 0 = ap (λ (l : List (Option Connection)). sum_by (one_of_peer peer) l) is in
     omega (arith, none)
+
+-- each slot in its turn, up to the last
+pub count_all : (peer : Peer) (slots : Slab Connection) (n : ℕ) → length slots.slots ≤ n → below (one_of_peer peer) slots n ≡ count_of peer slots
+unfolding count_of
+count_all peer slots n few = below_all (one_of_peer peer) slots n few
 
 -- one that goes leaves room for itself
 pub shared_removed : (most : ℕ) (old new : Slab Connection) (key : ℕ) → Updates old new key None → IsShared most old → IsShared most new
@@ -49,12 +57,9 @@ pub shared_put : (most : ℕ) (old new : Slab Connection) (key : ℕ) (c : Conne
 shared_put most old new key c updates free fits peer =
     omega (arith, count_updates peer old new key (Some c) updates, ap (one_of_peer peer) free, fits peer)
 
--- peers that are the same are one peer
-same_peer : (a b : Peer) → is_peer a b ≡ true → a ≡ b
-same_peer (Host a) (Host b) is = let e : a ≡ b = grind (arith, nat_tests) in ap (λ (n : ℕ). Host n) e
-same_peer (Network a) (Network b) is = let e : a ≡ b = grind (arith, nat_tests) in ap (λ (n : ℕ). Network n) e
-same_peer (Host a) (Network b) is = absurd cc
-same_peer (Network a) (Host b) is = absurd cc
+-- one if so
+abbrev one_if : Bool → ℕ
+one_if t = cond t 1 0
 
 -- one more of a peer that has fewer than it may
 room_for_one : (most : ℕ) (slots : Slab Connection) (share : Option Peer) → is_share_full most slots share ≡ false → IsShared most slots
@@ -65,13 +70,13 @@ room_for_one most slots (Some own) room shared peer = by_test (is_peer own peer)
     few : count_of own slots < most
     few = grind (arith, nat_tests)
 
-    by_test : (t : Bool) → is_peer own peer ≡ t → count_of peer slots + cond (is_peer own peer) 1 0 ≤ most
+    by_test : (t : Bool) → is_peer own peer ≡ t → count_of peer slots + one_of_share peer (Some own) ≤ most
     by_test true is =
         let own_is : count_of own slots ≡ count_of peer slots = ap (λ (p : Peer). count_of p slots) (same_peer own peer is) in
-        let one : cond (is_peer own peer) 1 0 ≡ 1 = ap (λ (t : Bool). cond t 1 0) is in
+        let one : one_of_share peer (Some own) ≡ 1 = ap (λ (t : Bool). one_if t) is in
         omega (arith, own_is, one, few)
     by_test false is =
-        let none : cond (is_peer own peer) 1 0 ≡ 0 = ap (λ (t : Bool). cond t 1 0) is in
+        let none : one_of_share peer (Some own) ≡ 0 = ap (λ (t : Bool). one_if t) is in
         omega (arith, none, shared peer)
 
 pub shared_accepted : (most : ℕ) (old new : Slab Connection) (key : ℕ) (c : Connection) → Updates old new key (Some c) → get old key ≡ None

@@ -6,7 +6,7 @@ use Rattle.chpw_connection.specs.declared.connection.Connection.{Connection}
 use Rattle.chpw_connection.specs.Shares.{one_of_peer}
 
 -- those in this peer's share
-abbrev pub count_of : Peer → Slab Connection → ℕ
+unfoldable pub count_of : Peer → Slab Connection → ℕ
 count_of peer slots = sum_by (one_of_peer peer) slots.slots
 
 -- no peer has more than so many

@@ -1,6 +1,6 @@
 -- What happens to connections in their slots, and how many bytes they hold together. Slots are numbers, and moments
 -- milliseconds.
-use Rattle.std.specs.Prelude.{◌≡◌, ◌≢◌, ℕ, List, Option, None, IsSomeAnd, [], sum_by}
+use Rattle.std.specs.Prelude.{◌≡◌, ◌≢◌, ℕ, Option, None, IsSomeAnd, [], sum_by}
 use Rattle.slab.specs.Slab.{Slab, get, slab_len}
 use Rattle.chpw_endpoints.specs.declared.endpoints.Endpoints.{Endpoints}
 use Rattle.chpw_endpoints.specs.declared.peer.Peer.{Peer}

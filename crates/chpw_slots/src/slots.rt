@@ -1,6 +1,6 @@
 //! Connections by slot, and how each event comes to one of them.
 ghost use Rattle.std.specs.Prelude.{◌≡◌, ◌+◌, ◌<◌, ◌≤◌, ◌^◌, ◌%◌, ℕ, Some, None, IfSome, IfNone, IfOk, OnOk};
-ghost use Rattle.std.specs.Prelude.{OnErr, OnSome, option_copied, option_map, length, is_some, if◌then◌else◌};
+ghost use Rattle.std.specs.Prelude.{false, OnErr, OnSome, option_copied, option_map, length, is_some, if◌then◌else◌};
 ghost use Rattle.slab.specs.Slab.{get, slab_len, HasRoomFor, Updates};
 ghost use Rattle.chpw_connection.specs.Holding.{held_by, held_at, growth_at};
 ghost use Rattle.chpw_slots.specs.Slots.{held_in, Happens, Stands};
@@ -96,9 +96,13 @@ impl Slots {
         ensures per_peer { self.new.per_peer ≡ self.old.per_peer }
         ensures absent { IfNone result (self.new ≡ self.old) }
     {
-        let connection = self.connections.try_remove(slot)?;
-        self.held -= connection.bytes_held();
-        Some(connection)
+        match self.connections.try_remove(slot) {
+            None => None,
+            Some(connection) => {
+                self.held -= connection.bytes_held();
+                Some(connection)
+            }
+        }
     }
 
     // Puts a connection into the slot that is the next one to be filled.
