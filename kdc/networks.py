@@ -12,20 +12,29 @@ import pathlib
 import shutil
 import subprocess
 
-# of each host, by the last part of its addresses
+FAMILIES = ("IPv4", "IPv6")
+# how many bits of an address of either are the network's
+BITS = (24, 64)
+# of each host, the last part of its addresses
 HOSTS = {"kdc": 1, "client": 2, "other": 3}
+# and of one that has moved
+LAST = {**HOSTS, "moved": 4}
 # of setns(2)
 CLONE_NEWNET = 0x40000000
 
 
 def addresses(host):
     """Its address of IPv4, and that of IPv6."""
-    return f"10.9.0.{HOSTS[host]}", f"fd00:9::{HOSTS[host]}"
+    return f"10.9.0.{LAST[host]}", f"fd00:9::{LAST[host]}"
 
 
 def bracketed(address):
     """As it stands before a colon and a port."""
     return f"[{address}]" if ":" in address else address
+
+
+def interface_of(host):
+    return "bridge" if host == "kdc" else "ether"
 
 
 def ip(*words):
@@ -73,12 +82,39 @@ class Network:
                 pair = [f"to-{host}", "type", "veth", "peer", "name", "ether", "netns", self.name(host)]
                 ip("-n", self.name("kdc"), "link", "add", *pair)
                 ip("-n", self.name("kdc"), "link", "set", f"to-{host}", "master", "bridge", "up")
-            interface = "bridge" if host == "kdc" else "ether"
-            for address, bits in zip(addresses(host), (24, 64)):
-                # at once, without asking whether somebody has it
-                more = ["nodad"] if bits == 64 else []
-                ip("-n", self.name(host), "addr", "add", f"{address}/{bits}", "dev", interface, *more)
-            ip("-n", self.name(host), "link", "set", interface, "up")
+            for number in range(len(FAMILIES)):
+                self.address("add", host, number, host)
+            ip("-n", self.name(host), "link", "set", interface_of(host), "up")
+
+    def address(self, what, host, number, whose):
+        """Adds or deletes an address of that host, the one of that number of `whose`."""
+        words = [f"{addresses(whose)[number]}/{BITS[number]}", "dev", interface_of(host)]
+        # one of IPv6 at once, without asking whether somebody has it
+        more = ["nodad"] if (what, number) == ("add", 1) else []
+        ip("-n", self.name(host), "addr", what, *words, *more)
+
+    @contextlib.contextmanager
+    def moved(self, host, number):
+        """It has another address in place of the one of that number."""
+        self.address("del", host, number, host)
+        self.address("add", host, number, "moved")
+        try:
+            yield
+        finally:
+            self.address("del", host, number, "moved")
+            self.address("add", host, number, host)
+
+    @contextlib.contextmanager
+    def without_tcp(self, host, port):
+        """From there nobody can be reached over TCP at that port."""
+        rule = ["ipproto", "tcp", "dport", str(port), "unreachable"]
+        for family in ("-4", "-6"):
+            ip("-n", self.name(host), family, "rule", "add", *rule)
+        try:
+            yield
+        finally:
+            for family in ("-4", "-6"):
+                ip("-n", self.name(host), family, "rule", "del", *rule)
 
     @contextlib.contextmanager
     def inside(self, host):
