@@ -57,7 +57,7 @@ for it in $S $F; do
 done
 sh -eu /opt/try/first > /opt/try/said 2>&1
 check "README.Debian: import and check" grep "ok: principals 0" /opt/try/said
-check "port 464 is taken: it says so" says $S "port 464: in use"
+check "port 464 is taken: it says so" says $S "127.0.0.1:464: in use"
 check "port 464 is taken: it is given up" wait_for is $S Result exit-code
 systemctl stop $S
 sed -i "s/# here/$(cat /opt/try/gives-up)/" /etc/krb5kdc/kdc.conf
