@@ -458,6 +458,7 @@ fn terms_of(options: &ServeOptions<'_>, seed: [u8; 32]) -> PoolOptions
         seed,
         connections: limit_of(options.connections),
         clients: options.clients,
+        clients_per_peer: options.clients_per_peer,
         buffers: options.buffers,
         idle: options.idle,
     }
