@@ -10,6 +10,8 @@ from root import Failed
 HERE = pathlib.Path(__file__).resolve().parent
 FOLDERS = ("/etc/boddrelyn", "/var/lib/boddrelyn", "/var/log/boddrelyn", "/run/boddrelyn", "/run/boddrelyn-agent")
 SERVICE, JOURNAL, LOG = "boddrelyn", "/var/lib/boddrelyn/journal", "/var/log/boddrelyn/log"
+# what a clean end leaves for the next start
+RESUME = "/var/lib/boddrelyn/resume"
 CONFIGURATION = "/etc/boddrelyn/realm.toml"
 # seconds that a client is ahead, so that it isn't refused in the five minutes after a start
 AHEAD = 298
@@ -269,7 +271,8 @@ class Steps:
         stopped = [f"stop {it}.service" in self.root.asked for it in (self.agent, SERVICE)]
         self.tell("remove: both are stopped", stopped, [True, True])
         self.tell("remove: none runs", self.pids(), [])
-        self.tell("remove: the files stay", self.files(*FOLDERS[:3]), before)
+        self.tell("remove: the files stay, and what a clean end leaves", self.files(*FOLDERS[:3]),
+                  sorted([*before, f"-rw------- boddrelyn:boddrelyn {RESUME}"]))
         self.tell("remove: the programs are gone", [it.name for it in self.root.path("/usr/sbin").glob("chpw_*")], [])
 
     def purge(self):
