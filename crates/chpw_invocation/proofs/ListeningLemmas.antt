@@ -1,6 +1,7 @@
 -- Texts have one list of addresses at most, and either that or a refusal.
 use Rattle.std.proofs.Common.{◌≡◌, ◌≢◌, ◌≤◌, ◌<◌, ◌∙◌, ◌⊎◌, ℕ, refl, sym, ap, subst, codes, arith}
-use Rattle.std.proofs.Common.{List, [], ◌∷◌, ◌++◌, length, length-append, take, drop, take-append-drop, get_or, drop-cons, take_all, ◌-◌, suc, map, lit≤, Result, Ok, Err, IfOk, IfErr, Option, Some, None, option_map, ◌+◌, inl, inr}
+use Rattle.std.proofs.Common.{List, [], ◌∷◌, ◌++◌, length, length-append, take, drop, take-append-drop, get_or, drop-cons, take_all}
+use Rattle.std.proofs.Common.{◌+◌, ◌-◌, suc, lit≤, map, Result, Ok, Err, IfOk, IfErr, Option, Some, None, option_map, inl, inr}
 use Rattle.std.proofs.lemmas.List.{map-append, take_more}
 use Rattle.std.specs.Prelude.{unwrap_or}
 use Rattle.std.specs.Borrow.{Bor}

@@ -104,7 +104,8 @@ some_refusal (Some refusal) p some is = (refusal, sym is)
 pub lacking : (options : List Row) → LacksKdc options → RefusesServe options NoKdc
 lacking options lacks = inl (refl, lacks)
 
-pub unlimited : (options : List Row) → Suits (filled (flag (codes "udp"))) options → ¬ (LacksKdc options) → (addresses : List IpAddr) × Listens options addresses → (refusal : Refusal) → RefusesServe options refusal → RefusesServe options NoLimit
+pub unlimited : (options : List Row) → Suits (filled (flag (codes "udp"))) options → ¬ (LacksKdc options)
+    → (addresses : List IpAddr) × Listens options addresses → (refusal : Refusal) → RefusesServe options refusal → RefusesServe options NoLimit
 unlimited options suits other listen refusal (inl r) = absurd (other r.1)
 unlimited options suits other listen refusal (inr (inl r)) = absurd (listens_or_not options listen.0 refusal suits listen.1 r.0)
 unlimited options suits other listen refusal (inr (inr r)) = inr (inr (refl, r.1, r.2, r.3))

@@ -87,12 +87,6 @@ IsOfJournal path (CannotWrite file) = file.now ≡ path
 IsOfJournal path (Journal fault) = (fault ≢ NoMemory) × IsOfRecords fault
 IsOfJournal path fault = IsUnread path fault
 
--- the fault of a file that is to be written: it can't be
-abbrev pub IsUnwritten : List ℕ → ServeFault → Type 0
-IsUnwritten path (CannotWrite file) = file.now ≡ path
-IsUnwritten path Memory = Unit {0}
-IsUnwritten path fault = ⊥
-
 -- the fault of a file that is to be made: something is at its path, or it can't be made there
 abbrev pub IsUnmade : List ℕ → ServeFault → Type 0
 IsUnmade path (Present file) = file.now ≡ path

@@ -1,6 +1,7 @@
 //! Where the files of a start are: none that is written may be another one.
 ghost use Rattle.std.specs.Prelude.{◌≡◌, IfErr, OnOk, None};
-ghost use Rattle.chpw_start.specs.Faults.{IsOfClash, IsUnwritten};
+ghost use Rattle.chpw_start.specs.Faults.{IsOfClash, IsUnmade};
+ghost use Rattle.chpw_start.specs.Resuming.{IsAtResume};
 ghost use Rattle.chpw_start.specs.FileIds.{are_one, are_one_name, clash_of};
 
 use crate::fault::ServeFault;
@@ -60,7 +61,8 @@ pub(crate) fn keep_from<'a, R: Files + AllocGlobal>(
     path: &'a str,
     others: &[&str],
 ) -> Result<(), ServeFault<'a>>
-    ensures fault { IfErr result (IsUnwritten path.now) }
+    ensures fault { IfErr result (IsAtResume path.now) }
+    ensures unmade { IfErr result (IsUnmade path.now) }
 {
     let Ok(beside) = beside(rt.alloc(), path) else {
         return Err(ServeFault::Memory);

@@ -120,7 +120,7 @@ pub fn make_journal_at<'a, R: Files<File = File> + AllocGlobal, P: JournalMaker>
 fn first_resume(alloc: Global, realm: &[u8], journal: &[u8]) -> Result<Vec<u8>, WriteFault>
     requires journal { journal.now ≡ realm_record realm.now }
     ensures value { IfOk result (λ text. text.items ≡ resume_text (first_resume realm.now)) }
-    ensures open { OpensAtOnce (first_resume realm.now) }
+    ensures opens { OpensAtOnce (first_resume realm.now) }
 {
     let resume = Resume {
         realm: Items::of(Vec::from_slice(alloc, realm)?),
