@@ -33,7 +33,11 @@ pub struct JournalMarks {
 
 impl JournalMarks {
     /// Those of a journal of this length in this file, to which no append has failed.
-    pub(crate) fn of(alloc: Global, length: u64, file: FileNumber) -> Result<JournalMarks, AllocError> {
+    pub(crate) fn of(
+        alloc: Global,
+        length: u64,
+        file: FileNumber,
+    ) -> Result<JournalMarks, AllocError> {
         Ok(JournalMarks {
             length: Arc::new(alloc, AtomicU64::new(length))?,
             cause: Arc::new(alloc, AtomicU64::new(0))?,

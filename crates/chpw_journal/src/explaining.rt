@@ -1,5 +1,5 @@
 //! What a journal says where restoring it ends: whose record that is, and what was wanted of it.
-ghost use Rattle.std.specs.Prelude.{◌≡◌, ◌+◌, ◌≤◌, ◌<◌, IfOk, IfSome, Option, List, ℕ, length};
+ghost use Rattle.std.specs.Prelude.{◌≡◌, IfOk, IfSome, Option, List, ℕ, false};
 ghost use Rattle.std.specs.Io.KnownBytes.{Consumes};
 ghost use Rattle.std.specs.Option.{option_copied};
 ghost use Rattle.chpw_record.specs.declared.record.Record.TheVariants as record_of;
@@ -60,7 +60,9 @@ pub fn explain_file<F: Read + Drop>(
 ) -> Result<Option<Explanation>, AllocError>
     ensures told { IfOk result (λ found. IfSome found (IsExplained table (F.remaining file) fault)) }
 {
-    let mut reader = BufReader::new(alloc, file)?;
+    let Ok(mut reader) = BufReader::new(alloc, file) else {
+        return Err(AllocError);
+    };
     explain_whole(alloc, table, &mut reader, fault)
 }
 
@@ -131,11 +133,11 @@ fn explain_behind<R: Read>(
     let Some(number) = number_of(fault) else {
         return Ok(None);
     };
-    let Some(record) = record_numbered(alloc, table, reader, number)? else {
+    let Some(refused) = record_numbered(alloc, table, reader, number)? else {
         return Ok(None);
     };
-    if is_of_fault(fault, record.wanted) {
-        Ok(Some(Explanation::Record(number, record)))
+    if is_of_fault(fault, refused.wanted) {
+        Ok(Some(Explanation::Record(number, refused)))
     } else {
         Ok(None)
     }
@@ -187,8 +189,9 @@ fn record_numbered<R: Read>(
                 if restored.records + 1 == number {
                     return record_in(alloc, &restored.table, body.as_slice());
                 }
-                if restored.take_record(alloc, body.as_slice()).is_err() {
-                    return Ok(None);
+                match restored.take_record(alloc, body.as_slice()) {
+                    Ok(()) => {}
+                    Err(_) => return Ok(None),
                 }
             }
             _ => return Ok(None),
@@ -197,23 +200,19 @@ fn record_numbered<R: Read>(
 }
 
 // The record that has this text behind its length, with what is held in a table; none if it is no record of a principal.
-fn record_in(
-    alloc: Global,
-    table: &Table,
-    body: &[u8],
-) -> Result<Option<RefusedRecord>, AllocError>
+fn record_in(alloc: Global, table: &Table, body: &[u8]) -> Result<Option<RefusedRecord>, AllocError>
     ensures told { IfOk result (λ found. IfSome found (IsToldIn table.now.state body.now)) }
 {
     match Record::read(alloc, body)? {
-        Some(record) => Ok(told_record(table, record)),
+        Some(found) => Ok(told_record(table, found)),
         None => Ok(None),
     }
 }
 
-fn told_record(table: &Table, record: Record) -> Option<RefusedRecord>
-    ensures told { IfSome result (Tells table.now.state record) }
+fn told_record(table: &Table, found: Record) -> Option<RefusedRecord>
+    ensures told { IfSome result (Tells table.now.state found) }
 {
-    match record {
+    match found {
         Record::Key(kind, change) => told_key(table, kind, change),
         Record::Raise(_) => None,
     }

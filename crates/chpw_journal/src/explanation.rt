@@ -12,7 +12,7 @@ pub fn put_explanation(text: &mut Vec<u8>, explanation: &Explanation) -> Result<
     ensures value { OnOk result (text.new.items ≡ text.old.items ++ explanation_text explanation.now) }
 {
     match explanation {
-        Explanation::Record(_, record) => put_record(text, record),
+        Explanation::Record(_, refused) => put_record(text, refused),
         Explanation::Realm(found, held) => put_realms(text, found.as_slice(), held.as_slice()),
     }
 }
@@ -35,13 +35,13 @@ fn put_record_place(text: &mut Vec<u8>, number: u64) -> Result<(), AllocError>
     text.extend_from_slice(b": ")
 }
 
-fn put_record(text: &mut Vec<u8>, record: &RefusedRecord) -> Result<(), AllocError>
-    ensures value { OnOk result (text.new.items ≡ text.old.items ++ record_text record.now) }
+fn put_record(text: &mut Vec<u8>, refused: &RefusedRecord) -> Result<(), AllocError>
+    ensures value { OnOk result (text.new.items ≡ text.old.items ++ record_text refused.now) }
 {
-    put_name(text, &record.name)?;
+    put_name(text, &refused.name)?;
     text.extend_from_slice(b": version ")?;
-    put_number(text, u64::from(record.kvno))?;
-    put_wanted(text, record.wanted)
+    put_number(text, u64::from(refused.kvno))?;
+    put_wanted(text, refused.wanted)
 }
 
 fn put_wanted(text: &mut Vec<u8>, wanted: Wanted) -> Result<(), AllocError>
