@@ -1,4 +1,4 @@
-//! How long a service's journal is.
+//! What others read of a service's journal: how long it is.
 ghost use Rattle.std.specs.Prelude.{◌≡◌, IfErr};
 ghost use Rattle.chpw_start.specs.Faults.{IsOfJournal};
 
@@ -8,7 +8,7 @@ use chpw_table::JournalSink;
 use std::alloc::{AllocError, Global};
 use std::fs::File;
 
-/// How long the journal is on the disk.
+/// How long the journal is on the disk, with the rest of its marks.
 #[derive(Drop)]
 pub struct JournalLength {
     marks: JournalMarks,

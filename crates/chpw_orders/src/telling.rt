@@ -17,6 +17,8 @@ pub(crate) fn told_of<R: Files<File = File> + AllocGlobal>(
     ensures told { IfSome result (λ words. IsTold text.now fault words) }
 {
     let explanation = explain_journal(rt, text, journal, fault)?;
-    let words = explanation_words(rt.alloc(), &explanation).ok()?;
-    Some(Items::of(words))
+    match explanation_words(rt.alloc(), &explanation) {
+        Ok(words) => Some(Items::of(words)),
+        Err(_) => None,
+    }
 }

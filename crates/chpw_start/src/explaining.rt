@@ -22,9 +22,16 @@ pub fn explain_journal<R: Files<File = File> + AllocGlobal>(
 ) -> Option<Explanation>
     ensures told { IfSome result (IsExplainedBy text.now fault) }
 {
-    let config = settings(rt.alloc(), text).ok()?;
-    let file = open_file(rt, journal).ok()?;
-    explained(rt.alloc(), config, file, fault).ok()?
+    let Ok(config) = settings(rt.alloc(), text) else {
+        return None;
+    };
+    let Ok(file) = open_file(rt, journal) else {
+        return None;
+    };
+    match explained(rt.alloc(), config, file, fault) {
+        Ok(found) => found,
+        Err(_) => None,
+    }
 }
 
 // What the whole journal in a file says at this fault that it has over a configuration.
