@@ -217,7 +217,8 @@ impl<R: Wait + Eprint> Log<'_, R> {
 
     // Why an append failed, as far as the journal's marks show it.
     fn cause(&self) -> SinkCause {
-        match &*self.marks.lock(self.rt) {
+        let marks = self.marks.lock(self.rt);
+        match &*marks {
             Some(marks) => marks.cause().unwrap_or(SinkCause::Unknown),
             None => SinkCause::Unknown,
         }
@@ -225,7 +226,8 @@ impl<R: Wait + Eprint> Log<'_, R> {
 
     // Which file the journal is that is open.
     fn journal_number(&self) -> Option<FileNumber> {
-        match &*self.marks.lock(self.rt) {
+        let marks = self.marks.lock(self.rt);
+        match &*marks {
             Some(marks) => Some(marks.file()),
             None => None,
         }
