@@ -41,15 +41,15 @@ def wrong(*lines):
 def at_start(report, server):
     """Each fault is added to those before it and hides them: it is looked for earlier."""
 
+    private(server.journal).write_bytes(plain_record("zoe", 2))
+    missing = "but no such principal in the configuration, or removed before this record"
+    told = f"{server.journal}: at 1: zoe: version 2, {missing}"
+    report.tell("a journal of another realm", said(server), wrong("journal: J3 at 1", told))
+    private(server.journal).write_bytes(plain_record(NAME, 2) * 2)
+    told = f"{server.journal}: at 2: {NAME}: version 2, wanted 3"
+    report.tell("a record that stands twice", said(server), wrong("journal: J2 at 2", told))
     with socket.create_server(("127.0.0.1", server.port)):
-        report.tell("a port in use", said(server), wrong("cannot listen", f"port {server.port}: in use"))
-        private(server.journal).write_bytes(plain_record("zoe", 2))
-        missing = "but no such principal in the configuration, or removed before this record"
-        told = f"{server.journal}: at 1: zoe: version 2, {missing}"
-        report.tell("a journal of another realm", said(server), wrong("journal: J3 at 1", told))
-        private(server.journal).write_bytes(plain_record(NAME, 2) * 2)
-        told = f"{server.journal}: at 2: {NAME}: version 2, wanted 3"
-        report.tell("a record that stands twice", said(server), wrong("journal: J2 at 2", told))
+        report.tell("a port in use", said(server), wrong("cannot listen", f"127.0.0.1:{server.port}: in use"))
         server.seed.write_bytes(bytes(31))
         short = wrong(f"cannot read {server.seed}", f"{server.seed}: fewer than 32 bytes")
         report.tell("a short seed", said(server), short)
