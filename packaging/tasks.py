@@ -56,7 +56,7 @@ BLOCKS = (
         "the KDC's users are the service's": waits(f"{TABLE} | grep '^bob kvno 1 '"),
         "there is no rule": "chpw_server check --config /etc/boddrelyn/realm.toml",
     }),
-    Block("From nothing to a running realm", 1, before="is_quiet_no_more", typed="Old-pass1\nNew-pass1\nNew-pass1\nNew-pass1\n", after={
+    Block("From nothing to a running realm", 1, typed="Old-pass1\nNew-pass1\nNew-pass1\nNew-pass1\n", after={
         "kpasswd": "grep 'Password changed' /opt/try/printed", "a ticket": "klist -s",
     }),
     Block("Let in users of other hosts", before=ADDRESS, after={
