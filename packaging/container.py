@@ -79,7 +79,7 @@ check "the agent runs" says $F "listening"
 check "the service has found it" wait_for status "kdc connected"
 check "the KDC's users are the service's" wait_for sh -c "chpw_server table --config /etc/boddrelyn/realm.toml --journal $J | grep '^alice kvno 1 '"
 check "the files are those of the start by hand" files
-check "a first start isn't quiet" status "quiet-until -"
+check "the first start isn't quiet" status "quiet-until -"
 check "kpasswd" changed alice Old-pass1 New-pass1
 check "kinit, at once" logs_in alice New-pass1
 check "the KDC has it" status "kdc-behind 0"

@@ -159,7 +159,7 @@ class Steps:
         self.tell("limits: the agent's capabilities", re.search(r"CapEff:\s+(\w+)", status)[1].lstrip("0"), "1")
 
     def changes(self):
-        self.tell("a first start isn't quiet", self.status().get("quiet-until"), "-")
+        self.tell("the first start isn't quiet", self.status().get("quiet-until"), "-")
         say = self.realm.kpasswd("alice", "Old-pass1", "short")
         self.tell("kpasswd: a short password is refused", "password too short" in say) or print(say)
         say = self.realm.kpasswd("alice", "Old-pass1", "New-pass1")

@@ -54,7 +54,7 @@ BLOCKS = (
         "it listens": "says boddrelyn 'listening on 127.0.0.1:464'",
         "kadmind runs beside it": "is krb5-admin-server ActiveState active",
         "the KDC's users are the service's": waits(f"{TABLE} | grep '^bob kvno 1 '"),
-        "there is no rule": "chpw_server check --config /etc/boddrelyn/realm.toml",
+        "there is no rule": "chpw_server check --config /etc/boddrelyn/realm.toml", "nobody is refused": "status 'quiet-until -'",
     }),
     Block("From nothing to a running realm", 1, typed="Old-pass1\nNew-pass1\nNew-pass1\nNew-pass1\n", after={
         "kpasswd": "grep 'Password changed' /opt/try/printed", "a ticket": "klist -s",

@@ -136,3 +136,4 @@ pub record Goes (now : ℕ) (old new : Connection) (event : Event) : Type 0 wher
   pub room_is : IsRoomBehind now event old.phase new.phase
   pub number : new.number ≡ old.number
   pub ends : new.ends ≡ old.ends
+  pub share : new.share ≡ old.share

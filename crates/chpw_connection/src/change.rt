@@ -108,6 +108,7 @@ impl Connection {
         ensures since { self.new.since ≡ self.old.since }
         ensures number { self.new.number ≡ self.old.number }
         ensures ends { self.new.ends ≡ self.old.ends }
+        ensures share { self.new.share ≡ self.old.share }
     {
         let is_last = is_last || self.answered >= MAX_MESSAGES - 1;
         if !is_last {

@@ -28,6 +28,7 @@ goes_too now c d e f same goes = record {
   room_is = same.room_too c.phase d.phase goes.room_is;
   number = goes.number;
   ends = goes.ends;
+  share = goes.share;
 }
 
 -- how much room there is doesn't depend on which bytes came

@@ -1,5 +1,5 @@
 -- The first reply that has waited too long for its confirmation.
-use Rattle.std.specs.Prelude.{◌≡◌, ℕ, ◌<◌, List, Some, None, IfSome}
+use Rattle.std.specs.Prelude.{◌≡◌, ℕ, ◌<◌, Some, None, IfSome}
 use Rattle.std.specs.declared.net.ip_addr.IpAddr.{IpAddr}
 use Rattle.slab.specs.Slab.{Slab, get}
 use Rattle.chpw_connection.specs.Stages.{Event}

@@ -1,7 +1,7 @@
 -- The addresses of a request's two ends.
 use Rattle.std.specs.Prelude.{◌≡◌}
 use Rattle.std.specs.declared.net.ip_addr.IpAddr.{IpAddr}
-use Rattle.std.specs.declared.net.ip_addr.IpAddr.TheVariants.{V4, V6}
+use Rattle.std.specs.declared.net.ip_addr.IpAddr.TheVariants.{V4}
 use Rattle.std.specs.declared.net.socket_addr.SocketAddr.{SocketAddr}
 use Rattle.std.specs.Net.Addr.{MatchIp, IsCanonicalOf}
 use Rattle.std.specs.Net.Socket.{socket_ip}

@@ -1,6 +1,9 @@
 //! Where a request comes from, and where it comes in.
+ghost use Rattle.std.specs.Prelude.{IsTrue, ◌↔◌};
 ghost use Rattle.chpw_endpoints.specs.Endpoints.{IsHostOf};
+ghost use Rattle.chpw_endpoints.specs.Peers.{IsOwn, IsShareOf};
 
+use crate::peer::Peer;
 use std::net::{IpAddr, Ipv4Addr, SocketAddr};
 
 /// The addresses of a request's two ends.
@@ -28,6 +31,25 @@ impl Endpoints {
         Endpoints {
             peer: peer.ip().to_canonical(),
             local: local.ip().to_canonical(),
+        }
+    }
+    /// Whether the peer is this host itself: its address is a loopback address, or the one that the request was sent to.
+    /// A connection to one of the host's own addresses comes from that address.
+    pub fn is_own(&self) -> bool
+        ensures value { IsTrue result ↔ IsOwn self.now }
+    {
+        self.peer.is_loopback() || self.peer == self.local
+    }
+
+    /// In whose share of the connections one between these counts: in its peer's, and in none if that is this host
+    /// itself, since a forwarder may stand here.
+    pub fn share(&self) -> Option<Peer>
+        ensures value { IsShareOf self.now result }
+    {
+        if self.is_own() {
+            None
+        } else {
+            Some(Peer::of(self.peer))
         }
     }
 }

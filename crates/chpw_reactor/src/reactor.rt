@@ -11,10 +11,10 @@ use crate::engine::{Engine, milliseconds};
 use crate::kdc::KdcTerms;
 use crate::status_reporter::StatusReporter;
 use crate::talking::KdcLink;
-use chpw_endpoints::Endpoints;
+use chpw_endpoints::Peer;
 use chpw_sockets::{STEPS, Selector};
 use chpw_transfers::{
-    AcceptLimit, Entrance, EventSource, LISTENER, Newcomer, Noting, Progress, Shortage,
+    AcceptLimit, Admission, Entrance, EventSource, LISTENER, Newcomer, Noting, Progress, Shortage,
     is_round_due, look_at_noted, slot_at_turn,
 };
 use mio::event::Event;
@@ -305,28 +305,34 @@ impl<
         }
     }
 
-    // Admits a connection; whether there was room. If there are as many as allowed, in all or over TCP, the one that has waited longest for
-    // its client ends to make room; if none waits for its client, the new one is kept until there is room.
+    // Admits a connection, or refuses and closes it; whether the next one may come. If its peer has as many as it may, the
+    // one of that peer that has waited longest for its client ends to make room, and if none waits, the new one is refused:
+    // so a peer with a full share keeps nobody out. If there are as many as allowed, in all or over TCP, the one of all
+    // that has waited longest ends; if none waits, the new one is kept until there is room.
     fn admit(&mut self, newcomer: Newcomer) -> bool
         ensures kept { result ≡ false → self.new.entrance ≡ record self.old.entrance { pending = Some newcomer } }
         ensures admitted { result ≡ true → self.new.entrance ≡ self.old.entrance }
     {
-        if let Some(ended) = self.make_room() {
+        if let Some(ended) = self.make_room(newcomer.share) {
             self.drive(ended);
         }
         let now = milliseconds(self.rt);
-        let admitted = self.engine.hub.lock(self.rt).admit(newcomer, now);
-        match self.entrance.settle(admitted) {
-            None => false,
-            Some(slot) => {
+        let admission = self.engine.hub.lock(self.rt).admit(newcomer, now);
+        match admission {
+            Admission::Admitted(slot) => {
                 self.drive(slot);
                 true
+            }
+            Admission::Refused => true,
+            Admission::Waits(newcomer) => {
+                self.entrance.keep(newcomer);
+                false
             }
         }
     }
 
-    fn make_room(&self) -> Option<usize> {
-        self.engine.hub.lock(self.rt).make_room()
+    fn make_room(&self, share: Option<Peer>) -> Option<usize> {
+        self.engine.hub.lock(self.rt).make_room(share)
     }
 }
 
@@ -369,10 +375,7 @@ fn accepted_by<L: OpenListener<Stream = TcpStream>>(
     };
     let (stream, peer) = listener.accept()?;
     let local = stream.local_addr()?;
-    Ok(Newcomer {
-        stream,
-        ends: Endpoints::of(peer, local),
-    })
+    Ok(Newcomer::of(stream, peer, local))
 }
 
 impl<

@@ -24,7 +24,7 @@ pub use files::{
     open_file, read_configuration, read_seed, read_settings, settings, unread_fault,
 };
 pub use line_output::{Kind, LineOutput, is_standard_error};
-pub use new_journal::{JournalMaker, NewJournal, make_journal, make_journal_at};
+pub use new_journal::{JournalMaker, NewJournal, Unmade, make_journal, make_journal_at};
 pub use ownership::{Exposure, Ids, Standing, is_shared, own_ids, standing_at};
 pub use raising::{RaiseReport, raise_where_asked};
 pub use resuming::{Resumption, SetAside, resume_where_asked};

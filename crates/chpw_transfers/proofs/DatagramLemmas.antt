@@ -82,11 +82,11 @@ failed_is_ended now None new is comes = absurd is
 failed_is_ended now (Some c) None is comes = absurd comes
 failed_is_ended now (Some c) (Some d) is comes = ap is_ended (comes.stage_is ∙ is)
 
-new_ends : (between : Endpoints) (now number : ℕ) (old new : Slab Connection) (slot : ℕ) → IsNew between now number old new slot → EndsAtOnce (get new slot)
+new_ends : (between : Endpoints) (now number : ℕ) (old new : Slab Connection) (slot : ℕ) → IsNew between None now number old new slot → EndsAtOnce (get new slot)
 new_ends between now number old new slot is = by_place (get new slot) is.here
   where
     by_place : (o : Option Connection) → IsSomeAnd o (λ c. (stage c ≡ reading [])
-        × (c.ends ≡ between) × (c.number ≡ number) × (c.since ≡ now) × (c.answered ≡ 0)) → EndsAtOnce o
+        × (c.ends ≡ between) × (c.number ≡ number) × (c.since ≡ now) × (c.answered ≡ 0) × (c.share ≡ None)) → EndsAtOnce o
     by_place None here = absurd here
     by_place (Some c) here = subst (λ (s : Stage). after c.answered s failed ≡ ended) (sym here.0) refl
 
@@ -113,7 +113,7 @@ read_here b now old new slot bytes (inr comes) is = came_here b now old new slot
 -- what was begun and is dropped leaves no connection
 module _ (first second : ConnectionLimits) (now number slot : ℕ) (between : Endpoints) (len bytes : List ℕ)
     (old accepted begun whole over new : Slab Connection)
-    (is_new : IsNew between now number old accepted slot) (length_came : CameOrFailed first now accepted begun slot len)
+    (is_new : IsNew between None now number old accepted slot) (length_came : CameOrFailed first now accepted begun slot len)
     (bytes_came : CameIfRead second now begun whole slot bytes) (ends : Happens 0 whole over slot failed)
     (removed : is_ended_in (get over slot) ≡ true → Updates over new slot None) where
   gone : Updates over new slot None
@@ -209,7 +209,7 @@ failed_wants now (Some c) (Some d) is comes = ap wanted_by (comes.stage_is ∙ i
 
 -- a new connection of which the length came and then the message, which waits now
 waits_here : (message : List ℕ) (between : Endpoints) (now number workers worker : ℕ) (a d e : Option Connection) → length message < 2 ^ 32
-    → IsSomeAnd a (λ c. (stage c ≡ reading []) × (c.ends ≡ between) × (c.number ≡ number) × (c.since ≡ now) × (c.answered ≡ 0))
+    → IsSomeAnd a (λ c. (stage c ≡ reading []) × (c.ends ≡ between) × (c.number ≡ number) × (c.since ≡ now) × (c.answered ≡ 0) × (c.share ≡ None))
     → Comes now (came (length_before message)) a d → wanted_at d ≢ 0 → Comes now (came message) d e → waits_for workers e ≡ Some worker
     → queued_at e ≡ Some (sent message)
 waits_here message between now number workers worker None d e fits here first some second waits = absurd here
@@ -223,7 +223,7 @@ waits_here message between now number workers worker (Some c) (Some d) (Some e) 
 module _ (b c d : ConnectionLimits) (now number slot worker workers : ℕ)
     (between : Endpoints) (message : List ℕ) (old accepted begun new : Slab Connection) (fits : length message < 2 ^ 32)
     (bounds : b ≡ d) (same : d ≡ c)
-    (is_new : IsNew between now number old accepted slot) (length_came : CameOrFailed c now accepted begun slot (length_before message))
+    (is_new : IsNew between None now number old accepted slot) (length_came : CameOrFailed c now accepted begun slot (length_before message))
     (some : wanted_at (get begun slot) ≢ 0)
     (message_came : HappensWithRoom (for_message d now (get begun slot)) now begun new slot (came message))
     (is_for : waits_for workers (get new slot) ≡ Some worker)

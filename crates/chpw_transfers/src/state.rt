@@ -7,7 +7,7 @@ ghost use Rattle.chpw_connections.specs.Noting.{noted_by, is_noted_by, NotesEach
 ghost use Rattle.chpw_connections.specs.Queues.{queue_of, DropsLate};
 ghost use Rattle.chpw_connection.specs.Todos.{todo_in};
 ghost use Rattle.chpw_slots.specs.Slots.{Happens, IsNew};
-ghost use Rattle.chpw_slots.specs.Longest.{IsLongest, NobodyWaits};
+ghost use Rattle.chpw_slots.specs.Longest.{IsLongest, NobodyWaits, IsLongestOf, NobodyWaitsOf};
 ghost use Rattle.chpw_connection.specs.Late.{Passes, is_late_in};
 ghost use Rattle.chpw_connection.specs.Slot.{queued_at};
 ghost use Rattle.chpw_connection.specs.Stages.{taken, failed};
@@ -22,7 +22,7 @@ use crate::accepting::Accepting;
 use crate::connection_counts::ConnectionCounts;
 use crate::kdc::{KdcSide, is_clerk};
 use chpw_connections::{Connections, Counted, TakenMessage, Todo};
-use chpw_endpoints::Endpoints;
+use chpw_endpoints::{Endpoints, Peer};
 use chpw_kdc::KdcDialog;
 use chpw_rules::NamePatterns;
 
@@ -152,16 +152,17 @@ impl State {
             && !(is_clerk(worker) && self.has_update())
     }
 
-    /// Accepts a connection between these two, if there is room for one more: its slot. Otherwise a client waits for room.
-    pub fn accept(&mut self, ends: Endpoints, now: u64) -> Option<usize>
-        ensures accepted { IfSome result (λ slot. IsNew ends now (accepted_by self.old.connections)
+    /// Accepts a connection over TCP between these two, in this share, if there is room for one more: its slot. Otherwise
+    /// a client waits for room.
+    pub fn accept(&mut self, ends: Endpoints, share: Option<Peer>, now: u64) -> Option<usize>
+        ensures accepted { IfSome result (λ slot. IsNew ends share now (accepted_by self.old.connections)
             (slots_of self.old.connections) (slots_of self.new.connections) slot) }
         ensures noted { self.new.has_newcomer ≡ is_none result }
         ensures unchanged { IfNone result (self.new.connections ≡ self.old.connections) }
         ensures full { nat_lt (slab_len (slots_of self.old.connections)) (bounds_of self.old.connections).connections ≡ false → result ≡ None }
         ensures rest { self.new ≡ record self.old { connections = self.new.connections; has_newcomer = self.new.has_newcomer } }
     {
-        let slot = self.connections.accept(ends, now);
+        let slot = self.connections.accept(ends, share, now);
         self.has_newcomer = slot.is_none();
         slot
     }
@@ -192,6 +193,21 @@ impl State {
             return None;
         }
         self.connections.make_room()
+    }
+
+    /// Ends the connection that has waited longest for its client of those in this share: its slot, if one ended. For
+    /// what counts in no share nobody ends.
+    pub fn make_room_in(&mut self, share: Option<Peer>) -> Option<usize>
+        ensures ended { IfSome result (λ slot. IfSome share (λ peer. IsLongestOf peer (slots_of self.old.connections) slot)
+            × Happens 0 (slots_of self.old.connections) (slots_of self.new.connections) slot failed) }
+        ensures nobody { IfNone result (IfSome share (λ peer. NobodyWaitsOf peer (slots_of self.old.connections))
+            × (slots_of self.new.connections ≡ slots_of self.old.connections)) }
+        ensures rest { self.new ≡ record self.old { connections = self.new.connections } }
+    {
+        match share {
+            None => None,
+            Some(peer) => self.connections.make_room_for(peer),
+        }
     }
 
     /// Notes a slot for whose connection more is to be done than was done for now, unless it is noted: in a round it
