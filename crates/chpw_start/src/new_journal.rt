@@ -139,18 +139,21 @@ fn ending<'a>(
     options: &NewJournalOptions<'a>,
     made: Result<(), Unmade>,
 ) -> Result<(), ServeFault<'a>>
-    ensures made { OnOk result (made ≡ Ok ()) }
+    ensures made { OnOk result (made ≡ Ok tt) }
     ensures fault { IfErr result (IsOfNewJournal options.now) }
 {
     match (made, options.resume) {
         (Ok(()), _) => Ok(()),
-        (Err(Unmade::Resume(kind)), Some(path)) => Err(unmade(path, kind)),
-        (Err(Unmade::Journal(kind) | Unmade::Resume(kind)), _) => Err(unmade(options.journal, kind)),
+        (Err(Unmade::Resume(kind)), Some(path)) => Err(fault_at(path, kind)),
+        (Err(Unmade::Journal(kind) | Unmade::Resume(kind)), _) => Err(fault_at(
+            options.journal,
+            kind,
+        )),
     }
 }
 
 // The fault of a file that can't be made at a path.
-fn unmade(path: &str, kind: ErrorKind) -> ServeFault<'_>
+fn fault_at(path: &str, kind: ErrorKind) -> ServeFault<'_>
     ensures fault { IsUnmade path.now result }
 {
     match kind {
