@@ -1,3 +1,4 @@
 pub mod FaultLemmas
 pub mod FittingLemmas
 pub mod OpeningLemmas
+pub mod ExplainingLemmas
