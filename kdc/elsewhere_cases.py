@@ -7,12 +7,13 @@ The KDC takes no datagrams there, so each that the host takes is the service's.
 import contextlib
 import socket
 import subprocess
+import time
 
 import asking
 import configuration
 from cases import Cases
 from clients import HeimdalClient, HeimdalOverUdp, MitClient
-from daemons import daemon
+from daemons import comes, daemon
 from networks import FAMILIES, Network, addresses, bracketed, why_not
 from realm import SERVICE
 from realms import FIRST, of_keytab
@@ -24,8 +25,10 @@ WAIT = 1500
 NEW, SHORT, REASON = "Elsewhere-pass1", "abc", "password too short"
 CHANGED = "code 0 password changed"
 DONE, BAD_ADDRESS = "code 0 ", "code 3 error 38 "
-# seconds that a reply may take
-PATIENCE = 30
+# seconds that a reply may take, and within which it comes where nothing stands before it
+PATIENCE, AT_ONCE = 30, 2
+# places of connections, and those of one peer
+CLIENTS, SHARE = 16, 4
 # of the kernel: datagrams that somebody took
 DATAGRAMS = ("UdpInDatagrams", "Udp6InDatagrams")
 WITH_ADDRESSES = "    noaddresses = false\n    no-addresses = false\n"
@@ -60,7 +63,7 @@ class ElsewhereCases(Cases):
         if why is not None:
             print(f"no network can be made: {why}: clients elsewhere aren't tried", flush=True)
             return
-        users = [self.name() for _ in range(len(FAMILIES) * (len(KINDS) + 4))]
+        users = [self.name() for _ in range(len(FAMILIES) * (len(KINDS) + 6))]
         with Network() as self.network, self.serving(users[:]):
             for number, family in enumerate(FAMILIES):
                 for kind in KINDS:
@@ -69,6 +72,7 @@ class ElsewhereCases(Cases):
                     self.sender_is_asked_one(users.pop(), number, is_over_udp)
                 self.mit_with_addresses(users.pop(), number, family)
                 self.heimdal_with_addresses(users.pop(), number, family)
+                self.crowd([users.pop(), users.pop()], number, family)
 
     # ---- the host of the KDC
 
@@ -76,7 +80,8 @@ class ElsewhereCases(Cases):
     def serving(self, users):
         """The KDC, the service and an agent, at each address of their host."""
         listening = [word for it in (*LOOPBACK, *addresses("kdc")) for word in ("--listen", it)]
-        self.files = Served(self.realm, self.program, "elsewhere", WAIT, options=["--udp", *listening])
+        shares = ["--clients", str(CLIENTS), "--clients-per-peer", str(SHARE)]
+        self.files = Served(self.realm, self.program, "elsewhere", WAIT, options=["--udp", *listening, *shares])
         self.files.server.port = CHANGEPW
         self.files.configure(configuration.configuration(self.realm.keytab(users), []) + self.own_names())
         kdc = mit_kdc if self.realm.KIND == "MIT" else heimdal_kdc
@@ -127,11 +132,16 @@ class ElsewhereCases(Cases):
 
     # ---- replies
 
+    def request(self, user):
+        """A change by a ticket that is made with the service's own key."""
+        keys = of_keytab(self.realm.keytab([user]))
+        kvno, key = max((kvno, key) for name, kvno, etype, key in keys if (name, etype) == (SERVICE, 18))
+        return asking.request_now(user, NEW, 7, service=bytes.fromhex(key), kvno=kvno)
+
     def sender_is_asked_one(self, user, number, is_over_udp):
         """The s-address of a reply is the address that was asked."""
         host = addresses("kdc")[number]
-        kvno, key = max((kvno, key) for name, kvno, etype, key in of_keytab(self.realm.keytab([user])) if (name, etype) == (SERVICE, 18))
-        sent = asking.request_now(user, NEW, 7, service=bytes.fromhex(key), kvno=kvno)
+        sent = self.request(user)
         with self.network.inside("client"):
             reply = (by_datagram if is_over_udp else by_connection)(host, sent)
         what = f"elsewhere: a reply over {'UDP' if is_over_udp else 'TCP'} from {host}"
@@ -183,6 +193,30 @@ class ElsewhereCases(Cases):
         self.tell(f"{what}: from another host", "Success" in other, False)
         there = addresses("other")[number]
         self.tell("  the log has that one's address", (set(self.peers(f"peer {there} ", BAD_ADDRESS)), self.peers(f"peer {there} ", DONE)), ({there}, []))
+
+
+    # ---- a host that takes all places
+
+    def crowd(self, users, number, family):
+        """Silent connections of one host hold its share, and are ended beyond that; clients of another host are answered at once."""
+        what = f"elsewhere: {CLIENTS + SHARE} silent connections of a host, {family}"
+        with self.network.inside("client"), contextlib.ExitStack() as undo:
+            for _ in range(CLIENTS + SHARE):
+                silent = asking.Connection(CHANGEPW, PATIENCE, host=addresses("kdc")[number])
+                undo.callback(silent.close)
+            self.tell(f"{what}: its share of places", comes(lambda: self.open_connections() == SHARE) or self.open_connections())
+            for user, host in zip(users, addresses("kdc")):
+                sent = self.request(user)
+                with self.network.inside("other"):
+                    start = time.monotonic()
+                    told = asking.said(sent, by_connection(host, sent))
+                is_soon = time.monotonic() - start < AT_ONCE
+                self.tell(f"  a client of another host asks {host}, and how soon", (told, is_soon), (CHANGED, True))
+            self.tell("  its share is as before", self.open_connections() <= SHARE)
+        self.tell("  all are gone", comes(lambda: self.open_connections() == 0))
+
+    def open_connections(self):
+        return int(self.files.status()["connections"].split()[0])
 
 
 def is_refused(client, seen):

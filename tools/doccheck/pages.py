@@ -125,7 +125,7 @@ def items(body):
         elif depth == 0:
             name = None
         elif name and not line.startswith(".It"):
-            found[name][1] += " " + re.sub(r"^\.\w+ ", "", line)
+            found[name][1] += " " + re.sub(r"^\.\w+ ", "", re.sub(r"^\.Fl -(\S+)(?: (\W))?$", r"--\1\2", line))
     return {name: (value, set(RANGE.findall(text)), default_of(text)) for name, (value, text) in found.items()}
 
 

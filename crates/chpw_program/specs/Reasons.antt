@@ -16,7 +16,8 @@ use Rattle.chpw_program.specs.declared.reasons.Cause.{Cause}
 use Rattle.chpw_program.specs.declared.reasons.Cause.TheVariants.{Unread, Unwritten, BadConfig, Unlistened}
 use Rattle.chpw_program.specs.declared.reasons.Named.{Named}
 use Rattle.chpw_program.specs.declared.reasons.Reason.{Reason}
-use Rattle.chpw_program.specs.declared.reasons.Reason.TheVariants.{Missing, NoFolder, Forbidden, Folder, Special, Short, Long, Held, InWords, InUse, NoAddress, Privileged}
+use Rattle.chpw_program.specs.declared.reasons.Reason.TheVariants.{Missing, NoFolder, Forbidden, Folder, Special, Short, Long}
+use Rattle.chpw_program.specs.declared.reasons.Reason.TheVariants.{Held, InWords, InUse, NoAddress, Privileged}
 
 abbrev pub line_of : Reason → List ℕ
 line_of (Missing file) = file.now ++ codes ": no such file"
