@@ -2,3 +2,4 @@ pub mod FaultLemmas
 pub mod FittingLemmas
 pub mod NewJournalLemmas
 pub mod OpeningLemmas
+pub mod ExplainingLemmas

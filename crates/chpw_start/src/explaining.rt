@@ -49,10 +49,7 @@ fn explained<F: Read + Drop>(
 }
 
 /// It as a line of its own: `at 8: alice: version 5, wanted 4`.
-pub fn explanation_line(
-    alloc: Global,
-    explanation: &Explanation,
-) -> Result<Vec<u8>, AllocError>
+pub fn explanation_line(alloc: Global, explanation: &Explanation) -> Result<Vec<u8>, AllocError>
     ensures value { IfOk result (λ text. text.items ≡ place_text explanation.now ++ explanation_text explanation.now) }
 {
     let mut text = Vec::new(alloc);
@@ -62,10 +59,7 @@ pub fn explanation_line(
 }
 
 /// It behind the fault: `alice: version 5, wanted 4`.
-pub fn explanation_words(
-    alloc: Global,
-    explanation: &Explanation,
-) -> Result<Vec<u8>, AllocError>
+pub fn explanation_words(alloc: Global, explanation: &Explanation) -> Result<Vec<u8>, AllocError>
     ensures value { IfOk result (λ text. text.items ≡ explanation_text explanation.now) }
 {
     let mut text = Vec::new(alloc);

@@ -25,8 +25,10 @@ returns-clause-value c =
     let quiet = c.in_ok-put_word.ensures.value ∙ ap (λ (word : List ℕ). c.put_moment.new.text.items ++ lines_text (row (codes "quiet-reason") word ∷ []))
     c.quiet_words.ensures.value in
     let until_q = further old c.put_moment.new.text.items c.put_word.new.text.items (a ∷ b ∷ d ∷ []) (q ∷ []) until_d quiet in
-    let until_e = further old c.put_word.new.text.items c.put_count.new.text.items (a ∷ b ∷ d ∷ q ∷ []) (e ∷ []) until_q c.in_ok-put_count.ensures.value in
-    at_last c.put_count-2.result old c.put_count.new.text.items c.put_count-2.new.text.items (a ∷ b ∷ d ∷ q ∷ e ∷ []) (f ∷ []) until_e c.put_count-2.ensures.value
+    let until_e =
+    further old c.put_word.new.text.items c.put_count.new.text.items (a ∷ b ∷ d ∷ q ∷ []) (e ∷ []) until_q c.in_ok-put_count.ensures.value in
+    at_last c.put_count-2.result old c.put_count.new.text.items c.put_count-2.new.text.items (a ∷ b ∷ d ∷ q ∷ e ∷ []) (f ∷ []) until_e
+    c.put_count-2.ensures.value
 
 pub returns-clause-lines : goal.returns-clause-lines
 returns-clause-lines c =
