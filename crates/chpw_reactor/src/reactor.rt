@@ -1,7 +1,8 @@
 //! The reactor: one thread that has the listeners and waits for all sockets, and never for one of them alone. The
 //! sockets are under the lock that it shares with the workers.
 
-ghost use Rattle.std.specs.Prelude.{◌≡◌, ◌&&◌, ◌||◌, [], is_some, true, false, Some, None};
+ghost use Rattle.std.specs.Prelude.{◌≡◌, ◌&&◌, ◌||◌, [], IfOk, is_some, true, false, Some, None};
+ghost use Rattle.chpw_endpoints.specs.Peers.{IsShareOf};
 ghost use Rattle.chpw_transfers.specs.Accepting.{is_ready};
 ghost use Rattle.chpw_transfers.specs.Bounded.{allows_more};
 ghost use Rattle.chpw_reactor.specs.Reports.{is_control, is_datagrams, is_kdc, reported_at, source_of};
@@ -353,7 +354,9 @@ fn is_watched<L: OpenListener<Stream = TcpStream> + AsRawFd>(
 fn accepted<L: OpenListener<Stream = TcpStream>>(
     listeners: &[L],
     first: usize,
-) -> io::Result<Newcomer> {
+) -> io::Result<Newcomer>
+    ensures share { IfOk result (λ newcomer. IsShareOf newcomer.ends newcomer.share) }
+{
     let mut fault = Error::from(ErrorKind::WouldBlock);
     for turn in 0..listeners.len() {
         match accepted_by(listeners, slot_at_turn(first, listeners.len(), turn)) {
@@ -369,7 +372,9 @@ fn accepted<L: OpenListener<Stream = TcpStream>>(
 fn accepted_by<L: OpenListener<Stream = TcpStream>>(
     listeners: &[L],
     index: usize,
-) -> io::Result<Newcomer> {
+) -> io::Result<Newcomer>
+    ensures share { IfOk result (λ newcomer. IsShareOf newcomer.ends newcomer.share) }
+{
     let Some(listener) = listeners.get(index) else {
         return Err(Error::from(ErrorKind::WouldBlock));
     };

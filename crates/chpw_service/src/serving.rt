@@ -126,6 +126,10 @@ pub fn serve_by<
     let resumption = resume_where_asked(rt, &options, start, table, sink.file(), is_cut)?;
     let Resumption { table, set_aside } = resumption;
     let journal = journal_length(rt.alloc(), options.journal, &mut sink)?;
+    let Ok(marks) = journal.marks() else {
+        return Err(ServeFault::Memory);
+    };
+    log.watch(marks);
     if let Some(kept) = cut_at {
         log.tell(Notice::TailCut(options.journal, kept));
     }

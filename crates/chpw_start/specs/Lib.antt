@@ -1,4 +1,5 @@
 pub mod Bounded
+pub mod Explaining
 pub mod Faults
 pub mod FileIds
 pub mod FirstResume

@@ -3,6 +3,7 @@
 #![tactic(auto)]
 
 mod bounded;
+mod explaining;
 mod fault;
 mod file_ids;
 mod files;
@@ -17,6 +18,7 @@ mod shared_files;
 mod starting;
 mod table;
 
+pub use explaining::{explain_journal, explanation_line, explanation_words};
 pub use fault::ServeFault;
 pub use file_ids::keep_apart;
 pub use files::{

@@ -446,7 +446,7 @@ fn show_serve(text: &mut String, it: &ServeOptions<'_>) -> Result<(), AllocError
 
 // The addresses, unless that is the usual one alone.
 fn show_addresses(text: &mut String, addresses: &[IpAddr]) -> Result<(), AllocError> {
-    if *addresses == [USUAL_ADDRESS] {
+    if addresses == [USUAL_ADDRESS].as_slice() {
         return Ok(());
     }
     for address in addresses {
