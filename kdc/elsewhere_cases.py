@@ -192,7 +192,7 @@ class ElsewhereCases(Cases):
         self.tell(f"{what}: a change", found, (True, [addresses("client")[number]]))
         self.tell(f"{what}: from another host", "Success" in other, False)
         there = addresses("other")[number]
-        self.tell("  the log has that one's address", (set(self.peers(f"peer {there} ", BAD_ADDRESS)), self.peers(f"peer {there} ", DONE)), ({there}, []))
+        self.tell("  the log has that one's address", (set(self.peers(f"peer {there} ", BAD_ADDRESS)), self.peers(f"peer {there} client {user}@", DONE)), ({there}, []))
 
 
     # ---- a host that takes all places

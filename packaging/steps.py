@@ -271,8 +271,8 @@ class Steps:
         stopped = [f"stop {it}.service" in self.root.asked for it in (self.agent, SERVICE)]
         self.tell("remove: both are stopped", stopped, [True, True])
         self.tell("remove: none runs", self.pids(), [])
-        self.tell("remove: the files stay, and what a clean end leaves", self.files(*FOLDERS[:3]),
-                  sorted([*before, f"-rw------- boddrelyn:boddrelyn {RESUME}"]))
+        self.tell("remove: the files stay", self.files(*FOLDERS[:3]), before)
+        self.tell("remove: what the last clean end left is among them", f"-rw------- boddrelyn:boddrelyn {RESUME}" in before)
         self.tell("remove: the programs are gone", [it.name for it in self.root.path("/usr/sbin").glob("chpw_*")], [])
 
     def purge(self):
