@@ -158,9 +158,9 @@ class Case:
         self.clients = []
         self.realm()
 
-    def realm(self, **settings):
-        """The realm of alice and bob, with keys under four iterations where the settings have no others."""
-        write_configuration(self.server.configuration, ["alice", "bob"], **{"iterations": 4, **settings})
+    def realm(self, names=("alice", "bob"), **settings):
+        """The realm of alice and bob, or of others, with keys under four iterations where the settings have no others."""
+        write_configuration(self.server.configuration, names, **{"iterations": 4, **settings})
 
     def start(self, connections, **words):
         """The service, once it listens."""

@@ -113,10 +113,14 @@ EVENTS = {
 }
 
 
+QUIET = " text requests are refused after a start; the clients' clocks are not at fault"
+
+
 def event(seconds, micros, kind, *values):
     shown_values = [moment(*value.split(".")) if "." in value else value for value in values]
     pairs = zip(EVENTS[kind], shown_values, strict=True)
-    return " ".join([moment(seconds, micros), "service", kind] + [f"{name} {value}" for name, value in pairs])
+    told = QUIET if kind == "started" and values[-1] != "-" else ""
+    return " ".join([moment(seconds, micros), "service", kind] + [f"{name} {value}" for name, value in pairs]) + told
 
 
 # what an update that is taken is called, and the texts of those that aren't

@@ -10,6 +10,8 @@ from root import Failed
 HERE = pathlib.Path(__file__).resolve().parent
 FOLDERS = ("/etc/boddrelyn", "/var/lib/boddrelyn", "/var/log/boddrelyn", "/run/boddrelyn", "/run/boddrelyn-agent")
 SERVICE, JOURNAL, LOG = "boddrelyn", "/var/lib/boddrelyn/journal", "/var/log/boddrelyn/log"
+# what a clean end leaves for the next start
+RESUME = "/var/lib/boddrelyn/resume"
 CONFIGURATION = "/etc/boddrelyn/realm.toml"
 # seconds that a client is ahead, so that it isn't refused in the five minutes after a start
 AHEAD = 298
@@ -157,7 +159,7 @@ class Steps:
         self.tell("limits: the agent's capabilities", re.search(r"CapEff:\s+(\w+)", status)[1].lstrip("0"), "1")
 
     def changes(self):
-        self.tell("the quiet time ends", waited(lambda: self.status().get("quiet-until") == "-", 330))
+        self.tell("the first start isn't quiet", self.status().get("quiet-until"), "-")
         say = self.realm.kpasswd("alice", "Old-pass1", "short")
         self.tell("kpasswd: a short password is refused", "password too short" in say) or print(say)
         say = self.realm.kpasswd("alice", "Old-pass1", "New-pass1")
@@ -269,7 +271,8 @@ class Steps:
         stopped = [f"stop {it}.service" in self.root.asked for it in (self.agent, SERVICE)]
         self.tell("remove: both are stopped", stopped, [True, True])
         self.tell("remove: none runs", self.pids(), [])
-        self.tell("remove: the files stay", self.files(*FOLDERS[:3]), before)
+        self.tell("remove: the files stay, and what a clean end leaves", self.files(*FOLDERS[:3]),
+                  sorted([*before, f"-rw------- boddrelyn:boddrelyn {RESUME}"]))
         self.tell("remove: the programs are gone", [it.name for it in self.root.path("/usr/sbin").glob("chpw_*")], [])
 
     def purge(self):

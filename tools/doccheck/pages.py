@@ -48,7 +48,7 @@ def of_source():
     source = HELP.read_text()
     texts = {name: re.sub(r"\\\n", "", text) for name, text in re.findall(r'const (\w+): &str =\s*"((?:[^"\\]|\\.|\\\n)*)";', source)}
     kinds = {"required_option": True, "number": True, "word": True, "optional": False, "optional_number": False,
-             "optional_word": False, "flag": False}
+             "optional_word": False, "repeated": False, "flag": False}
     line = re.compile(rf'\b({"|".join(kinds)})\(\s*"([\w-]+)",\s*([^()]*?),?\s*\)')
     commands = {}
     for body in re.split(r"\nfn ", source)[1:]:
@@ -125,12 +125,12 @@ def items(body):
         elif depth == 0:
             name = None
         elif name and not line.startswith(".It"):
-            found[name][1] += " " + re.sub(r"^\.\w+ ", "", line)
+            found[name][1] += " " + re.sub(r"^\.\w+ ", "", re.sub(r"^\.Fl -(\S+)(?: (\W))?$", r"--\1\2", line))
     return {name: (value, set(RANGE.findall(text)), default_of(text)) for name, (value, text) in found.items()}
 
 
 def default_of(text):
-    found = re.search(r"The default is ([^.]*)\.(?: |$)", text)
+    found = re.search(r"The default is (.*?)\.(?: |$)", text)
     return found and found[1]
 
 

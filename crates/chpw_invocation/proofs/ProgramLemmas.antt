@@ -149,10 +149,67 @@ key_found : AllByRecursion (IsFound (rules_of program.key.rules)) (rules_of prog
 key_found = ((refl, refl), ((refl, refl), ((refl, refl), ((refl, refl), ((refl, refl), ((refl, refl), tt))))))
 
 new_journal_found : AllByRecursion (IsFound (rules_of program.new_journal.rules)) (rules_of program.new_journal.rules)
-new_journal_found = ((refl, refl), ((refl, refl), ((refl, refl), tt)))
+new_journal_found = ((refl, refl), ((refl, refl), ((refl, refl), ((refl, refl), tt))))
 
 serve_found : AllByRecursion (IsFound (rules_of program.serve.rules)) (rules_of program.serve.rules)
-serve_found = ((refl, refl), ((refl, refl), ((refl, refl), ((refl, refl), ((refl, refl), ((refl, refl), ((refl, refl), ((refl, refl), ((refl, refl), ((refl, refl), ((refl, refl), ((refl, refl), ((refl, refl), ((refl, refl), ((refl, refl), ((refl, refl), ((refl, refl), ((refl, refl), ((refl, refl), ((refl, refl), ((refl, refl), ((refl, refl), tt))))))))))))))))))))))
+serve_found = (
+  (refl, refl),
+  (
+    (refl, refl),
+    (
+      (refl, refl),
+      (
+        (refl, refl),
+        (
+          (refl, refl),
+          (
+            (refl, refl),
+            (
+              (refl, refl),
+              (
+                (refl, refl),
+                (
+                  (refl, refl),
+                  (
+                    (refl, refl),
+                    (
+                      (refl, refl),
+                      (
+                        (refl, refl),
+                        (
+                          (refl, refl),
+                          (
+                            (refl, refl),
+                            (
+                              (refl, refl),
+                              (
+                                (refl, refl),
+                                (
+                                  (refl, refl),
+                                  (
+                                    (refl, refl),
+                                    (
+                                      (refl, refl),
+                                      ((refl, refl), ((refl, refl), ((refl, refl), ((refl, refl), ((refl, refl), tt))))),
+                                    ),
+                                  ),
+                                ),
+                              ),
+                            ),
+                          ),
+                        ),
+                      ),
+                    ),
+                  ),
+                ),
+              ),
+            ),
+          ),
+        ),
+      ),
+    ),
+  ),
+)
 
 control_found : AllByRecursion (IsFound (rules_of program.control.rules)) (rules_of program.control.rules)
 control_found = ((refl, refl), ((refl, refl), ((refl, refl), ((refl, refl), tt))))

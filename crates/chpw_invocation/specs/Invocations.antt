@@ -1,20 +1,23 @@
 -- What a user asks for, by what clap matched: the command's name, and each option's value by its name. The words are
 -- matched by clap's own rules.
 use Rattle.std.specs.Prelude.{◌≡◌, ◌≢◌, ◌⊎◌, ◌≤◌, ℕ, Bool, true, false, List, [], Option, Some}
-use Rattle.std.specs.Prelude.{None, option_map, codes, bytes_eq, if◌then◌else◌, length, pos, ◌<◌, ◌&&◌, nat_le}
+use Rattle.std.specs.Prelude.{None, option_map, codes, bytes_eq, if◌then◌else◌, length, pos, ◌<◌, ◌&&◌, nat_le, unwrap_or}
 use Rattle.std.specs.Fmt.{decimal}
 use Rattle.std.specs.Option.{option_map_or}
 use Rattle.std.specs.Str.Parse.{IsNumeral, digits_value, without_leading_plus}
 use Rattle.clap.specs.Kinds.{HasKind, Kinds}
 use Rattle.clap.specs.Values.{IsSignedIn, kind_of, read_as}
-use Rattle.clap.specs.Walk.{Row, Text, first_of, one_of}
+use Rattle.clap.specs.Walk.{Row, Text, all_of, first_of, one_of}
 use Rattle.clap.specs.declared.builder.value_parser.Reading.TheVariants.{WithoutMinus}
 use Rattle.clap.specs.declared.error.Error.{Error}
-use Rattle.chpw_invocation.specs.Listening.{Listens, RefusesListen, listened}
+use Rattle.std.specs.declared.net.ip_addr.IpAddr.{IpAddr}
+use Rattle.chpw_invocation.specs.Addresses.{HasWildcard, IsListening, IsNoList}
+use Rattle.chpw_invocation.specs.Listening.{listened}
 use Rattle.chpw_invocation.specs.Controls.{file_of, takes_file, word_of}
 use Rattle.chpw_invocation.specs.Refusals.{kind_for}
+use Rattle.chpw_invocation.specs.Sharing.{usual_per_peer}
 use Rattle.chpw_invocation.specs.declared.refusing.Refusal.{Refusal}
-use Rattle.chpw_invocation.specs.declared.refusing.Refusal.TheVariants.{OldTarget, TwoPasswords, NoPassword, NoCommand, NoKdc}
+use Rattle.chpw_invocation.specs.declared.refusing.Refusal.TheVariants.{OldTarget, TwoPasswords, NoPassword, NoCommand, NoKdc, AnyDatagrams}
 use Rattle.chpw_invocation.specs.declared.refusing.Refusal.TheVariants.{NoFile, SpareFile, NoForm, NoLimit, NoRealm, SpareSource, NoSource, SpareConfig}
 use Rattle.chpw_invocation.specs.declared.invocation.ClientOptions.{ClientOptions}
 use Rattle.chpw_invocation.specs.declared.invocation.ConnectionLimit.{ConnectionLimit}
@@ -131,6 +134,16 @@ pub record AsksKey (options : List Row) (asked : KeyOptions) : Type 0 where
 pub record AsksNewJournal (options : List Row) (asked : NewJournalOptions) : Type 0 where
   pub config : HasText options (codes "config") asked.config.now
   pub journal : HasText options (codes "journal") asked.journal.now
+  pub resume : option_map (λ file. file.now) asked.resume ≡ first_of (codes "resume") options
+
+-- what `--listen` gives
+abbrev pub given : List Row → List Text
+given options = unwrap_or (all_of (codes "listen") options) []
+
+-- these are the addresses at which it listens, none of them a wildcard if it takes datagrams
+abbrev pub Listens : List Row → List IpAddr → Type 0
+Listens options addresses = IsListening (given options) addresses
+    × (one_of (codes "udp") options ≡ Some (codes "true") → ¬ (HasWildcard addresses))
 
 pub record AsksServe (options : List Row) (asked : ServeOptions) : Type 0 where
   pub config : HasText options (codes "config") asked.config.now
@@ -142,6 +155,7 @@ pub record AsksServe (options : List Row) (asked : ServeOptions) : Type 0 where
   pub connections : HasLimit options asked.connections
   pub idle : HasNumberOr 30 1 3600 options (codes "idle") asked.idle
   pub clients : HasNumberOr 1024 1 65536 options (codes "clients") asked.clients
+  pub clients_per_peer : HasNumberOr (usual_per_peer asked.clients) 1 65536 options (codes "clients-per-peer") asked.clients_per_peer
   pub buffers : HasNumberOr 32 1 1024 options (codes "buffers") asked.buffers
   pub raise : MayHaveNumber 1 16777216 options (codes "raise") asked.raise
   pub log : option_map (λ file. file.now) asked.log ≡ first_of (codes "log") options
@@ -267,12 +281,19 @@ RefusesImport options refusal =
 abbrev pub LacksKdc : List Row → Type 0
 LacksKdc options = IsGiven options (codes "require-kdc") true × (first_of (codes "kdc") options ≡ None)
 
--- Why a service isn't started: it lacks its KDC; otherwise its addresses; otherwise a number of connections or `unlimited`.
+-- Why it can't listen at what is given: that is no list of addresses; otherwise one is a wildcard, and it is to take datagrams.
+abbrev pub RefusesListen : List Row → Refusal → Type 0
+RefusesListen options refusal = IsNoList (given options) refusal
+    ⊎ ((refusal ≡ AnyDatagrams) × IsGiven options (codes "udp") true
+    × ((addresses : List IpAddr) × IsListening (given options) addresses × HasWildcard addresses))
+
+-- Why a service isn't started: it lacks its KDC; otherwise it can't listen at its addresses; otherwise it lacks a number of
+-- connections or `unlimited`.
 abbrev pub RefusesServe : List Row → Refusal → Type 0
 RefusesServe options refusal =
     ((refusal ≡ NoKdc) × LacksKdc options)
     ⊎ ((RefusesListen options refusal × ¬ (LacksKdc options))
-    ⊎ ((refusal ≡ NoLimit) × LacksLimit options × ¬ (LacksKdc options)))
+    ⊎ ((refusal ≡ NoLimit) × LacksLimit options × ¬ (LacksKdc options) × ((addresses : List IpAddr) × Listens options addresses)))
 
 -- Why words in which clap finds no fault are refused: a refused client, control, import or service, a table in an unknown
 -- form, or a password of a realm of 0 or more than 255 bytes.

@@ -1,3 +1,4 @@
+pub mod Addresses
 pub mod Controls
 pub mod Invocations
 pub mod Listening
@@ -5,3 +6,4 @@ pub mod Needs
 pub mod Options
 pub mod Program
 pub mod Refusals
+pub mod Sharing

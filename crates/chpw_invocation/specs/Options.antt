@@ -78,6 +78,9 @@ idle = may_be_numbered (codes "idle") 3600
 abbrev pub clients : Rule
 clients = may_be_numbered (codes "clients") 65536
 
+abbrev pub clients_per_peer : Rule
+clients_per_peer = may_be_numbered (codes "clients-per-peer") 65536
+
 abbrev pub buffers : Rule
 buffers = may_be_numbered (codes "buffers") 1024
 

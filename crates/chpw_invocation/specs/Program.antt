@@ -5,7 +5,7 @@ use Rattle.clap.specs.Simple.{App, Shape, app_of, new_shape}
 use Rattle.clap.specs.declared.builder.command.Command.{Command}
 use Rattle.clap.specs.declared.builder.command.Command.TheViews.{out-Command}
 use Rattle.chpw_invocation.specs.Options.{required, optional, repeated, flag, required_word, optional_word, port, workers}
-use Rattle.chpw_invocation.specs.Options.{connections, idle, clients, buffers, raise, kdc_wait, iterations, kvno}
+use Rattle.chpw_invocation.specs.Options.{connections, idle, clients, clients_per_peer, buffers, raise, kdc_wait, iterations, kvno}
 
 abbrev pub command : Text → List Rule → Shape
 command name options = record (new_shape name) { rules = options }
@@ -58,17 +58,18 @@ key = command (codes "key")
     ∷ kvno
     ∷ [])
 
--- new-journal --config FILE --journal FILE
+-- new-journal --config FILE --journal FILE [--resume FILE]
 abbrev pub new_journal : Shape
 new_journal = command (codes "new-journal")
     (required (codes "config")
     ∷ required (codes "journal")
+    ∷ optional (codes "resume")
     ∷ [])
 
 -- serve --config FILE --journal FILE --seed FILE --port N [--listen ADDRESS].. --workers N --connections N
--- [--idle SECONDS] [--clients N] [--buffers MEBIBYTES] [--raise COUNT] [--log FILE] [--resume FILE] [--kdc SOCKET]
--- [--kdc-wait MILLISECONDS] [--require-kdc] [--control SOCKET] [--udp] [--rfc3244-only] [--strict-messages] [--strict-modes]
--- [--existing-journal]
+-- [--idle SECONDS] [--clients N] [--clients-per-peer N] [--buffers MEBIBYTES] [--raise COUNT] [--log FILE] [--resume FILE]
+-- [--kdc SOCKET] [--kdc-wait MILLISECONDS] [--require-kdc] [--control SOCKET] [--udp] [--rfc3244-only] [--strict-messages]
+-- [--strict-modes] [--existing-journal]
 abbrev pub serve : Shape
 serve = command (codes "serve")
     (required (codes "config")
@@ -80,6 +81,7 @@ serve = command (codes "serve")
     ∷ connections
     ∷ idle
     ∷ clients
+    ∷ clients_per_peer
     ∷ buffers
     ∷ raise
     ∷ optional (codes "log")

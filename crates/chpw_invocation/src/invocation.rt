@@ -1,6 +1,7 @@
 //! What a user asks the program for.
 ghost use Rattle.std.specs.Prelude.{◌≡◌, ◌≤◌, ℕ, Some, true, None, length, option_map};
 ghost use Rattle.chpw_invocation.specs.Controls.{file_of, word_of};
+ghost use Rattle.chpw_invocation.specs.Sharing.{usual_per_peer};
 
 use crate::listening::ListenAddresses;
 
@@ -21,6 +22,16 @@ pub const MOST_CLIENTS: u32 = 65_536;
 
 /// The default of `--clients`: how many connections may be open at a time.
 pub const USUAL_CLIENTS: u32 = 1_024;
+
+/// The greatest `--clients-per-peer`.
+pub const MOST_CLIENTS_PER_PEER: u32 = 65_536;
+
+/// The default of `--clients-per-peer`: a quarter of `--clients`, and at least 1.
+pub fn usual_clients_per_peer(clients: u32) -> u32
+    ensures value { result ≡ usual_per_peer clients }
+{
+    if clients < 4 { 1 } else { clients / 4 }
+}
 
 /// The greatest `--buffers`, in MiB.
 pub const MOST_BUFFERS: u16 = 1_024;
@@ -113,6 +124,8 @@ pub struct ServeOptions<'a> {
     pub idle: u16,
     /// How many connections may be open at a time, 1 to 65,536; default [`USUAL_CLIENTS`].
     pub clients: u32,
+    /// How many of them one peer may have at a time, 1 to 65,536; default [`usual_clients_per_peer`] of `clients`.
+    pub clients_per_peer: u32,
     /// How many MiB the messages and replies of all connections may hold together, 1 to 1,024; default
     /// [`USUAL_BUFFERS`].
     pub buffers: u16,
@@ -144,6 +157,7 @@ pub struct ServeOptions<'a> {
     ghost some_workers: { (1 ≤ workers) × (workers ≤ 16) },
     ghost some_idle: { (1 ≤ idle) × (idle ≤ 3600) },
     ghost some_clients: { (1 ≤ clients) × (clients ≤ 65536) },
+    ghost some_clients_per_peer: { (1 ≤ clients_per_peer) × (clients_per_peer ≤ 65536) },
     ghost some_buffers: { (1 ≤ buffers) × (buffers ≤ 1024) },
     ghost some_kdc_wait: { (1 ≤ kdc_wait) × (kdc_wait ≤ 60000) },
     ghost some_count: { (count : ℕ) → raise ≡ Some count → (1 ≤ count) × (count ≤ 16777216) },
@@ -227,6 +241,8 @@ pub struct NewJournalOptions<'a> {
     pub config: &'a str,
     /// The file that is made.
     pub journal: &'a str,
+    /// The file that is made beside it for the first start, if there is one.
+    pub resume: Option<&'a str>,
 }
 
 /// The keytab that is imported.

@@ -1,7 +1,5 @@
 //! The addresses at which a service listens.
-ghost use Rattle.std.specs.Prelude.{◌≡◌, ◌++◌, ◌∷◌, ◌≤◌, ◌⊎◌, [], map, IfErr, IfOk, OnErr, OnOk};
-ghost use Rattle.chpw_invocation.specs.Listening.{HasAddress, IsAmong, IsListening, IsNoList, NamesNoAddress, listened};
-ghost use Rattle.chpw_invocation.specs.declared.refusing.Refusal.TheVariants.{ManyAddresses, NoAddress, SameAddress};
+ghost use Rattle.std.specs.Prelude.{◌≡◌, ◌++◌, ◌∷◌, ◌≤◌, ◌↔◌, [], IfErr, IsTrue, OnErr, OnOk};
 
 use crate::refusing::Refusal;
 use std::net::{IpAddr, Ipv4Addr};
@@ -21,6 +19,9 @@ pub struct ListenAddresses {
 }
 
 impl ListenAddresses {
+    ghost use Rattle.chpw_invocation.specs.Addresses.{HasWildcard, IsAmong, RefusesAddress};
+    ghost use Rattle.chpw_invocation.specs.Listening.{listened};
+
     /// This address alone.
     pub fn of(address: IpAddr) -> ListenAddresses
         ensures value { listened result ≡ address ∷ [] }
@@ -38,14 +39,38 @@ impl ListenAddresses {
         &self.addresses[..self.count]
     }
 
-    // One more, which isn't one of them, if there are fewer than 64.
-    fn add(&mut self, address: IpAddr) -> Result<(), Refusal>
+    /// Whether 0.0.0.0 or :: is among them.
+    pub fn has_wildcard(&self) -> bool
+        ensures value { IsTrue result ↔ HasWildcard (listened self.now) }
+    {
+        for address in self.as_slice() {
+            if address.is_unspecified() {
+                return true;
+            }
+        }
+        false
+    }
+
+    // Whether an address is one of them.
+    fn has(&self, address: IpAddr) -> bool
+        ensures value { IsTrue result ↔ IsAmong address (listened self.now) }
+    {
+        for other in self.as_slice() {
+            if is_same(other, &address) {
+                return true;
+            }
+        }
+        false
+    }
+
+    /// One more, which isn't one of them, if there are fewer than 64.
+    pub(crate) fn add(&mut self, address: IpAddr) -> Result<(), Refusal>
         ensures added { OnOk result (listened self.new ≡ listened self.old ++ address ∷ []) }
-        ensures refused { IfErr result (λ refusal. ((refusal ≡ SameAddress) × IsAmong address (listened self.old)) ⊎ (refusal ≡ ManyAddresses)) }
         ensures apart { OnOk result (¬ (IsAmong address (listened self.old))) }
+        ensures refused { IfErr result (RefusesAddress (listened self.old) address) }
         ensures unchanged { OnErr result (listened self.new ≡ listened self.old) }
     {
-        if self.as_slice().contains(&address) {
+        if self.has(address) {
             return Err(Refusal::SameAddress);
         }
         if self.count == MOST_ADDRESSES {
@@ -57,28 +82,8 @@ impl ListenAddresses {
     }
 }
 
-/// The addresses that these texts have, in their order; 127.0.0.1 if there are none.
-pub(crate) fn addresses_of(texts: &[&str]) -> Result<ListenAddresses, Refusal>
-    ensures value { IfOk result (λ l. IsListening (map (λ t. t.now) texts.now) (listened l)) }
-    ensures refused { IfErr result (IsNoList (map (λ t. t.now) texts.now)) }
+fn is_same(address: &IpAddr, other: &IpAddr) -> bool
+    ensures value { IsTrue result ↔ (address.now ≡ other.now) }
 {
-    let [first, others @ ..] = texts else {
-        return Ok(ListenAddresses::of(USUAL_ADDRESS));
-    };
-    let mut listened = ListenAddresses::of(address_of(first)?);
-    for text in others {
-        listened.add(address_of(text)?)?;
-    }
-    Ok(listened)
-}
-
-// The address that a text has; an IPv4-mapped IPv6 address is the IPv4 address.
-fn address_of(text: &str) -> Result<IpAddr, Refusal>
-    ensures address { IfOk result (HasAddress text.now) }
-    ensures none { IfErr result (λ refusal. (refusal ≡ NoAddress) × NamesNoAddress text.now) }
-{
-    match text.parse::<IpAddr>() {
-        Ok(address) => Ok(address.to_canonical()),
-        Err(_) => Err(Refusal::NoAddress),
-    }
+    address == other
 }

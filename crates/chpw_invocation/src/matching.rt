@@ -12,20 +12,24 @@ ghost use Rattle.chpw_invocation.specs.Invocations.{AsksFor, HasNoPassword, HasN
 ghost use Rattle.chpw_invocation.specs.Invocations.{HasPassword, HasRealm, HasTakenNumber, HasText};
 ghost use Rattle.chpw_invocation.specs.Invocations.{HasTwoPasswords, IsGiven, IsInFile, IsOwnReason, IsRefusal};
 ghost use Rattle.chpw_invocation.specs.Invocations.{HasLimit, IsLimit, LacksGiven, LacksLimit, LacksNumber, LacksRealm};
-ghost use Rattle.chpw_invocation.specs.Invocations.{MayHaveNumber};
+ghost use Rattle.chpw_invocation.specs.Invocations.{Listens, MayHaveNumber, RefusesListen, given};
 ghost use Rattle.chpw_invocation.specs.Invocations.{RefusesClient, RefusesControl, RefusesImport, RefusesServe, form_asked, form_of_name};
 ghost use Rattle.chpw_invocation.specs.Controls as controls;
 ghost use Rattle.chpw_invocation.specs.Controls.{file_of, word_of};
-ghost use Rattle.chpw_invocation.specs.Listening.{Listens, RefusesListen, listened};
+ghost use Rattle.chpw_invocation.specs.Addresses.{IsListening, IsNoList};
+ghost use Rattle.chpw_invocation.specs.Listening.{listened};
+ghost use Rattle.chpw_invocation.specs.Sharing.{usual_per_peer};
 
+use crate::addresses::addresses_of;
 use crate::invocation::{
     ClientOptions, ConnectionLimit, ControlCommand, ControlOptions, GREATEST_COUNT, GREATEST_KVNO,
     GREATEST_PORT, ImportOptions, Invocation, KdcOptions, KeyOptions, LONGEST_IDLE,
-    LONGEST_KDC_WAIT, LONGEST_REALM, MOST_BUFFERS, MOST_CLIENTS, MOST_WORKERS, NewJournalOptions,
-    PasswordSource, ServeOptions, TableForm, TableOptions, USUAL_BUFFERS, USUAL_CLIENTS,
-    USUAL_COUNT, USUAL_IDLE, USUAL_KDC_WAIT, USUAL_KVNO,
+    LONGEST_KDC_WAIT, LONGEST_REALM, MOST_BUFFERS, MOST_CLIENTS, MOST_CLIENTS_PER_PEER,
+    MOST_WORKERS, NewJournalOptions, PasswordSource, ServeOptions, TableForm, TableOptions,
+    USUAL_BUFFERS, USUAL_CLIENTS, USUAL_COUNT, USUAL_IDLE, USUAL_KDC_WAIT, USUAL_KVNO,
+    usual_clients_per_peer,
 };
-use crate::listening::{ListenAddresses, addresses_of};
+use crate::listening::ListenAddresses;
 use crate::program::program as new_program;
 use crate::refusing::{Refusal, import_refusal, lacks_kdc, refusal_of};
 use clap::{ArgMatches, Error};
@@ -179,6 +183,7 @@ fn new_journal_of<'a>(options: &ArgMatches<'a>) -> Option<Invocation<'a>>
     Some(Invocation::NewJournal(NewJournalOptions {
         config: text_of(options, "config")?,
         journal: text_of(options, "journal")?,
+        resume: text_of(options, "resume"),
     }))
 }
 
@@ -190,8 +195,10 @@ fn serve_of<'a>(options: &ArgMatches<'a>) -> Option<Invocation<'a>>
     if lacks_kdc(options) {
         return None;
     }
-    let listen = listen_of(options).ok()?;
-    service_of(options, listen)
+    match listen_of(options) {
+        Ok(listen) => service_of(options, listen),
+        Err(_) => None,
+    }
 }
 
 // A service whose options agree.
@@ -202,6 +209,7 @@ fn service_of<'a>(options: &ArgMatches<'a>, listen: ListenAddresses) -> Option<I
     ensures none { Meets specs_of.serve (rows_of (found_of options.now)) → result ≡ None
         → LacksLimit (rows_of (found_of options.now)) }
 {
+    let clients = clients_of(options)?;
     Some(Invocation::Serve(ServeOptions {
         config: text_of(options, "config")?,
         journal: text_of(options, "journal")?,
@@ -211,7 +219,8 @@ fn service_of<'a>(options: &ArgMatches<'a>, listen: ListenAddresses) -> Option<I
         workers: workers_of(options)?,
         connections: connections_of(options)?,
         idle: idle_of(options)?,
-        clients: clients_of(options)?,
+        clients,
+        clients_per_peer: clients_per_peer_of(options, clients)?,
         buffers: buffers_of(options)?,
         raise: raise_of(options)?,
         log: text_of(options, "log"),
@@ -342,11 +351,22 @@ pub(crate) fn listen_of(options: &ArgMatches<'_>) -> Result<ListenAddresses, Ref
     ensures listen { IfOk result (λ l. Listens (rows_of (found_of options.now)) (listened l)) }
     ensures refused { IfErr result (RefusesListen (rows_of (found_of options.now))) }
 {
-    let listen = addresses_of(options.get_strs("listen").unwrap_or(&[]))?;
-    if is_given(options, "udp") && listen.as_slice().iter().any(|a| a.is_unspecified()) {
+    let listen = given_of(options)?;
+    if is_given(options, "udp") && listen.has_wildcard() {
         return Err(Refusal::AnyDatagrams);
     }
     Ok(listen)
+}
+
+// The addresses that are given, or the usual one.
+fn given_of(options: &ArgMatches<'_>) -> Result<ListenAddresses, Refusal>
+    ensures listen { IfOk result (λ l. IsListening (given (rows_of (found_of options.now))) (listened l)) }
+    ensures refused { IfErr result (IsNoList (given (rows_of (found_of options.now)))) }
+{
+    match options.get_strs("listen") {
+        Some(texts) => addresses_of(texts),
+        None => addresses_of(&[]),
+    }
 }
 
 /// Whether a flag is given.
@@ -463,6 +483,19 @@ fn clients_of(options: &ArgMatches<'_>) -> Option<u32>
     ensures taken { Suits (filled options_of.clients) (rows_of (found_of options.now)) → result ≢ None }
 {
     number_or(options, "clients", USUAL_CLIENTS, MOST_CLIENTS)
+}
+
+// How many of these connections one peer may have at a time.
+fn clients_per_peer_of(options: &ArgMatches<'_>, clients: u32) -> Option<u32>
+    requires few { clients ≤ 65536 }
+    ensures clients_per_peer { IfSome result
+        (HasNumberOr (usual_per_peer clients) 1 65536 (rows_of (found_of options.now)) (codes "clients-per-peer")) }
+    ensures lacks { result ≡ None
+        → LacksGiven 1 65536 (rows_of (found_of options.now)) (codes "clients-per-peer") }
+    ensures taken { Suits (filled options_of.clients_per_peer) (rows_of (found_of options.now)) → result ≢ None }
+{
+    let usual = usual_clients_per_peer(clients);
+    number_or(options, "clients-per-peer", usual, MOST_CLIENTS_PER_PEER)
 }
 
 // How many MiB the messages and replies of all connections may hold.

@@ -7,7 +7,7 @@ ghost use Rattle.chpw_invocation.specs.Program as specs_of;
 
 use crate::invocation::{
     GREATEST_COUNT, GREATEST_KVNO, GREATEST_PORT, LONGEST_IDLE, LONGEST_KDC_WAIT, MOST_BUFFERS,
-    MOST_CLIENTS, MOST_WORKERS,
+    MOST_CLIENTS, MOST_CLIENTS_PER_PEER, MOST_WORKERS,
 };
 use crate::options::{
     OptionLine, argument_of, flag, number, optional, optional_number, optional_word, repeated,
@@ -119,6 +119,9 @@ const IDLE_HELP: &str =
 
 const CLIENTS_HELP: &str = "How many connections may be open at a time, 1 to 65536 [default: 1024]";
 
+const CLIENTS_PER_PEER_HELP: &str =
+    "How many of them one peer may have at a time, 1 to 65536 [default: a quarter of --clients]";
+
 const BUFFERS_HELP: &str =
     "How many MiB the messages and replies of all connections may hold together, 1 to 1024 [default: 32]";
 
@@ -160,10 +163,17 @@ const NEW_JOURNAL_MORE: &str = "\
 The journal begins with a record of the configuration's realm, and is refused from then on with a
 configuration of another realm. It is readable and writable by its owner alone. Nothing is overwritten.
 
+A start that finds a journal refuses requests for five minutes, since some may have been answered
+before. --resume FILE makes FILE as a clean end would leave it that had answered none: the first
+'serve --resume FILE' removes it and answers at once.
+
 Example:
-  chpw_server new-journal --config samples/realm.toml --journal realm.journal";
+  chpw_server new-journal --config samples/realm.toml --journal realm.journal --resume realm.resume";
 
 const NEW_JOURNAL_HELP: &str = "The journal to make, where there is no file yet";
+
+const NEW_RESUME_HELP: &str =
+    "Make this file, too, where there is none yet, so that the first 'serve --resume' has no quiet time [default: none]";
 
 const IMPORT: &str = "Convert a keytab's keys, or a KDC's, to a configuration.";
 
@@ -355,6 +365,7 @@ fn new_journal<'a>(alloc: Global) -> Result<Command<'a>, AllocError>
     let options = [
         required_option("config", "FILE", CONFIG_HELP),
         required_option("journal", "FILE", NEW_JOURNAL_HELP),
+        optional("resume", "FILE", NEW_RESUME_HELP),
     ];
     command_with(
         alloc,
@@ -379,6 +390,12 @@ fn serve<'a>(alloc: Global) -> Result<Command<'a>, AllocError>
         required_option("connections", "N", CONNECTIONS_HELP),
         optional_number("idle", "SECONDS", LONGEST_IDLE as u32, IDLE_HELP),
         optional_number("clients", "N", MOST_CLIENTS, CLIENTS_HELP),
+        optional_number(
+            "clients-per-peer",
+            "N",
+            MOST_CLIENTS_PER_PEER,
+            CLIENTS_PER_PEER_HELP,
+        ),
         optional_number("buffers", "MEBIBYTES", MOST_BUFFERS as u32, BUFFERS_HELP),
         optional_number("raise", "COUNT", GREATEST_COUNT, RAISE_HELP),
         optional("log", "FILE", LOG_HELP),

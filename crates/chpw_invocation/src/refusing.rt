@@ -5,8 +5,9 @@ ghost use Rattle.clap.specs.Words.{first_of, found_of, rows_of, subcommand_rows_
 ghost use Rattle.chpw_invocation.specs.Controls as controls;
 ghost use Rattle.chpw_invocation.specs.Invocations.{AimsOld, IsOwnReason, IsOwnRefusal, RefusesClient, RefusesControl};
 ghost use Rattle.chpw_invocation.specs.Invocations.{LacksKdc, RefusesImport, RefusesServe, import_refusal, is_realm};
-ghost use Rattle.chpw_invocation.specs.Needs.{IsSuited, Suits};
+ghost use Rattle.chpw_invocation.specs.Needs.{IsSuited, Meets, Suits};
 ghost use Rattle.chpw_invocation.specs.Options.{flag};
+ghost use Rattle.chpw_invocation.specs.Program.{serve};
 ghost use Rattle.chpw_invocation.specs.Refusals.{kind_for, text_for};
 
 use crate::invocation::LONGEST_REALM;
@@ -102,7 +103,8 @@ impl Refusal {
                 "a value for '--listen <ADDRESS>' is an address of IPv4 or IPv6, without a port"
             }
             Refusal::SameAddress => "the argument '--listen <ADDRESS>' has the same address twice",
-            Refusal::ManyAddresses => "the argument '--listen <ADDRESS>' has more than 64 addresses",
+            Refusal::ManyAddresses =>
+                "the argument '--listen <ADDRESS>' has more than 64 addresses",
             Refusal::AnyDatagrams => {
                 "the argument '--udp' cannot be used with '--listen 0.0.0.0' or '--listen ::'"
             }
@@ -170,7 +172,7 @@ fn control_refusal(options: &ArgMatches<'_>) -> Refusal
 
 // Why `serve` is refused.
 fn refusal_of_serve(options: &ArgMatches<'_>) -> Refusal
-    ensures why { Suits (filled (flag (codes "require-kdc"))) (rows_of (found_of options.now))
+    ensures why { Meets serve (rows_of (found_of options.now))
         → (refusal : Refusal) → RefusesServe (rows_of (found_of options.now)) refusal
         → RefusesServe (rows_of (found_of options.now)) result }
 {

@@ -3,8 +3,11 @@
 
 mod compact;
 mod end_mark;
+mod explaining;
+mod explanation;
 mod fault;
 mod file_limit;
+mod file_number;
 mod file_sink;
 mod heading;
 mod journal_file;
@@ -14,12 +17,17 @@ mod quiet;
 mod reading;
 mod replacing;
 mod restoring;
+mod sink_cause;
 mod synced_file;
 mod whole;
 
 pub use compact::compact_journal;
+pub use end_mark::JournalMarks;
+pub use explaining::{Explanation, RefusedRecord, Wanted, explain_file};
+pub use explanation::{put_explanation, put_place};
 pub use fault::RestoreFault;
 pub use file_limit::room_for;
+pub use file_number::FileNumber;
 pub use file_sink::FileSink;
 pub use heading::{heading_bytes, is_headed};
 pub use journal_file::{Journal, JournalFile, OpenFault, open_journal};
@@ -27,5 +35,6 @@ pub use memory_sink::MemorySink;
 pub use quiet::quiet_after;
 pub use replacing::{Replacement, beside, remove_unfinished, replace_journal, write_new};
 pub use restoring::{Restored, restore};
+pub use sink_cause::SinkCause;
 pub use synced_file::SyncedFile;
 pub use whole::restore_file;

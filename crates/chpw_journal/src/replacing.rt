@@ -63,7 +63,7 @@ pub fn replace_journal<R: Files<File = File>>(
 /// error if something is at the path; after another error nothing is left there.
 pub fn write_new<R: Files<File = File>>(rt: &R, path: &str, text: &[u8]) -> io::Result<File> {
     let mut how = OpenOptions::new();
-    how.append(true).create_new(true).mode(0o600);
+    how.read(true).append(true).create_new(true).mode(0o600);
     let mut file = how.open(rt, path)?;
     let is_locked = file.try_lock().is_ok();
     match put(&mut file, text) {

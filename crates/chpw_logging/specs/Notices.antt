@@ -5,12 +5,13 @@ use Rattle.chpw_logging.specs.declared.notices.Notice.{Notice}
 use Rattle.chpw_logging.specs.declared.notices.Notice.TheVariants.{LogLost, JournalFailed, OutputLost, Expired, Unconfirmed}
 use Rattle.chpw_logging.specs.declared.notices.Notice.TheVariants.{KdcDown, KdcMisspoken, KdcRefused, KdcFailed, KdcLacks, KdcTableFull, KdcLost}
 use Rattle.chpw_logging.specs.declared.notices.Notice.TheVariants.{Shared, ManagerNotTold, Lacked, TailCut, SetAside, NotKept, Quiet}
+use Rattle.chpw_journal.specs.Causes.{cause_text}
 use Rattle.chpw_start.specs.Resuming.{reason_words}
 
 abbrev pub notice_line : Notice → List ℕ
 notice_line (LogLost log) = log.now ++ codes ": a line of the log was lost; further losses are not reported"
-notice_line (JournalFailed journal) =
-    journal.now ++ codes ": journal failed: no change is accepted until a restart"
+notice_line (JournalFailed journal why) =
+    journal.now ++ (codes ": journal failed: " ++ (cause_text why ++ codes ": no change is accepted until a restart"))
 notice_line OutputLost = codes "standard output: a line was lost; further losses are not reported"
 notice_line (Expired count) = codes "messages dropped after waiting 5 seconds for a worker: " ++ decimal count
 notice_line (Unconfirmed socket) =

@@ -1,6 +1,7 @@
 //! Notices on standard error of a service that goes on, each once.
 ghost use Rattle.std.specs.Prelude.{◌≡◌, ◌-◌, ◌&&◌, ◌||◌, max, not, true};
 
+use chpw_journal::SinkCause;
 use chpw_start::SetAside;
 use std::fmt;
 
@@ -9,8 +10,8 @@ use std::fmt;
 pub enum Notice<'a> {
     /// A line of the log at this path is lost.
     LogLost(&'a str),
-    /// The journal at this path failed.
-    JournalFailed(&'a str),
+    /// The journal at this path failed, for this reason.
+    JournalFailed(&'a str, SinkCause),
     /// A line on standard output is lost.
     OutputLost,
     /// This many more messages had waited too long for their worker.
@@ -59,10 +60,10 @@ impl fmt::Display for Notice<'_> {
                 f,
                 "{log}: a line of the log was lost; further losses are not reported"
             ),
-            Notice::JournalFailed(journal) => {
+            Notice::JournalFailed(journal, why) => {
                 write!(
                     f,
-                    "{journal}: journal failed: no change is accepted until a restart"
+                    "{journal}: journal failed: {why}: no change is accepted until a restart"
                 )
             }
             Notice::OutputLost => {

@@ -1,5 +1,5 @@
 -- What a service reads of its files while it runs: for a reload, and for a compact journal.
-use Rattle.std.specs.Prelude.{◌≡◌, ◌≢◌, ◌⊎◌, ℕ, Bool, List, [], ◌++◌, Option, is_some, position, Ok, Err, if◌then◌else◌}
+use Rattle.std.specs.Prelude.{◌≡◌, ◌≢◌, ◌⊎◌, ℕ, Bool, List, [], ◌++◌, Option, IfSome, is_some, position, Ok, Err, if◌then◌else◌}
 use Rattle.std.specs.Str.{is_utf8}
 use Rattle.chpw_rules.specs.declared.config.Config.{Config}
 use Rattle.chpw_config.specs.declared.fault.ConfigFault.{ConfigFault}
@@ -15,7 +15,14 @@ use Rattle.chpw_report.specs.Held.{opening}
 use Rattle.chpw_reload.specs.Reloading.{IsPrepared, IsUnprepared}
 use Rattle.chpw_invocation.specs.declared.invocation.ServeOptions.{ServeOptions}
 use Rattle.chpw_start.specs.Faults.{IsOfBytes, IsOfNames, IsUnread, Sets, SetsNames}
+use Rattle.chpw_journal.specs.declared.explaining.Explanation.{Explanation}
+use Rattle.chpw_journal.specs.declared.fault.RestoreFault.{RestoreFault}
+use Rattle.chpw_journal.specs.Explaining.{explanation_text}
+use Rattle.chpw_reload.specs.declared.fault.ReloadFault.{ReloadFault}
+use Rattle.chpw_reload.specs.declared.fault.ReloadFault.TheVariants as reload_fault
+use Rattle.chpw_start.specs.Explaining.{IsExplainedBy}
 use Rattle.chpw_start.specs.declared.fault.ServeFault.{ServeFault}
+use Rattle.chpw_start.specs.declared.fault.ServeFault.TheVariants.{Journal}
 use Rattle.chpw_start.specs.Rules.{AreRulesOf}
 use Rattle.chpw_start.specs.Telling.{IsOfText as IsOfTable}
 use Rattle.chpw_orders.specs.declared.compacting.CompactFault.{CompactFault}
@@ -59,13 +66,24 @@ HasFault bytes fault = Sets bytes (Err fault) ⊎ SetsNames bytes (Err fault)
 abbrev pub IsUnset : List ℕ → PrepareFault → Type 0
 IsUnset bytes (Start fault) = IsOfText bytes fault
 IsUnset bytes (Unset words) = (fault : ConfigFault) × HasFault bytes fault
-IsUnset bytes (Reload fault) = ⊥
+IsUnset bytes (Reload fault told) = ⊥
 
--- a file's fault; the fault of some bytes of a configuration, in words; or a journal can't be replayed over one
+-- what a journal says at this fault over the configuration that these bytes set
+abbrev pub IsTold : List ℕ → RestoreFault → List ℕ → Type 0
+IsTold bytes fault words = (explanation : Explanation) × IsExplainedBy bytes fault explanation × (words ≡ explanation_text explanation)
+
+-- and where it can't be replayed over that
+abbrev pub IsToldOf : List ℕ → ReloadFault → List ℕ → Type 0
+IsToldOf bytes (reload_fault.Journal fault) words = IsTold bytes fault words
+IsToldOf bytes fault words = ⊥
+
+-- a file's fault; the fault of some bytes of a configuration, in words; or a journal can't be replayed over one, and what it
+-- says there
 abbrev pub IsNotReadAnew : ServeOptions → PrepareFault → Type 0
 IsNotReadAnew o (Start fault) = IsUnread o.config.now fault ⊎ ((bytes : List ℕ) × IsOfText bytes fault) ⊎ IsUnread o.journal.now fault
 IsNotReadAnew o (Unset words) = (bytes : List ℕ) × (fault : ConfigFault) × HasFault bytes fault
-IsNotReadAnew o (Reload fault) = (config : Config) × (bytes : Option (List ℕ)) × IsUnprepared config bytes fault
+IsNotReadAnew o (Reload fault told) = (config : Config) × (text : List ℕ) × (bytes : Option (List ℕ)) × IsUnprepared config bytes fault
+    × Sets text (Ok config) × IfSome told (λ words. IsToldOf text fault words)
 
 -- ---- a compact journal
 
@@ -79,9 +97,15 @@ pub record IsBase (bytes : List ℕ) (base : Held) : Type 0 where
 abbrev pub IsHeadingIn : List ℕ → List ℕ → Type 0
 IsHeadingIn bytes text = (config : Config) × (is_named : Bool) × Sets bytes (Ok config) × (text ≡ heading is_named config.realm)
 
--- a fault of the configuration's file, or one of the configuration in force and the journal; the file has other bytes
+-- what the journal says where that has a fault over the configuration of these bytes
+abbrev pub IsToldAt : List ℕ → ServeFault → List ℕ → Type 0
+IsToldAt bytes (Journal fault) words = IsTold bytes fault words
+IsToldAt bytes fault words = ⊥
+
+-- a fault of the configuration's file, or one of the configuration in force and the journal, which says more there; the file has other bytes
 -- than the configuration in force; or the copy of this name can't be made
 abbrev pub IsNotBegun : ServeOptions → List ℕ → List ℕ → CompactFault → Type 0
-IsNotBegun o in_force copy (Unread fault) = IsUnread o.config.now fault ⊎ IsOfTable in_force o.journal.now fault
+IsNotBegun o in_force copy (Unread fault told) = (IsUnread o.config.now fault ⊎ IsOfTable in_force o.journal.now fault)
+    × IfSome told (λ words. IsToldAt in_force fault words)
 IsNotBegun o in_force copy Changed = (bytes : List ℕ) × (bytes ≢ in_force)
 IsNotBegun o in_force copy (NoCopy path) = path ≡ copy

@@ -1,14 +1,16 @@
 //! Beginning a compact journal, while the workers of a desk answer messages.
-ghost use Rattle.std.specs.Prelude.{◌≡◌, ◌↔◌, ℕ, Ok, Option, IfOk, IfErr, IsTrue};
+ghost use Rattle.std.specs.Prelude.{◌≡◌, ◌↔◌, ℕ, Ok, Option, IfOk, IfErr, IfSome, IsTrue};
 ghost use Rattle.chpw_rules.specs.declared.config.Config.{Config as Settings};
 ghost use Rattle.chpw_journal.specs.Headings.{heading};
 ghost use Rattle.chpw_start.specs.Faults.{IsOfBytes, Sets};
-ghost use Rattle.chpw_orders.specs.Rereading.{IsBase, IsHeadingIn, IsNotBegun};
+ghost use Rattle.chpw_orders.specs.Rereading.{IsBase, IsHeadingIn, IsNotBegun, IsToldAt};
 ghost use Rattle.chpw_start.specs.Telling.{IsOfText, TellsOf};
 
+use crate::telling::told_of;
 use chpw_control::FileName;
 use chpw_invocation::{ServeOptions, TableForm};
 use chpw_journal::{heading_bytes, is_headed, remove_unfinished, write_new};
+use chpw_rules::Items;
 use chpw_start::{ServeFault, configuration_text, open_file, settings, write_table_of};
 use chpw_table::Table;
 use std::alloc::Global;
@@ -28,8 +30,9 @@ pub struct Compaction {
 /// Why there is no compact journal.
 #[derive(Drop)]
 pub enum CompactFault<'a> {
-    /// The configuration or the journal can't be read, or memory ran out.
-    Unread(ServeFault<'a>),
+    /// The configuration or the journal can't be read, or memory ran out; and what the journal says at its fault, if more can be
+    /// told.
+    Unread(ServeFault<'a>, Option<Items<u8>>),
     /// The configuration's file isn't the one in force any more.
     Changed,
     /// The copy can't be made, or something is at its path.
@@ -53,24 +56,27 @@ pub fn begin_compaction<'a, R: Files<File = File> + AllocGlobal>(
 {
     let present = match configuration_text(rt, options.config) {
         Ok(present) => present,
-        Err(fault) => return Err(CompactFault::Unread(fault)),
+        Err(fault) => return Err(CompactFault::Unread(fault, None)),
     };
     if !are_same_bytes(&present, in_force) {
         return Err(CompactFault::Changed);
     }
     let (base, text) = match base_and_copy(rt, options, in_force) {
         Ok(both) => both,
-        Err(fault) => return Err(CompactFault::Unread(fault)),
+        Err(fault) => {
+            let told = told_at(rt, options, in_force, &fault);
+            return Err(CompactFault::Unread(fault, told));
+        }
     };
     let heading = match heading_of(rt, options.journal, in_force) {
         Ok(heading) => heading,
-        Err(fault) => return Err(CompactFault::Unread(fault)),
+        Err(fault) => return Err(CompactFault::Unread(fault, None)),
     };
     if remove_unfinished(rt, rt.alloc(), options.journal).is_err() {
-        return Err(CompactFault::Unread(ServeFault::Memory));
+        return Err(CompactFault::Unread(ServeFault::Memory, None));
     }
     let Ok(name) = FileName::of(rt.alloc(), copy.as_str()) else {
-        return Err(CompactFault::Unread(ServeFault::Memory));
+        return Err(CompactFault::Unread(ServeFault::Memory, None));
     };
     match write_new(rt, name.as_str(), &text) {
         Ok(_) => Ok(Compaction {
@@ -110,6 +116,21 @@ fn base_and_copy<'a, R: Files<File = File> + AllocGlobal>(
         &mut text,
     )?;
     Ok((base, text))
+}
+
+// What the journal says where it has a fault over the configuration with this text, if more can be told.
+fn told_at<R: Files<File = File> + AllocGlobal>(
+    rt: &R,
+    options: &ServeOptions<'_>,
+    in_force: &[u8],
+    fault: &ServeFault<'_>,
+) -> Option<Items<u8>>
+    ensures told { IfSome result (λ words. IsToldAt in_force.now fault.now words) }
+{
+    match fault {
+        ServeFault::Journal(fault) => told_of(rt, in_force, options.journal, *fault),
+        _ => None,
+    }
 }
 
 // What the journal at a path begins with: the record of the realm that this text of a configuration sets, or nothing.

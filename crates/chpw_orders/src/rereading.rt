@@ -1,14 +1,15 @@
 //! A configuration that is read anew while the service runs.
-ghost use Rattle.std.specs.Prelude.{◌≡◌, IfErr, IfOk, Ok, true};
+ghost use Rattle.std.specs.Prelude.{◌≡◌, IfErr, IfOk, IfSome, Ok, true};
 ghost use Rattle.chpw_rules.specs.Fitting.{config_fits};
 ghost use Rattle.chpw_start.specs.Faults.{IsUnread, Sets, SetsNames};
-ghost use Rattle.chpw_orders.specs.Rereading.{IsNotReadAnew, IsOfText, IsReadAnew, IsUnset, reload_warnings, settings_in};
+ghost use Rattle.chpw_orders.specs.Rereading.{IsNotReadAnew, IsOfText, IsReadAnew, IsToldOf, IsUnset, reload_warnings, settings_in};
 
 use crate::checked_reload::CheckedReload;
+use crate::telling::told_of;
 use chpw_config::explain;
 use chpw_invocation::ServeOptions;
 use chpw_reload::{PreparedReload, ReloadFault, prepare};
-use chpw_rules::{Config, Name, NamePatterns};
+use chpw_rules::{Config, Items, Name, NamePatterns};
 use chpw_start::{
     Rules, ServeFault, configuration_text, kdc_names, open_file, rules_of, settings, unread_fault,
 };
@@ -38,8 +39,8 @@ pub enum PrepareFault<'a> {
     Start(ServeFault<'a>),
     /// The configuration has a fault, in the words of `check`.
     Config(String),
-    /// The journal can't be replayed over it.
-    Reload(ReloadFault),
+    /// The journal can't be replayed over it; and what the journal says there, if more can be told.
+    Reload(ReloadFault, Option<Items<u8>>),
 }
 
 /// The configuration read again, with the journal so far replayed. Refused if a file can't be read, the configuration has a
@@ -65,7 +66,10 @@ pub fn read_anew<'a, R: Files<File = File> + AllocGlobal>(
     };
     let renewal = match prepare(rt.alloc(), config, journal) {
         Ok(renewal) => renewal,
-        Err(fault) => return Err(PrepareFault::Reload(fault)),
+        Err(fault) => {
+            let told = told_at(rt, &rules.text, options.journal, &fault);
+            return Err(PrepareFault::Reload(fault, told));
+        }
     };
     let rest = match rest_of(rt, options.journal, renewal.kept) {
         Ok(rest) => rest,
@@ -81,6 +85,21 @@ pub fn read_anew<'a, R: Files<File = File> + AllocGlobal>(
         names,
         warnings,
     })
+}
+
+// What the journal at a path says where it can't be replayed over the configuration with this text, if more can be told.
+fn told_at<R: Files<File = File> + AllocGlobal>(
+    rt: &R,
+    text: &[u8],
+    journal: &str,
+    fault: &ReloadFault,
+) -> Option<Items<u8>>
+    ensures told { IfSome result (λ words. IsToldOf text.now fault.now words) }
+{
+    match fault {
+        ReloadFault::Journal(fault) => told_of(rt, text, journal, *fault),
+        _ => None,
+    }
 }
 
 // The warnings of a configuration with this text, where the principals are those of the configuration and the journal.

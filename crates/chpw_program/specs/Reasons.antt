@@ -7,14 +7,17 @@ use Rattle.std.specs.Str.{bytes_eq}
 use Rattle.chpw_import.specs.declared.fault.KeysFault.TheVariants as keys
 use Rattle.chpw_invocation.specs.declared.invocation.Invocation.{Invocation}
 use Rattle.chpw_invocation.specs.declared.invocation.Invocation.TheVariants.{Check, NewJournal, Serve, Table, Client}
+use Rattle.chpw_journal.specs.declared.fault.RestoreFault.{RestoreFault}
 use Rattle.chpw_start.specs.declared.fault.ServeFault.TheVariants as service
 use Rattle.chpw_program.specs.declared.ending.Ending.{Ending}
 use Rattle.chpw_program.specs.declared.ending.Ending.TheVariants as ending
+use Rattle.chpw_program.specs.declared.journal_reason.JournalFiles.{JournalFiles}
 use Rattle.chpw_program.specs.declared.reasons.Cause.{Cause}
 use Rattle.chpw_program.specs.declared.reasons.Cause.TheVariants.{Unread, Unwritten, BadConfig, Unlistened}
 use Rattle.chpw_program.specs.declared.reasons.Named.{Named}
 use Rattle.chpw_program.specs.declared.reasons.Reason.{Reason}
-use Rattle.chpw_program.specs.declared.reasons.Reason.TheVariants.{Missing, NoFolder, Forbidden, Folder, Special, Short, Long, Held, InWords, InUse, NoAddress, Privileged}
+use Rattle.chpw_program.specs.declared.reasons.Reason.TheVariants.{Missing, NoFolder, Forbidden, Folder, Special, Short, Long}
+use Rattle.chpw_program.specs.declared.reasons.Reason.TheVariants.{Held, InWords, InUse, NoAddress, Privileged}
 
 abbrev pub line_of : Reason → List ℕ
 line_of (Missing file) = file.now ++ codes ": no such file"
@@ -64,3 +67,13 @@ cause_of (ending.Unserved (service.CannotWrite file)) named = Some (Unwritten fi
 cause_of (ending.Unserved (service.Config fault)) named = option_map (λ file. BadConfig file) named.config
 cause_of (ending.Unserved service.CannotListen) named = option_map (λ listen. Unlistened listen named.port) named.listen
 cause_of _ named = None
+
+-- the fault of a journal with which a run ends, and the files that a command reads which restores one
+abbrev pub journal_fault : Ending → Option RestoreFault
+journal_fault (ending.Unserved (service.Journal fault)) = Some fault
+journal_fault _ = None
+
+abbrev pub journal_files : Invocation → Option JournalFiles
+journal_files (Serve o) = Some (record { config = o.config; journal = o.journal })
+journal_files (Table o) = Some (record { config = o.config; journal = o.journal })
+journal_files _ = None

@@ -1,3 +1,4 @@
+pub mod FaultLemmas
 pub mod RaisedLemmas
 pub mod RunningLemmas
 pub mod WholeRunLemmas

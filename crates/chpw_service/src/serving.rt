@@ -11,10 +11,10 @@ ghost use Rattle.chpw_start.specs.Raised.{IsRaisedWhereAsked};
 ghost use Rattle.chpw_service.specs.Serving.{IsAskedFor, limit_asked, reach_asked};
 ghost use Rattle.chpw_start.specs.declared.raising.RaiseReport.{RaiseReport};
 ghost use Rattle.chpw_service.specs.WholeRuns.{IsServedFrom, IsWholeRun};
-ghost use Rattle.chpw_invocation.specs.Listening.{listened};
 ghost use Rattle.chpw_logging.specs.declared.logging.LogLines.{LogLines};
 ghost use Rattle.rand_chacha.specs.ChaCha.{key_of};
 
+use crate::binding::{BoundSockets, bind};
 use crate::control_socket::{control_socket, take_away};
 use crate::kdc::ControlTerms;
 use crate::running::{serve_fault_of, serve_from};
@@ -43,7 +43,7 @@ use chpw_workers::MachineClock;
 use std::alloc::Global;
 use std::fs::{File, Files};
 use std::marker::Brand;
-use std::net::{Net, SocketAddr, TcpListener, TcpStream, UdpSocket};
+use std::net::{Net, SocketAddr, TcpListener, TcpStream};
 use std::rt::Env;
 use std::str;
 use std::sync::Wait;
@@ -106,7 +106,7 @@ pub fn serve_by<
     let Ok(rules) = rules_of(rt.alloc(), &config, text, &options) else {
         return Err(ServeFault::Memory);
     };
-    let doors = doors_of(rt, &options, rules.service.realm())?;
+    let sockets = bind(rt, &options, rules.service.realm())?;
     let mut clock = MachineClock::new(time);
     let Journal {
         table,
@@ -126,6 +126,10 @@ pub fn serve_by<
     let resumption = resume_where_asked(rt, &options, start, table, sink.file(), is_cut)?;
     let Resumption { table, set_aside } = resumption;
     let journal = journal_length(rt.alloc(), options.journal, &mut sink)?;
+    let Ok(marks) = journal.marks() else {
+        return Err(ServeFault::Memory);
+    };
+    log.watch(marks);
     if let Some(kept) = cut_at {
         log.tell(Notice::TailCut(options.journal, kept));
     }
@@ -143,7 +147,7 @@ pub fn serve_by<
         log: &log,
         journal,
         kdc,
-        doors,
+        sockets,
     };
     let control = ControlTerms {
         listener,
@@ -231,14 +235,7 @@ struct Start<'l, R> {
     log: &'l Log<'l, R>,
     journal: JournalLength,
     kdc: Option<KdcSide>,
-    doors: Doors,
-}
-
-/// The sockets at the service's addresses: a listener for each, and with datagrams a socket for each.
-#[derive(Drop)]
-struct Doors {
-    listeners: Vec<TcpListener>,
-    datagrams: Option<DatagramSockets>,
+    sockets: BoundSockets,
 }
 
 // Serves what is opened: at the first desk the count is raised if that is asked for, and then the service listens at
@@ -326,10 +323,7 @@ fn listening<
     'a,
     'l,
     R: Net<Listener = TcpListener, Stream = TcpStream> + Wait + Env + Print + Eprint + AllocGlobal,
->(
-    rt: &R,
-    start: Start<'l, R>,
-) -> Result<(Vec<TcpListener>, ServiceContext<'l, R>), ServeFault<'a>>
+>(rt: &R, start: Start<'l, R>) -> Result<(Vec<TcpListener>, ServiceContext<'l, R>), ServeFault<'a>>
     ensures workers { IfOk result (λ r. r.1.workers ≡ start.entry.options.now.workers) }
     ensures options { IfOk result (λ r. r.1.options.now ≡ start.entry.options.now) }
     ensures kdc { IfOk result (λ r. (r.1.kdc.socket ≡ start.entry.options.now.kdc)
@@ -342,7 +336,7 @@ fn listening<
         log,
         journal,
         kdc,
-        doors: Doors {
+        sockets: BoundSockets {
             listeners,
             datagrams,
         },
@@ -367,87 +361,6 @@ fn listening<
     }
     notify_ready(rt, hall.log);
     Ok((listeners, hall))
-}
-
-// The sockets at the service's addresses; over UDP tickets of this realm are answered.
-fn doors_of<'a, R: Net<Listener = TcpListener, Stream = TcpStream> + AllocGlobal>(
-    rt: &R,
-    options: &ServeOptions<'_>,
-    realm: &[u8],
-) -> Result<Doors, ServeFault<'a>>
-    ensures fault { IfErr result IsLate }
-{
-    Ok(Doors {
-        listeners: listeners_of(rt, options)?,
-        datagrams: datagrams_of(rt, options, realm)?,
-    })
-}
-
-// A listener for each address.
-fn listeners_of<'a, R: Net<Listener = TcpListener, Stream = TcpStream> + AllocGlobal>(
-    rt: &R,
-    options: &ServeOptions<'_>,
-) -> Result<Vec<TcpListener>, ServeFault<'a>>
-    ensures each { IfOk result (λ v. length v.items ≡ length (listened options.now.listen)) }
-    ensures fault { IfErr result IsLate }
-{
-    let mut listeners = Vec::new(rt.alloc());
-    for address in options.listen.as_slice() {
-        let listener = match TcpListener::bind(rt, (*address, options.port)) {
-            Ok(listener) => listener,
-            Err(_) => return Err(ServeFault::CannotListen),
-        };
-        if listeners.push(listener).is_err() {
-            return Err(ServeFault::Memory);
-        }
-    }
-    Ok(listeners)
-}
-
-// A socket for datagrams at each address, if they are asked for, where tickets of this realm are answered.
-fn datagrams_of<'a, R: Net + AllocGlobal>(
-    rt: &R,
-    options: &ServeOptions<'_>,
-    realm: &[u8],
-) -> Result<Option<DatagramSockets>, ServeFault<'a>>
-    ensures none { options.now.udp ≡ false → result ≡ Ok None }
-    ensures asked { options.now.udp ≡ true → IfOk result (λ sockets. IsSome sockets) }
-    ensures realm { IfOk result (λ sockets. IfSome sockets (λ s. s.realm.items ≡ realm.now)) }
-    ensures port { IfOk result (λ sockets. IfSome sockets (λ s. s.port ≡ options.now.port)) }
-    ensures fault { IfErr result IsLate }
-{
-    if !options.udp {
-        return Ok(None);
-    }
-    let Ok(realm) = Vec::from_slice(rt.alloc(), realm) else {
-        return Err(ServeFault::Memory);
-    };
-    Ok(Some(DatagramSockets {
-        sockets: sockets_of(rt, options)?,
-        port: options.port,
-        realm,
-    }))
-}
-
-// A socket for datagrams at each address.
-fn sockets_of<'a, R: Net + AllocGlobal>(
-    rt: &R,
-    options: &ServeOptions<'_>,
-) -> Result<Vec<UdpSocket>, ServeFault<'a>>
-    ensures each { IfOk result (λ v. length v.items ≡ length (listened options.now.listen)) }
-    ensures fault { IfErr result IsLate }
-{
-    let mut sockets = Vec::new(rt.alloc());
-    for address in options.listen.as_slice() {
-        let socket = match UdpSocket::bind(rt, (*address, options.port)) {
-            Ok(socket) => socket,
-            Err(_) => return Err(ServeFault::CannotListen),
-        };
-        if sockets.push(socket).is_err() {
-            return Err(ServeFault::Memory);
-        }
-    }
-    Ok(sockets)
 }
 
 // The terms of the pool.

@@ -87,15 +87,21 @@ IsOfJournal path (CannotWrite file) = file.now ≡ path
 IsOfJournal path (Journal fault) = (fault ≢ NoMemory) × IsOfRecords fault
 IsOfJournal path fault = IsUnread path fault
 
--- the fault of a journal that is to be made: that of its configuration; something is at its path, or it can't be made there
+-- the fault of a file that is to be made: something is at its path, or it can't be made there
 abbrev pub IsUnmade : List ℕ → ServeFault → Type 0
 IsUnmade path (Present file) = file.now ≡ path
 IsUnmade path (CannotWrite file) = file.now ≡ path
 IsUnmade path Memory = Unit {0}
 IsUnmade path fault = ⊥
 
+-- the fault of the resume file that is made with a journal, if there is one
+abbrev pub IsOfFirstResume : Option (Bor (List ℕ)) → ServeFault → Type 0
+IsOfFirstResume None fault = ⊥
+IsOfFirstResume (Some path) fault = IsUnmade path.now fault
+
+-- the fault of a journal that is to be made: that of its configuration, its own, or that of its resume file
 abbrev pub IsOfNewJournal : NewJournalOptions → ServeFault → Type 0
-IsOfNewJournal o fault = IsOfSettings o.config.now fault ⊎ IsUnmade o.journal.now fault
+IsOfNewJournal o fault = IsOfSettings o.config.now fault ⊎ (IsUnmade o.journal.now fault ⊎ IsOfFirstResume o.resume fault)
 
 -- the fault of a start with strict modes: others can do something to one of its files
 abbrev pub IsOfModes : ServeOptions → ServeFault → Type 0

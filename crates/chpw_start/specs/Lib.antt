@@ -1,6 +1,8 @@
 pub mod Bounded
+pub mod Explaining
 pub mod Faults
 pub mod FileIds
+pub mod FirstResume
 pub mod Modes
 pub mod Opening
 pub mod Raised

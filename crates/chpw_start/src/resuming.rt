@@ -6,12 +6,11 @@ ghost use Rattle.chpw_table.specs.declared.table.resuming.Carried.{Carried as Le
 
 use crate::bounded::read_at_most;
 use crate::fault::ServeFault;
-use crate::file_ids::{folder_of, is_one, place_of};
+use crate::file_ids::{folder_of, keep_from};
 use crate::files::{open_file, unread_fault};
 use crate::line_output::{Kind, kind_of};
 use crate::ownership::{Exposure, exposure_of, own_ids, place_at};
 use chpw_invocation::ServeOptions;
-use chpw_journal::beside;
 use chpw_resume::{
     JournalMark, LONGEST_RESUME, Misfit, ResumeFault, first_misfit, mark_in, read_resume,
 };
@@ -94,7 +93,16 @@ pub fn resume_where_asked<'a, R: Files<File = File> + AllocGlobal>(
             set_aside: None,
         });
     };
-    keep_from_others(rt, options, path)?;
+    keep_from(
+        rt,
+        path,
+        &[
+            options.config,
+            options.seed,
+            options.journal,
+            options.log.unwrap_or("-"),
+        ],
+    )?;
     let mark = match mark_in(rt.alloc(), journal) {
         Ok(mark) => mark,
         Err(error) => return Err(unread_fault(options.journal, error)),
@@ -102,31 +110,6 @@ pub fn resume_where_asked<'a, R: Files<File = File> + AllocGlobal>(
     let found = found_at(rt, path, table.realm(), &mark, start)?;
     let found = if is_cut { as_cut(found) } else { found };
     take_over(rt, path, table, found, start)
-}
-
-// Refuses a resume file that is another file of the start, by whatever name; or that would be one on its way to its name.
-fn keep_from_others<'a, R: Files + AllocGlobal>(
-    rt: &R,
-    options: &ServeOptions<'a>,
-    path: &'a str,
-) -> Result<(), ServeFault<'a>>
-    ensures fault { IfErr result (IsAtResume path.now) }
-{
-    let Ok(beside) = beside(rt.alloc(), path) else {
-        return Err(ServeFault::Memory);
-    };
-    for file in [
-        options.config,
-        options.seed,
-        options.journal,
-        options.log.unwrap_or("-"),
-    ] {
-        let place = place_of(rt, file);
-        if is_one(place, place_of(rt, path)) || is_one(place, place_of(rt, beside.as_str())) {
-            return Err(ServeFault::CannotWrite(path));
-        }
-    }
-    Ok(())
 }
 
 // A journal with a torn record is longer than the one that was left.

@@ -11,16 +11,18 @@ returns-clause-shape c =
     ∷ c.required_option-2.ensures.rule i
     ∷ c.required_option-3.ensures.rule i
     ∷ c.number.ensures.rule i
+    ∷ c.repeated.ensures.rule i
     ∷ c.number-2.ensures.rule i
     ∷ c.required_option-4.ensures.rule i
     ∷ c.optional_number.ensures.rule i
     ∷ c.optional_number-2.ensures.rule i
     ∷ c.optional_number-3.ensures.rule i
     ∷ c.optional_number-4.ensures.rule i
+    ∷ c.optional_number-5.ensures.rule i
     ∷ c.optional.ensures.rule i
     ∷ c.optional-2.ensures.rule i
     ∷ c.optional-3.ensures.rule i
-    ∷ c.optional_number-5.ensures.rule i
+    ∷ c.optional_number-6.ensures.rule i
     ∷ c.flag.ensures.rule i
     ∷ c.optional-4.ensures.rule i
     ∷ c.flag-2.ensures.rule i

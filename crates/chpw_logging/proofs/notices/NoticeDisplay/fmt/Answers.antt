@@ -37,3 +37,8 @@ pub returns-in-Quiet-clause-writes : goal.returns-in-Quiet-clause-writes
 returns-in-Quiet-clause-writes g c = λ plain whole.
     subst (λ (text : List ℕ). HasWritten {W = g.row.W.Denot} g.W.Write.write_str_gives c.args.f.now text c.write-in-Quiet.new.self)
     (sym (ap notice_line c.in-Quiet.is)) (c.write-in-Quiet.ensures.writes plain whole)
+
+pub returns-in-JournalFailed-clause-writes : goal.returns-in-JournalFailed-clause-writes
+returns-in-JournalFailed-clause-writes g c = λ plain whole.
+    subst (λ (text : List ℕ). HasWritten {W = g.row.W.Denot} g.W.Write.write_str_gives c.args.f.now text c.write-in-JournalFailed.new.self)
+    (sym (ap notice_line c.in-JournalFailed.is)) (c.write-in-JournalFailed.ensures.writes plain whole)
