@@ -1,5 +1,5 @@
 -- The connections of a pool at its start, and how one more comes.
-use Rattle.std.specs.Prelude.{◌≡◌, ◌⊎◌, ℕ, List, Option, MatchOption, false}
+use Rattle.std.specs.Prelude.{◌≡◌, ◌⊎◌, ℕ, Option, MatchOption, false}
 use Rattle.slab.specs.Slab.{Slab, slab_len}
 use Rattle.chpw_endpoints.specs.declared.endpoints.Endpoints.{Endpoints}
 use Rattle.chpw_endpoints.specs.declared.peer.Peer.{Peer}

@@ -76,7 +76,14 @@ impl Script {
         let before = self.ended_slots()?;
         let (slot, rest) = words.split_once(' ').unwrap_or((words, ""));
         let (own, text) = match kind {
-            "accept" | "datagram" | "share" | "pass" | "room" | "show" | "look" | "confirm"
+            "accept"
+            | "datagram"
+            | "share"
+            | "pass"
+            | "room"
+            | "show"
+            | "look"
+            | "confirm"
             | "overdue" => (None, self.whole(kind, words, now)?),
             "take" => (None, self.take(number(words)?, now)?),
             _ => {
