@@ -1,4 +1,3 @@
 pub mod FaultLemmas
 pub mod FittingLemmas
 pub mod OpeningLemmas
-pub mod ExplainingLemmas
