@@ -7,7 +7,7 @@ ghost use Rattle.chpw_printing.specs.Quoting.{name_text as printed_name};
 ghost use Rattle.chpw_service.specs.Status.{IsReadOf, IsStatusAnswer, refusal_words};
 
 use crate::readings::{KdcReadings, Readings};
-use crate::status::{answer_with, failure_words, status_of};
+use crate::status::answer_of;
 use chpw_connections::Unconfirmed;
 use chpw_control::Time;
 use chpw_desks::{JournalLength, KdcPlace};
@@ -209,14 +209,7 @@ impl<R: Files + Net<Listener = TcpListener, Stream = TcpStream> + Wait + Eprint,
             kdc: readings_of(kdc, self.changed),
         };
         let refused = refused.as_ref().map(|words| words.as_slice());
-        let Ok(failed) = failure_words(alloc, readings.failure) else {
-            return Vec::new(alloc);
-        };
-        let failed = failed.as_ref().map(|words| words.as_str());
-        answer_with(
-            alloc,
-            &status_of(VERSION, &readings, &facts, standing, refused, failed),
-        )
+        answer_of(alloc, VERSION, &readings, &facts, standing, refused)
     }
 }
 

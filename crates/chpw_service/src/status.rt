@@ -3,6 +3,7 @@ ghost use Rattle.std.specs.Prelude.{◌≡◌, ◌++◌, ◌∷◌, ◌⊎◌, [
 ghost use Rattle.chpw_control.specs.Answers.{lines_text, ok_line};
 ghost use Rattle.chpw_control.specs.Statuses.{AreTold, IsTold, status_lines};
 ghost use Rattle.chpw_journal.specs.Causes.{cause_text};
+ghost use Rattle.chpw_control.specs.declared.status.Status.{Status as TheStatus};
 ghost use Rattle.chpw_service.specs.Status.{IsStatusOf, kdc_state, reason_in};
 
 use crate::readings::{KdcReadings, Readings};
@@ -13,8 +14,35 @@ use chpw_orders::answer_or_empty;
 use chpw_transfers::ConnectionCounts;
 use std::alloc::{AllocError, Global};
 
-/// The status of a service of this version.
-pub(crate) fn status_of<'a>(
+/// The whole answer that tells the status of a service of this version; empty if memory was refused.
+pub(crate) fn answer_of(
+    alloc: Global,
+    version: &str,
+    readings: &Readings,
+    facts: &Facts,
+    counts: &ConnectionCounts,
+    refused: Option<&[u8]>,
+) -> Vec<u8>
+    requires since { IsTold readings.now.since }
+    ensures value { (result.items ≡ []) ⊎ ((s : TheStatus) × IsStatusOf version.now readings.now facts.now counts.now s
+        × (result.items ≡ lines_text (status_lines s ++ ok_line ∷ []))) }
+{
+    match failure_words(alloc, readings.failure) {
+        Err(_) => Vec::new(alloc),
+        Ok(None) => {
+            let status = status_of(version, readings, facts, counts, refused, None);
+            answer_with(alloc, &status)
+        }
+        Ok(Some(why)) => {
+            let why = why.as_str();
+            let status = status_of(version, readings, facts, counts, refused, Some(why));
+            answer_with(alloc, &status)
+        }
+    }
+}
+
+// The status of a service of this version, whose journal failed for this reason, if it did.
+fn status_of<'a>(
     version: &'a str,
     readings: &Readings,
     facts: &Facts,
@@ -60,8 +88,8 @@ pub(crate) fn status_of<'a>(
     }
 }
 
-/// The whole answer that tells a status; empty if memory was refused.
-pub(crate) fn answer_with(alloc: Global, status: &Status<'_>) -> Vec<u8>
+// The whole answer that tells a status; empty if memory was refused.
+fn answer_with(alloc: Global, status: &Status<'_>) -> Vec<u8>
     requires times { AreTold status.now }
     ensures value { (result.items ≡ []) ⊎ (result.items ≡ lines_text (status_lines status.now ++ ok_line ∷ [])) }
 {
@@ -78,8 +106,8 @@ fn journal_state(failed: Option<&str>) -> JournalState<'_>
     }
 }
 
-/// Why an append to the journal has failed, in words, if one has.
-pub(crate) fn failure_words(
+// Why an append to the journal has failed, in words, if one has.
+fn failure_words(
     alloc: Global,
     failure: Option<SinkCause>,
 ) -> Result<Option<String>, AllocError>

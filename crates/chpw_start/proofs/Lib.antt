@@ -2,4 +2,3 @@ pub mod FaultLemmas
 pub mod FittingLemmas
 pub mod NewJournalLemmas
 pub mod OpeningLemmas
-pub mod ExplainingLemmas
