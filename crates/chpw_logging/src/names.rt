@@ -6,13 +6,13 @@ use chpw_control::NameState;
 use chpw_journal::FileNumber;
 
 /// Whether a name leads to a file that is open, by the one that is at its path, if one is there.
-pub(crate) fn name_state(open: FileNumber, there: Option<FileNumber>) -> NameState
-    ensures value { result ≡ name_state open there }
+pub(crate) fn name_state(held: FileNumber, there: Option<FileNumber>) -> NameState
+    ensures value { result ≡ name_state held there }
 {
     match there {
         None => NameState::Gone,
         Some(there) => {
-            if there.device == open.device && there.number == open.number {
+            if there.device == held.device && there.number == held.number {
                 NameState::Kept
             } else {
                 NameState::Elsewhere

@@ -172,8 +172,10 @@ impl<R: Net<Listener = TcpListener, Stream = TcpStream> + Wait + Eprint, T: Cloc
     }
 }
 
-impl<R: Files + Net<Listener = TcpListener, Stream = TcpStream> + Wait + Eprint, T: Clock> StatusReporter
-    for SocketKdc<'_, R, T> {
+impl<
+    R: Files + Net<Listener = TcpListener, Stream = TcpStream> + Wait + Eprint,
+    T: Clock,
+> StatusReporter for SocketKdc<'_, R, T> {
     fn listener(&mut self) -> Option<UnixListener>
         ensures given { result ≡ self.old.listener }
         ensures none { self.new.listener ≡ None }

@@ -107,10 +107,7 @@ fn journal_state(failed: Option<&str>) -> JournalState<'_>
 }
 
 // Why an append to the journal has failed, in words, if one has.
-fn failure_words(
-    alloc: Global,
-    failure: Option<SinkCause>,
-) -> Result<Option<String>, AllocError>
+fn failure_words(alloc: Global, failure: Option<SinkCause>) -> Result<Option<String>, AllocError>
     ensures value { IfOk result (λ words. option_map string_bytes words ≡ option_map cause_text failure) }
 {
     match failure {

@@ -37,12 +37,7 @@ fn found_with(alloc: Global, config: Config, text: &str, journal: &[u8]) -> Resu
 }
 
 // The fault, and on a second line what the journal says there, if more can be told.
-fn fault_lines(
-    alloc: Global,
-    text: &str,
-    journal: &[u8],
-    fault: RestoreFault,
-) -> Result<String> {
+fn fault_lines(alloc: Global, text: &str, journal: &[u8], fault: RestoreFault) -> Result<String> {
     let mut lines = fault.to_string(alloc)?;
     let Ok(config) = read_config(alloc, text) else {
         return Ok(lines);

@@ -73,12 +73,7 @@ pub fn status_text(alloc: Global, values: &[&str]) -> Result<String, Fault> {
     answer(alloc, texts, &words, &counts)
 }
 
-fn answer(
-    alloc: Global,
-    texts: Texts<'_>,
-    words: &Words,
-    counts: &[u64],
-) -> Result<String, Fault>
+fn answer(alloc: Global, texts: Texts<'_>, words: &Words, counts: &[u64]) -> Result<String, Fault>
     requires since { IsTold words.now.since }
     requires quiet { ForSome words.now.quiet_until IsTold }
     requires kdc { ForSome words.now.kdc_since IsTold }
