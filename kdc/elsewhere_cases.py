@@ -162,7 +162,8 @@ class ElsewhereCases(Cases):
         self.tell(f"{what}: they are its host's", all(it in listed for it in ours) or listed.told())
         self.tell(f"{what}: a change", (changed.is_done or changed.told(), self.changed_from(user)), (True, [ours[number]]))
         self.tell(f"{what}: after a move", "authentication failed" in moved or moved)
-        self.tell("  the log has the new address", set(self.peers(f"peer {addresses('moved')[number]} ", BAD_ADDRESS)), {addresses("moved")[number]})
+        there = addresses("moved")[number]
+        self.tell("  the log has the new address", set(self.peers(f"peer {there} ", BAD_ADDRESS)), {there})
 
     def moved(self, client, user, number):
         """What kpasswd says if its host has another address once it asks for the new password."""
@@ -192,7 +193,8 @@ class ElsewhereCases(Cases):
         self.tell(f"{what}: a change", found, (True, [addresses("client")[number]]))
         self.tell(f"{what}: from another host", "Success" in other, False)
         there = addresses("other")[number]
-        self.tell("  the log has that one's address", (set(self.peers(f"peer {there} ", BAD_ADDRESS)), self.peers(f"peer {there} client {user}@", DONE)), ({there}, []))
+        self.tell("  the log has that one's address", set(self.peers(f"peer {there} ", BAD_ADDRESS)), {there})
+        self.tell("  and no change from there", self.peers(f"peer {there} client {user}@", DONE), [])
 
 
     # ---- a host that takes all places

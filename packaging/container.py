@@ -40,7 +40,8 @@ changed() { printf '%s\n' "$2" "$3" "$3" | kpasswd "$1"; }
 logs_in() { printf '%s\n' "$2" | kinit "$1"; }
 pid() { systemctl show -p MainPID --value "$1"; }
 new_pid() { [ "$(pid "$1")" != "$2" ] && [ "$(pid "$1")" != 0 ]; }
-wait_for() { for _ in $(seq 100); do "$@" > /dev/null 2>&1 && return 0; sleep 0.2; done; "$@"; }
+# the service calls an agent that was away after half a minute at the latest
+wait_for() { for _ in $(seq 200); do "$@" > /dev/null 2>&1 && return 0; sleep 0.2; done; "$@"; }
 files() { find /etc/boddrelyn /var/lib/boddrelyn /var/log/boddrelyn /run/boddrelyn /run/boddrelyn-agent -printf '%M %u:%g %p\n' | sort > /opt/try/found; diff /opt/try/files /opt/try/found; }
 none() { ! "$@"; }
 # until there is /opt/try/over; a change that is refused by the service or the KDC, rather than by nobody who listens, is kept
