@@ -422,7 +422,7 @@ def cut(octets, is_ended):
     answers = {}
     for place in range(len(octets) + 1):
         machine = Machine(1, 100, 100, 100, 100, 100, 1)
-        c = machine.at(machine.accept("10.0.0.1", None, 0))
+        c = machine.at(machine.accept("127.0.0.1", None, 0))
         read(machine, c, octets[:place], 0)
         if is_ended:
             machine.input_ended(c)
