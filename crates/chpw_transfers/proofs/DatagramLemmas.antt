@@ -82,7 +82,8 @@ failed_is_ended now None new is comes = absurd is
 failed_is_ended now (Some c) None is comes = absurd comes
 failed_is_ended now (Some c) (Some d) is comes = ap is_ended (comes.stage_is ∙ is)
 
-new_ends : (between : Endpoints) (now number : ℕ) (old new : Slab Connection) (slot : ℕ) → IsNew between None now number old new slot → EndsAtOnce (get new slot)
+new_ends : (between : Endpoints) (now number : ℕ) (old new : Slab Connection) (slot : ℕ) → IsNew between None now number old new slot
+    → EndsAtOnce (get new slot)
 new_ends between now number old new slot is = by_place (get new slot) is.here
   where
     by_place : (o : Option Connection) → IsSomeAnd o (λ c. (stage c ≡ reading [])

@@ -37,9 +37,10 @@ fn length_of(message: &[u8]) -> Option<[u8; 4]>
 }
 
 impl State {
-    /// A message came in a datagram between these two. In a new connection it waits for its worker, as if it had come with its length
-    /// over TCP. It counts in nobody's share, since its sender's address may be forged. None if there are as many connections as allowed, or no room or memory for it: then no connection is
-    /// left of it. Others may have ended to make room, as for any message: those that gave way to it, in their turn.
+    /// A message came in a datagram between these two. In a new connection it waits for its worker, as if it had come with
+    /// its length over TCP. It counts in nobody's share, since its sender's address may be forged. None if there are as many
+    /// connections as allowed, or no room or memory for it: then no connection is left of it. Others may have ended to make
+    /// room, as for any message: those that gave way to it, in their turn.
     pub fn take_datagram(
         &mut self,
         ends: Endpoints,
