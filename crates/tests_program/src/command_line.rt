@@ -21,11 +21,8 @@ const LINES: [(&str, &str); 101] = [
     ("", "Usage"),
     ("--help", "Usage"),
     ("help client", "Usage"),
-    (
-        "--version",
-        "chpw_server 0.2\ntoolchain rattle-kit-13 logic",
-    ),
-    ("-V", "chpw_server 0.2\ntoolchain"),
+    ("--version", "0.2\ntoolchain"),
+    ("-V", "rattle-kit-13"),
     // the service: each value of a whole line, and each bound
     (
         "serve --config realm.toml --journal journal --seed seed --port 464 --workers 4 --connections 1000 \
@@ -182,7 +179,7 @@ const LINES: [(&str, &str); 101] = [
     ),
     (
         "serve --config c --journal j --seed s --port 1 --workers 1 --connections 1 --listen=",
-        "without",
+        "--listen",
     ),
     (
         "serve --config c --journal j --seed s --port 1 --workers 1 --connections 1 --listen",
