@@ -29,16 +29,36 @@ pub(crate) fn answer_of(
 {
     match failure_words(alloc, readings.failure) {
         Err(_) => Vec::new(alloc),
-        Ok(None) => {
-            let status = status_of(version, readings, facts, counts, refused, None);
-            answer_with(alloc, &status)
-        }
-        Ok(Some(why)) => {
-            let why = why.as_str();
-            let status = status_of(version, readings, facts, counts, refused, Some(why));
-            answer_with(alloc, &status)
-        }
+        Ok(None) => answer_by(alloc, version, readings, facts, counts, refused, None),
+        Ok(Some(why)) => answer_by(
+            alloc,
+            version,
+            readings,
+            facts,
+            counts,
+            refused,
+            Some(why.as_str()),
+        ),
     }
+}
+
+// The same, of a service whose journal failed for this reason, if it did.
+fn answer_by<'a>(
+    alloc: Global,
+    version: &'a str,
+    readings: &Readings,
+    facts: &Facts,
+    counts: &ConnectionCounts,
+    refused: Option<&'a [u8]>,
+    failed: Option<&'a str>,
+) -> Vec<u8>
+    requires since { IsTold readings.now.since }
+    requires failed { option_map (λ words. words.now) failed ≡ option_map cause_text readings.now.failure }
+    ensures value { (result.items ≡ []) ⊎ ((s : TheStatus) × IsStatusOf version.now readings.now facts.now counts.now s
+        × (result.items ≡ lines_text (status_lines s ++ ok_line ∷ []))) }
+{
+    let status = status_of(version, readings, facts, counts, refused, failed);
+    answer_with(alloc, &status)
 }
 
 // The status of a service of this version, whose journal failed for this reason, if it did.
@@ -51,7 +71,7 @@ fn status_of<'a>(
     failed: Option<&'a str>,
 ) -> Status<'a>
     requires since { IsTold readings.now.since }
-    requires failed { option_map (λ words. words.now) failed.entry ≡ option_map cause_text readings.now.failure }
+    requires failed { option_map (λ words. words.now) failed ≡ option_map cause_text readings.now.failure }
     ensures value { IsStatusOf version.now readings.now facts.now counts.now result }
     ensures refused { result.kdc_refused ≡ refused.entry }
     ensures told { AreTold result }

@@ -6,8 +6,30 @@ use Rattle.chpw_service.specs.Faults.{IsOfService}
 use Rattle.chpw_start.specs.Opening.{IsOpening}
 use Rattle.chpw_desks.specs.ServiceRuns.{gives_moment}
 use Rattle.chpw_start.specs.Rules.{AreRulesOf}
+use Rattle.chpw_service.proofs.FaultLemmas.{late_of_service, missing_of_service, resumption_of_service}
 use Rattle.chpw_service.proofs.WholeRunLemmas.{whole_run}
 use Rattle.chpw_service.proofs.serving.serve_by.Goals as goal
+
+-- a journal that must exist is missing
+pub returns-in_err-refuse_missing : goal.returns-in_err-refuse_missing
+returns-in_err-refuse_missing g c =
+    let p = err_from_is_err_and c.from_residual-in_err-refuse_missing.result c.from_residual-in_err-refuse_missing.ensures.1 in
+    let fault = missing_of_service c.args.options _ c.in_err-refuse_missing.ensures.fault in
+    record { run = rw p.1 tt; fault = rw p.1 (subst (IsOfService c.args.options) (sym p.2) fault) }
+
+-- an address can't be had
+pub returns-in_err-sockets : goal.returns-in_err-sockets
+returns-in_err-sockets g c =
+    let p = err_from_is_err_and c.from_residual-in_err-sockets.result c.from_residual-in_err-sockets.ensures.1 in
+    let fault = late_of_service c.args.options _ c.in_err-sockets.ensures.fault in
+    record { run = rw p.1 tt; fault = rw p.1 (subst (IsOfService c.args.options) (sym p.2) fault) }
+
+-- what a clean end left can't be taken over
+pub returns-in_err-resumption : goal.returns-in_err-resumption
+returns-in_err-resumption g c =
+    let p = err_from_is_err_and c.from_residual-in_err-resumption.result c.from_residual-in_err-resumption.ensures.1 in
+    let fault = resumption_of_service c.args.options _ c.in_err-resumption.ensures.fault in
+    record { run = rw p.1 tt; fault = rw p.1 (subst (IsOfService c.args.options) (sym p.2) fault) }
 
 -- the sink is dropped here, in more ways than a search goes through
 pub returns-in_err-journal : goal.returns-in_err-journal
