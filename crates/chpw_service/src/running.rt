@@ -52,6 +52,8 @@ pub(crate) fn serve_from<
     first: Opened<D>,
     terms: PoolOptions,
 ) -> Result<(), ServeFault<'a>>
+where
+    R::Dir: Send + Sync,
     requires passes { length first.passes.items ≡ hall.now.workers }
     ensures served { OnOk result (IsServedByNewWorkers R (LogLines R) (is_some hall.now.kdc.socket) hall.now.options.now (key_of terms.seed)
         hall.now.workers (opening_table D.root) first.passes.items rules) }

@@ -73,6 +73,8 @@ pub fn serve<
         + AllocGlobal
         + Sync,
 >(rt: &R, options: ServeOptions<'a>) -> Result<(), ServeFault<'a>>
+where
+    R::Dir: Send + Sync,
     ensures run { OnOk result (IsWholeRun R (LogLines R) options.entry) }
     ensures fault { IfErr result (IsOfService options.entry) }
 {
@@ -94,6 +96,8 @@ pub fn serve_by<
         + Sync,
     T: Clock + Sync,
 >(rt: &R, time: &T, options: ServeOptions<'a>) -> Result<(), ServeFault<'a>>
+where
+    R::Dir: Send + Sync,
     ensures run { OnOk result (IsWholeRun R (LogLines R) options.entry) }
     ensures fault { IfErr result (IsOfService options.entry) }
 {
@@ -265,6 +269,8 @@ fn serve_opened<
     opening: Opening,
     clock: &mut MachineClock<'_, T>,
 ) -> Result<(), ServeFault<'a>>
+where
+    R::Dir: Send + Sync,
     requires name { IsNamed opening.unnamed D.name D.parts D.book D.root D.workers }
     requires workers { workers_of opening.unnamed ≡ start.options.now.workers }
     ensures served { OnOk result (IsServedFrom R (LogLines R) start.entry.options.now (key_of start.entry.terms.seed)
