@@ -41,7 +41,8 @@ fn is_same_address(one: IpAddr, other: IpAddr) -> bool
     ensures value { result ≡ is_same_address one other }
 {
     match (one, other) {
-        (IpAddr::V4(one), IpAddr::V4(other)) => one.octets().as_slice() == other.octets().as_slice(),
+        (IpAddr::V4(one), IpAddr::V4(other)) => one.octets().as_slice()
+            == other.octets().as_slice(),
         (IpAddr::V6(one), IpAddr::V6(other)) => {
             one.segments().as_slice() == other.segments().as_slice()
         }

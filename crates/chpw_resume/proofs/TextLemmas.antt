@@ -1,5 +1,6 @@
 -- The text of a resume file.
-use Rattle.std.proofs.Common.{◌≡◌, ℕ, Bool, true, false, zero, suc, ◌-◌, get_or, add-one, Option, Some, None, Result, Ok, Err, IfOk, ◌+◌, ◌<◌, ◌≤◌, ◌^◌, List, [], ◌∷◌, ◌++◌, length, map, take, drop, append_assoc, append-nil, refl, sym, ◌∙◌, ap, subst, arith, length-append}
+use Rattle.std.proofs.Common.{◌≡◌, ℕ, Bool, true, false, zero, suc, ◌-◌, get_or, add-one, Option, Some, None, Result, Ok, Err, IfOk, ◌+◌, ◌<◌, ◌≤◌}
+use Rattle.std.proofs.Common.{◌^◌, List, [], ◌∷◌, ◌++◌, length, map, take, drop, append_assoc, append-nil, refl, sym, ◌∙◌, ap, subst, arith, length-append}
 use Rattle.std.specs.Prelude.{ℤ}
 use Rattle.std.specs.Int.{to_be_bytes, cast_unsigned, w32, w64}
 use Rattle.std.specs.List.{AllByRecursion}

@@ -5,9 +5,7 @@ ghost use Rattle.krb_msgs.specs.Addresses.{octets_of};
 ghost use Rattle.krb_msgs.specs.Making.{priv_part_of, service_name, word_bytes};
 
 use crate::addresses::address_of;
-use krb_der::{
-    Bytes, EncKrbPrivPart, OctetString, PrincipalName, SeqNumber, SequenceOf,
-};
+use krb_der::{Bytes, EncKrbPrivPart, OctetString, PrincipalName, SeqNumber, SequenceOf};
 use krb_keys::CONFOUNDER_LEN;
 use krb_protocol::NT_SRV_INST;
 use std::alloc::{AllocError, Global};

@@ -9,8 +9,16 @@ returns-clause-files c = λ a b h. (
 
 pub returns-clause-services : goal.returns-clause-services
 returns-clause-services c = λ a b h.
-    rw (h.first, h.second, h.policy, h.rule, h.principal, h.service (codes "realm") refl, h.service (codes "max_entries") refl,
-    h.service (codes "key") refl) refl
+    rw (
+      h.first,
+      h.second,
+      h.policy,
+      h.rule,
+      h.principal,
+      h.service (codes "realm") refl,
+      h.service (codes "max_entries") refl,
+      h.service (codes "key") refl,
+    ) refl
 
 pub returns-clause-service_keys : goal.returns-clause-service_keys
 returns-clause-service_keys c = λ n before a b h.
