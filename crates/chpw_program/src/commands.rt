@@ -40,6 +40,7 @@ where
         + Eprint
         + AllocGlobal
         + Sync,
+    R::Dir: Send + Sync,
     ensures runs { IsRunBy R (map string_bytes words.entry.now) result }
 {
     match command_of(rt.alloc(), words) {

@@ -36,6 +36,7 @@ where
         + Eprint
         + AllocGlobal
         + Sync,
+    R::Dir: Send + Sync,
     ensures few { result ≤ 2 }
     ensures runs { result ≡ 0 → (words : List (List ℕ)) × ((ending : Ending) × (status_of ending ≡ 0) × IsRunBy R words ending) }
 {
