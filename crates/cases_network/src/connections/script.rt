@@ -24,16 +24,27 @@ impl Script {
     /// `CONNECTIONS BYTES IDLE GRACE WAIT LINGER WORKERS`, with ` PER_PEER` after it unless one peer may have all.
     pub fn of(alloc: Global, words: &str) -> io::Result<Script> {
         let words: Vec<&str> = words.split(' ').collect(alloc)?;
-        let (words, per_peer) = match words.as_slice() {
-            [words @ .., per_peer] if words.len() == 7 => (words, Some(per_peer)),
-            words => (words, None),
-        };
-        let [connections, bytes, idle, grace, wait, linger, workers] = words else {
+        let [
+            connections,
+            bytes,
+            idle,
+            grace,
+            wait,
+            linger,
+            workers,
+            rest @ ..,
+        ] = words.as_slice()
+        else {
             return Err(no_case());
+        };
+        let per_peer = match rest {
+            [] => number(connections)?,
+            [per_peer] => number(per_peer)?,
+            _ => return Err(no_case()),
         };
         let bounds = ConnectionLimits {
             connections: number(connections)?,
-            per_peer: number(per_peer.unwrap_or(connections))?,
+            per_peer,
             bytes: number(bytes)?,
             idle: number(idle)?,
             grace: number(grace)?,
