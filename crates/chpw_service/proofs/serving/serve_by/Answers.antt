@@ -72,3 +72,7 @@ returns-clause-run g c =
 -- memory may be refused for the rules
 pub returns-in_default-clause-fault : goal.returns-in_default-clause-fault
 returns-in_default-clause-fault g c = inl (inl tt)
+
+-- or for the journal's marks
+pub returns-in_default-marks-clause-fault : goal.returns-in_default-marks-clause-fault
+returns-in_default-marks-clause-fault g c = inl (inl tt)
