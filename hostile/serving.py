@@ -55,8 +55,8 @@ def behind_length(message):
 class Client(asking.Connection):
     """A connection to a service, from this address, where there is one."""
 
-    def __init__(self, server, address=None):
-        super().__init__(server.port, PATIENCE, address)
+    def __init__(self, server, address=None, host="127.0.0.1"):
+        super().__init__(server.port, PATIENCE, address, host)
 
     def send_bytes(self, *texts):
         self.socket.sendall(b"".join(texts))
@@ -158,9 +158,9 @@ class Case:
         self.clients = []
         self.realm()
 
-    def realm(self, **settings):
-        """The realm of alice and bob, with keys under four iterations where the settings have no others."""
-        write_configuration(self.server.configuration, ["alice", "bob"], **{"iterations": 4, **settings})
+    def realm(self, names=("alice", "bob"), **settings):
+        """The realm of alice and bob, or of others, with keys under four iterations where the settings have no others."""
+        write_configuration(self.server.configuration, names, **{"iterations": 4, **settings})
 
     def start(self, connections, **words):
         """The service, once it listens."""
@@ -173,8 +173,8 @@ class Case:
         environment = machine(self.folder, **words) if words else None
         self.server.launch(connections, env=environment, cwd=self.folder)
 
-    def client(self, *address):
-        self.clients.append(Client(self.server, *address))
+    def client(self, *address, **host):
+        self.clients.append(Client(self.server, *address, **host))
         return self.clients[-1]
 
     def tell(self, what, found, wanted):

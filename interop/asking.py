@@ -6,6 +6,7 @@ checksums have to be right, and its AP-REP that of the request (RFC 3244 section
 
 import dataclasses
 import hmac
+import ipaddress
 import socket
 import time
 
@@ -15,6 +16,8 @@ AP_REP, KRB_PRIV, KRB_ERROR = 0x6F, 0x75, 0x7E
 # key usages of the AP-REP's part and the KRB-PRIV's (RFC 4120 section 7.5.1)
 IN_AP_REP, IN_KRB_PRIV = 12, 13
 CONFOUNDER, CHECKSUM = 16, 12
+# types of addresses, and how many bytes they have: IPv4 and IPv6 (RFC 4120 section 7.5.3)
+ADDRESSES = ((2, 4), (24, 16))
 
 
 class Opener(wire.Aes):
@@ -138,6 +141,17 @@ def said(request, reply):
     return told(only(4, data[0]), "")
 
 
+def sender(reply):
+    """The address from which a reply of AP-REP and KRB-PRIV says that it comes (s-address, RFC 4120 section 5.7.1)."""
+    ap_length = int.from_bytes(reply[4:6], "big")
+    part = unsealed(wire.SUBKEY, IN_KRB_PRIV, 0x7C, fields(KRB_PRIV, reply[6 + ap_length :])[3])
+    address = dict(elements(only(0x30, part[4])))
+    kind, octets = int.from_bytes(only(2, address[0xA0]), "big"), only(4, address[0xA1])
+    if (kind, len(octets)) not in ADDRESSES:
+        raise ValueError(f"an address of type {kind} and {len(octets)} bytes")
+    return str(ipaddress.ip_address(octets))
+
+
 def told(data, error):
     return f"code {int.from_bytes(data[:2], 'big')} {error}{data[2:].decode()}"
 
@@ -148,10 +162,10 @@ def framed(*requests):
 
 
 class Connection:
-    """A connection, at which no read waits longer than so many seconds; from this address, where there is one."""
+    """A connection to a host, at which no read waits longer than so many seconds; from this address, where there is one."""
 
-    def __init__(self, port, seconds=30, address=None):
-        self.socket = socket.create_connection(("127.0.0.1", port), seconds, address and (address, 0))
+    def __init__(self, port, seconds=30, address=None, host="127.0.0.1"):
+        self.socket = socket.create_connection((host, port), seconds, address and (address, 0))
         self.reader = self.socket.makefile("rb")
 
     def send(self, *requests):

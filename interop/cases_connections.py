@@ -7,6 +7,8 @@ answers.
 A naive model of the machine of connections, by crates/chpw_connections/README.md and its specs: a list of connections,
 each a small object, and a plain list for each worker's queue. crates/cases_network/README.md has the cases.
 """
+import ipaddress
+
 from topic import answer_lines
 
 LONGEST = 65535
@@ -16,8 +18,8 @@ READING, QUEUED, ANSWERING, CONFIRMING, WRITING, LINGERING, ABANDONED, ENDED = r
 
 
 class Connection:
-    def __init__(self, slot, number, peer, now):
-        self.slot, self.number, self.peer, self.since = slot, number, peer, now
+    def __init__(self, slot, number, peer, share, now):
+        self.slot, self.number, self.peer, self.share, self.since = slot, number, peer, share, now
         self.stage, self.message, self.reply, self.out = READING, b"", b"", 0
         # of a message that it reads, and since when there is as much
         self.room, self.begun = 0, now
@@ -60,8 +62,9 @@ class Connection:
 
 
 class Machine:
-    def __init__(self, connections, size, idle, grace, wait, linger, workers):
+    def __init__(self, connections, size, idle, grace, wait, linger, workers, per_peer=None):
         self.most, self.size, self.grace = connections, size, grace
+        self.per_peer = connections if per_peer is None else per_peer
         self.times = {READING: idle, WRITING: idle, QUEUED: wait, LINGERING: linger}
         self.connections = []
         self.freed, self.used = [], 0
@@ -81,15 +84,21 @@ class Machine:
     def look(self, c):
         self.to_look_at.append(c.slot)
 
-    def accept(self, peer, now):
-        """In the slot that was freed last, else in the next one."""
-        if len(self.connections) >= self.most:
+    def of_share(self, share):
+        return [c for c in self.connections if share is not None and c.share == share]
+
+    def is_full(self, share):
+        return share is not None and len(self.of_share(share)) >= self.per_peer
+
+    def accept(self, peer, share, now):
+        """In the slot that was freed last, else in the next one; nobody has more than his share."""
+        if len(self.connections) >= self.most or self.is_full(share):
             return None
         if self.freed:
             slot = self.freed.pop()
         else:
             slot, self.used = self.used, self.used + 1
-        self.connections.append(Connection(slot, self.accepted, peer, now))
+        self.connections.append(Connection(slot, self.accepted, peer, share, now))
         self.accepted += 1
         return slot
 
@@ -106,9 +115,10 @@ class Machine:
         c.stage = ENDED
         self.look(c)
 
-    def make_room(self):
-        """Who has waited for its client the longest ends; of two that have waited as long the one in the lower slot."""
-        waiting = [c for c in self.connections if c.waits_for_client()]
+    def make_room(self, share=None):
+        """Who has waited for its client the longest ends, of all or of a peer's; of two that have waited as long the one in
+        the lower slot."""
+        waiting = [c for c in self.connections if c.waits_for_client() and share in (None, c.share)]
         c = min(waiting, key=lambda c: (c.since, c.slot), default=None)
         if c:
             self.fail(c)
@@ -246,6 +256,18 @@ class Machine:
         return {c.slot for c in self.connections if c.stage == ENDED}
 
 
+def peer_of(word):
+    """An address of IPv4 stands for itself, one of IPv6 for all that have its first 64 bits."""
+    address = ipaddress.ip_address(word)
+    return address if address.version == 4 else ipaddress.ip_network((address, 64), strict=False)
+
+
+def share_of(peer, local):
+    """Whose share a connection counts in: none where this host itself is the peer."""
+    is_own = ipaddress.ip_address(peer).is_loopback or ipaddress.ip_address(peer) == ipaddress.ip_address(local)
+    return None if is_own else peer_of(peer)
+
+
 def shown(octets):
     """All bytes, or of many the first and the last."""
     if not octets:
@@ -342,14 +364,19 @@ def looked(machine):
 
 def of_all(machine, kind, words, now):
     """What is done to no slot's connection in particular."""
-    if kind == "accept":
-        slot = machine.accept(words, now)
+    if kind in ("accept", "datagram"):
+        peer, _, local = words.partition(" to ")
+        share = share_of(peer, local or "127.0.0.1") if kind == "accept" else None
+        slot = machine.accept(peer, share, now)
         return "no room" if slot is None else f"slot {slot}"
+    if kind == "share":
+        share = peer_of(words)
+        return str(len(machine.of_share(share))) + (" (full)" if machine.is_full(share) else "")
     if kind == "pass":
         machine.pass_time(now)
         return "passed"
     if kind == "room":
-        return "made room" if machine.make_room() else "nobody waits"
+        return "made room" if machine.make_room(peer_of(words) if words else None) else "nobody waits"
     if kind == "confirm":
         machine.confirm(int(words), now)
         return "confirmed"
@@ -395,7 +422,7 @@ def cut(octets, is_ended):
     answers = {}
     for place in range(len(octets) + 1):
         machine = Machine(1, 100, 100, 100, 100, 100, 1)
-        c = machine.at(machine.accept("10.0.0.1", 0))
+        c = machine.at(machine.accept("127.0.0.1", None, 0))
         read(machine, c, octets[:place], 0)
         if is_ended:
             machine.input_ended(c)
@@ -428,7 +455,7 @@ class Cases:
         if kind in ("cut", "cut-off"):
             return cut(bytes_of(words), kind == "cut-off")
         before = self.machine.ended()
-        if kind in ("accept", "pass", "room", "show", "look", "confirm", "overdue"):
+        if kind in ("accept", "datagram", "share", "pass", "room", "show", "look", "confirm", "overdue"):
             slot, text = None, of_all(self.machine, kind, words, now)
         elif kind == "take":
             slot, text = None, taken(self.machine, int(words), now)

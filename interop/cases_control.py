@@ -70,14 +70,21 @@ def words(text):
     return "".join(chr(b) if 32 <= b <= 126 and b != 92 else f"\\x{b:02x}" for b in text)
 
 
-def status(version, since, quiet, journal, kdc, kdc_since, refused, *numbers):
+QUIET = "requests are refused after a start; the clients' clocks are not at fault"
+
+LEADS = {"Absent": "-", "Kept": "good", "Gone": "gone", "Elsewhere": "elsewhere"}
+
+
+def status(version, since, quiet, failure, journal_name, log_name, kdc, kdc_since, refused, *numbers):
     values = dict(zip(NAMES, numbers, strict=True))
     values |= {"version": words(octets(version)), "since": time(since), "quiet-until": time(quiet),
-               "journal": {"Good": "good", "Failed": "failed"}[journal],
+               "quiet-reason": "-" if quiet == "-" else QUIET,
+               "journal": "good" if failure == "-" else "failed: " + words(octets(failure)),
+               "journal-name": LEADS[journal_name], "log-name": LEADS[log_name],
                "kdc": {"Absent": "none", "Connected": "connected", "Down": "down"}[kdc], "kdc-since": time(kdc_since),
                "kdc-refused": "-" if refused == "-" else words(octets(refused))}
-    order = (["version", "since", "quiet-until"] + NAMES[:-2]
-             + ["journal", "log-lost", "kdc", "kdc-since", "kdc-behind", "kdc-refused"])
+    order = (["version", "since", "quiet-until", "quiet-reason"] + NAMES[:-2]
+             + ["journal", "journal-name", "log-lost", "log-name", "kdc", "kdc-since", "kdc-behind", "kdc-refused"])
     return "".join(f"{name} {values[name]}\\n" for name in order) + "ok\\n"
 
 

@@ -170,7 +170,8 @@ def brought(octets, realm, iterations):
             lines += stanza(name, keys, iterations)
     for kvno, etype, key in service:
         lines += ["[[service.key]]", f"etype = {etype}", f'key = "{key.hex()}"', f"kvno = {kvno}"]
-    return lines, [told(entries[i], why) for i, why in sorted(left.items())]
+    counts = f"imported {len(entries) - len(left)}, not imported {len(left)}"
+    return lines, [*(told(entries[i], why) for i, why in sorted(left.items())), counts]
 
 
 def stanza(name, keys, iterations):
@@ -196,7 +197,7 @@ def keytab(octets, realm, iterations):
         lines, left = brought(octets, realm.encode(), iterations)
     except Fault as fault:
         return f"keytab: {fault}"
-    return " | ".join([" ".join(lines) or "nothing", *left])
+    return " | ".join([" ".join(lines) or "keytab: no key is imported", *left])
 
 
 def many(realm, count):

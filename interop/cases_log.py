@@ -79,7 +79,7 @@ KINDS = {"unopened": "did not open", "skewed": "had too great a clock skew", "re
 
 def held(kind, seconds, micros, loopback, other):
     return (f"{moment(seconds, micros)} worker - peer - client - target - code - error - kvno - "
-            f"text {int(loopback) + int(other)} more {KINDS[kind]}: {loopback} from 127.0.0.0/8, {other} from elsewhere")
+            f"text {int(loopback) + int(other)} more {KINDS[kind]}: {loopback} from 127.0.0.0/8 or ::1, {other} from elsewhere")
 
 
 def limited(words):
@@ -96,7 +96,7 @@ def limited(words):
             lines[came].append(time)
             shown += "+"
         else:
-            others[came].append((time, ipaddress.IPv4Address(bytes.fromhex(peer))))
+            others[came].append((time, ipaddress.ip_address(bytes.fromhex(peer))))
             shown += "-"
     return shown + "".join(told(kind, held_back) for kind, held_back in others.items() if held_back)
 
@@ -113,10 +113,14 @@ EVENTS = {
 }
 
 
+QUIET = " text requests are refused after a start; the clients' clocks are not at fault"
+
+
 def event(seconds, micros, kind, *values):
     shown_values = [moment(*value.split(".")) if "." in value else value for value in values]
     pairs = zip(EVENTS[kind], shown_values, strict=True)
-    return " ".join([moment(seconds, micros), "service", kind] + [f"{name} {value}" for name, value in pairs])
+    told = QUIET if kind == "started" and values[-1] != "-" else ""
+    return " ".join([moment(seconds, micros), "service", kind] + [f"{name} {value}" for name, value in pairs]) + told
 
 
 # what an update that is taken is called, and the texts of those that aren't
@@ -158,7 +162,7 @@ def answer(case):
         client, asked = principal(who), target(who, whose)
         code, error, text = ROWS[verdict]
     text = shown(TEXTS.get(text, text).encode(), PRINTED.replace(b"\\", b" "))
-    address = ipaddress.IPv4Address(bytes.fromhex(peer))
+    address = ipaddress.ip_address(bytes.fromhex(peer))
     return (f"{moment(seconds, micros)} worker {worker} peer {address} client {client} target {asked} "
             f"code {code} error {error} kvno {kvno} text {text}")
 

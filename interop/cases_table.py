@@ -19,6 +19,9 @@ CHANGE, BASE, ADOPT, LIFT, REMOVE = 1, 3, 4, 5, 6
 KINDS = [CHANGE, BASE, ADOPT, LIFT, REMOVE]
 CHANGE_LENGTHS = range(60, 1091)
 RAISE_LENGTH = 5
+# what a journal may begin with
+REALM = 7
+REALM_LENGTHS = range(2, 257)
 # what stands in a record of a change before its name
 FRONT = 57
 
@@ -99,16 +102,21 @@ def is_record(body):
     )
 
 
+def refused(fault, place, name, new, wanted):
+    """A fault, and on a second line whose record that is, and what was wanted of it (docs/ADMIN.md)."""
+    return Refused(f"{fault} at {place}\nat {place}: {shown_name(name)}: version {new.kvno}, {wanted}")
+
+
 def put_key(table, place, body):
     kind, name = body[0], name_of(body[FRONT:])
-    if name not in table.principals and kind != ADOPT:
-        raise Refused(f"J3 at {place}")
-    keys = table.principals.get(name, [])
     new = Key(number(body[1:5]), number(body[5:9]), body[9:25].hex(), body[25:FRONT].hex())
+    if name not in table.principals and kind != ADOPT:
+        raise refused("J3", place, name, new, "but no such principal in the configuration, or removed before this record")
+    keys = table.principals.get(name, [])
     if kind == CHANGE and new.kvno != keys[0].kvno + 1:
-        raise Refused(f"J2 at {place}")
+        raise refused("J2", place, name, new, f"wanted {keys[0].kvno + 1}")
     if kind in (ADOPT, LIFT) and keys and new.kvno <= keys[0].kvno:
-        raise Refused(f"J2 at {place}")
+        raise refused("J2", place, name, new, f"wanted one above {keys[0].kvno}")
     if kind == REMOVE:
         del table.principals[name]
     elif kind == BASE:
@@ -130,9 +138,22 @@ def put_back(table, body):
     table.records = place
 
 
+def behind_heading(table, journal):
+    """Where the records begin: behind that of the realm, if the journal begins with one."""
+    size = number(journal[:2])
+    if len(journal) < 3 or journal[2] != REALM or size not in REALM_LENGTHS:
+        return 0
+    realm = journal[3 : 2 + size]
+    if len(realm) < size - 1:
+        raise Refused("J1 at 1")
+    if realm != table.realm:
+        raise Refused(f"J5\nof realm {quoted(realm)}, wanted {quoted(table.realm)}")
+    return 2 + size
+
+
 def restored(text, journal):
     table = opening(text)
-    place = 0
+    place = behind_heading(table, journal)
     while place < len(journal):
         length = number(journal[place : place + 2])
         end = place + 2 + length

@@ -255,9 +255,25 @@ def components(text):
     return None if text or not 1 <= count <= 8 else tuple(names)
 
 
+HEADING = b"\x00\x0c\x07EXAMPLE.COM"
+
+
+def heading(journal):
+    """How many bytes the record of the realm has with which it begins, or the fault of another one, or of a part of one."""
+    length = int.from_bytes(journal[:2], "big")
+    if len(journal) < 3 or journal[2] != 7 or not 2 <= length <= 256:
+        return 0
+    if len(journal) < 2 + length:
+        return "J1 at 1"
+    return len(HEADING) if journal.startswith(HEADING) else "J5"
+
+
 def restored(journal):
     """What restoring it says, and each change: principal, kvno, iteration count and keys."""
-    held, changes, place, number = {"alice": 1, "bob/admin": 1}, [], 0, 0
+    place = heading(journal)
+    if isinstance(place, str):
+        return place, []
+    held, changes, number = {"alice": 1, "bob/admin": 1}, [], 0
     while len(journal) - place >= 2:
         number += 1
         length = int.from_bytes(journal[place : place + 2], "big")

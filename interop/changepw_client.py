@@ -178,6 +178,9 @@ def key_of(text):
 
 
 def address(last):
+    """A HostAddress: 127.0.0.LAST, or the address of IPv6 with these sixteen bytes (RFC 4120 section 7.5.3)."""
+    if isinstance(last, bytes):
+        return sequence((0, integer(24)), (1, octets(last)))
     return sequence((0, integer(2)), (1, octets(bytes([127, 0, 0, last]))))
 
 
@@ -192,7 +195,8 @@ CHANGEPW = name(2, b"kadmin", b"changepw")
 
 
 def ticket(client, initial, service, kvno, starts, addresses=()):
-    """The addresses, if there are any, are those that it may come from: the last byte of each, of 127.0.0.0/24."""
+    """The addresses, if there are any, are those that it may come from: the last byte of each, of 127.0.0.0/24, or
+    all sixteen, of IPv6."""
     part = sequence(
         (0, flags(INITIAL if initial else 0)),
         (1, key_of(SESSION)),

@@ -179,6 +179,73 @@ def drill(program):
     program.tell_unwritten("drill: a full disk", "drill", script=SCRIPT + "show alice\n")
 
 
+# settings that nothing reads, in each table, and a rule for each doubt
+UNREAD = f"""\
+principals = 1
+[service]
+realm = "EXAMPLE.COM"
+max_entires = 5
+[[service.key]]
+kvno = 3
+kvon = 1
+etype = 18
+key = "{"5a" * 32}"
+[policy]
+min_lenght = 8
+min_length = 6
+min_classes = 2
+depth = 3
+iterations = 4096
+set_needs_initial = false
+[kdc]
+"ex clude" = []
+[[rule]]
+actor = "alice"
+target = "bob"
+targets = "bob"
+[[rule]]
+actor = "amdin"
+target = "bob@EXAMPLE.COM"
+[[rule]]
+actor = "bob/\u00e9"
+target = "*"
+[[principal]]
+name = "alice"
+key = [{{ kvno = 2, iterations = 5, aes128 = "{"11" * 16}", aes256 = "{"22" * 32}" }}]
+[[principal]]
+name = "bob"
+names = "bob"
+[[principal.key]]
+kvno = 1
+iterations = 4096
+aes128 = "{"11" * 16}"
+aes256 = "{"22" * 32}"
+aes512 = 0
+"""
+WARNED = """\
+warned: the file: nothing reads principals
+warned: [service]: nothing reads max_entires
+warned: service key 1: nothing reads kvon
+warned: [policy]: nothing reads min_lenght
+warned: rule 1: nothing reads targets
+warned: principal 2: nothing reads names
+warned: principal 2, key 1: nothing reads aes512
+warned: [kdc]: nothing reads ex\\x20clude
+warned: rule 2: actor amdin: no such principal yet
+warned: rule 2: target bob\\x40EXAMPLE.COM has an @: names here have no realm
+warned: rule 3: actor bob/\\xc3\\xa9: no such principal yet
+warned: rule 3: bob/\\xc3\\xa9 may set everybody's password"""
+
+
+def warnings(program):
+    """They are on standard error, and change neither the line nor the status; a configuration with a fault has none."""
+    (program.folder / "warned").write_text(UNREAD)
+    program.tell("check: warnings", ("ok: principals 2, rules 3, service keys 1", WARNED, 0), "check", "--config", "warned")
+    (program.folder / "warned").write_text(UNREAD.replace("depth = 3", "depth = 17"))
+    faulty = "warned: [policy]: depth must be 0 to 16"
+    program.tell("check: a fault, and no warnings", ("C4 policy 0", faulty, 1), "check", "--config", "warned")
+
+
 def check(program):
     write_configuration(program.folder / "good", ["alice", "bob"])
     text = (program.folder / "good").read_text()
@@ -192,6 +259,7 @@ def check(program):
         (program.folder / "no-text").write_bytes(before + rest)
         words = f"no-text: not UTF-8 after {len(before)} bytes"
         program.tell(f"check: no text, {len(before)} bytes", ("C1 file 0", words, 1), "check", "--config", "no-text")
+    warnings(program)
     unread = unreadable("missing", MISSING)
     program.tell("check: no file", unread, "check", "--config", "missing")
     program.tell_unwritten("check: good, a full disk", "check", "--config", "good")
@@ -238,7 +306,11 @@ def keys_brought_in(program):
     words = ["--keytab", "keytab", "--realm", "EXAMPLE.COM"]
     left = f"keytab: at {len(keytab(*alice))}: skipped: bob@OTHER.COM, kvno 1, etype 17: another realm"
     program.report.tell("import: a user, and another realm's", words_of(program.ended("import", *words)),
-                        (stanza("alice", 3, short, long).split(), left, 0))
+                        (stanza("alice", 3, short, long).split(), left + "\nimported 2, not imported 1", 0))
+    (program.folder / "others").write_bytes(keytab(("OTHER.COM", "bob", 1, 17, short)))
+    left = "others: at 2: skipped: bob@OTHER.COM, kvno 1, etype 17: another realm\nimported 0, not imported 1"
+    program.tell("import: another realm's alone", ("", left + "\nothers: no key is imported", 1),
+                 "import", "--keytab", "others", "--realm", "EXAMPLE.COM")
     (program.folder / "whole").write_bytes(keytab(*alice))
     program.tell_unwritten("import: a full disk", "import", "--keytab", "whole", "--realm", "EXAMPLE.COM")
     program.tell("import: no file", unreadable("missing", MISSING), "import", "--keytab", "missing", *words[2:])
@@ -251,7 +323,7 @@ def keys_brought_in(program):
 
 
 def nothing_told(program):
-    """Where standard error takes nothing, each ending still has its status; nor are skipped entries passed over."""
+    """Where standard error takes nothing, each ending still has its status; nor are the numbers of an import passed over."""
     short, long = bytes(range(16)), bytes(range(32))
     alice = [("EXAMPLE.COM", "alice", 3, 18, long), ("EXAMPLE.COM", "alice", 3, 17, short)]
     for name, entries in ("whole", alice), ("more", [*alice, ("OTHER.COM", "bob", 1, 17, short)]):
@@ -268,7 +340,7 @@ def nothing_told(program):
             (["control", "--socket", "missing", "status"], 1),
             ([*brought, "missing"], 1),
             ([*brought, "more"], 1),
-            ([*brought, "whole"], 0),
+            ([*brought, "whole"], 1),
             (["--help"], 2),
             ([], 2),
         ]:
@@ -283,7 +355,7 @@ def keys_behind_a_head(program):
     alice = [("EXAMPLE.COM", "alice", kvno, etype, key) for kvno in (3, 2) for etype, key in ((18, long), (17, short))]
     (program.folder / "keytab").write_bytes(keytab(*service, *alice))
     stanzas = program.ended("import", "--keytab", "keytab", "--realm", "EXAMPLE.COM", "--iterations", "8192")
-    program.report.tell("import: the service and a user", stanzas[1:], ("", 0))
+    program.report.tell("import: the service and a user", stanzas[1:], ("imported 6, not imported 0", 0))
     (program.folder / "joined").write_text(HEAD.read_text() + stanzas[0] + "\n")
     program.tell("import: behind a head", ("ok: principals 1, rules 0, service keys 2", "", 0), "check", "--config", "joined")
     (program.folder / "journal").write_bytes(b"")

@@ -41,12 +41,15 @@ def wrong(*lines):
 def at_start(report, server):
     """Each fault is added to those before it and hides them: it is looked for earlier."""
 
+    private(server.journal).write_bytes(plain_record("zoe", 2))
+    missing = "but no such principal in the configuration, or removed before this record"
+    told = f"{server.journal}: at 1: zoe: version 2, {missing}"
+    report.tell("a journal of another realm", said(server), wrong("journal: J3 at 1", told))
+    private(server.journal).write_bytes(plain_record(NAME, 2) * 2)
+    told = f"{server.journal}: at 2: {NAME}: version 2, wanted 3"
+    report.tell("a record that stands twice", said(server), wrong("journal: J2 at 2", told))
     with socket.create_server(("127.0.0.1", server.port)):
-        report.tell("a port in use", said(server), wrong("cannot listen", f"port {server.port}: in use"))
-        private(server.journal).write_bytes(plain_record("zoe", 2))
-        report.tell("a journal of another realm", said(server), wrong("journal: J3 at 1"))
-        private(server.journal).write_bytes(plain_record(NAME, 2) * 2)
-        report.tell("a record that stands twice", said(server), wrong("journal: J2 at 2"))
+        report.tell("a port in use", said(server), wrong("cannot listen", f"127.0.0.1:{server.port}: in use"))
         server.seed.write_bytes(bytes(31))
         short = wrong(f"cannot read {server.seed}", f"{server.seed}: fewer than 32 bytes")
         report.tell("a short seed", said(server), short)
@@ -98,7 +101,7 @@ def full_disk(report, server):
     answers = [change(server, number) for number in range(6)]
     wanted = ["code 0 password changed"] * 3 + ["code 2 journal failed"] * 3
     report.tell("six changes and a disk for three", answers, wanted)
-    failed = f"{server.journal}: journal failed: no change is accepted until a restart"
+    failed = f"{server.journal}: journal failed: file too large: no change is accepted until a restart"
     report.tell("serve's last line", server.last_words(), f"entries 6 changes 3\n{failed}")
     records, torn = read_journal(server.journal.read_bytes())
     report.tell("in the journal", ([r.kvno for r in records], len(torn)), ([2, 3, 4], 20))
@@ -130,7 +133,7 @@ def raising(report, server):
     resource.setrlimit(resource.RLIMIT_FSIZE, (16, resource.RLIM_INFINITY))
     found = said_at_start(server, 8194)
     resource.setrlimit(resource.RLIMIT_FSIZE, (resource.RLIM_INFINITY, resource.RLIM_INFINITY))
-    failed = f"{server.journal}: journal failed: no change is accepted until a restart"
+    failed = f"{server.journal}: journal failed: file too large: no change is accepted until a restart"
     report.tell("a disk for two", found, (["journal failed"], f"{tally}\n{failed}"))
     torn = raise_record(8194)[:2]
     report.tell("in the journal then", read_journal(server.journal.read_bytes()), (raises, torn))

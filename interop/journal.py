@@ -2,7 +2,7 @@
 """Reads a journal (docs/PROTOCOL.md), and writes records of one.
 
 Prints kvno, iteration count and name of each change, the same behind `base`, `adopt`, `lift` or `remove` of each other
-record that has them, and the count of each raise; no keys.
+record that has them, the count of each raise, and the realm of a journal that begins with its record; no keys.
 """
 
 import dataclasses
@@ -41,6 +41,11 @@ class Raise:
     iterations: int
 
 
+@dataclasses.dataclass(frozen=True)
+class Realm:
+    name: str
+
+
 # the kinds of records
 CHANGE = 1
 RAISE = 2
@@ -48,6 +53,7 @@ BASE = 3
 ADOPT = 4
 LIFT = 5
 REMOVE = 6
+REALM = 7
 WITH_KEYS = {CHANGE: Record, BASE: Base, ADOPT: Adopt, LIFT: Lift, REMOVE: Remove}
 
 
@@ -66,6 +72,12 @@ def plain_record(name, kvno):
 
 def raise_record(iterations):
     body = bytes([RAISE]) + iterations.to_bytes(4, "big")
+    return len(body).to_bytes(2, "big") + body
+
+
+def realm_record(realm):
+    """What a journal of this realm may begin with."""
+    body = bytes([REALM]) + realm.encode()
     return len(body).to_bytes(2, "big") + body
 
 
@@ -90,6 +102,8 @@ def read_journal(data):
 
 
 def record_of(body):
+    if body[0] == REALM:
+        return Realm(body[1:].decode(errors="replace"))
     if body[0] == RAISE:
         return Raise(int.from_bytes(body[1:5], "big"))
     kvno = int.from_bytes(body[1:5], "big")
@@ -104,6 +118,8 @@ def main():
     for record in records:
         if isinstance(record, Raise):
             print("raise", record.iterations)
+        elif isinstance(record, Realm):
+            print("realm", record.name)
         elif type(record) is Record:
             print(record.kvno, record.iterations, record.name)
         else:

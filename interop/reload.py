@@ -119,19 +119,22 @@ class Service:
 
     def brought(self, keytab):
         """What a keytab holds."""
-        return self.printed("import", "--keytab", keytab, "--realm", REALM)
+        words = [self.server.program, "import", "--keytab", keytab, "--realm", REALM]
+        return subprocess.run(words, capture_output=True, text=True, timeout=PATIENCE).stdout
 
     def control(self, command):
-        return self.printed("control", "--socket", self.socket, command)
+        """The answer, but for the warnings about the head's rule."""
+        said = self.printed("control", "--socket", self.socket, command).splitlines(keepends=True)
+        return "".join(line for line in said if not line.startswith("warning: rule 1: "))
 
     def write(self):
         """Another file takes the place of the configuration, once it is whole and good."""
         new = self.folder / "new.toml"
         new.touch(mode=0o600)
         new.write_text(HEAD.read_text() + RULE + self.keys + self.principals)
-        said = self.printed("check", "--config", new)
+        done = subprocess.run([self.server.program, "check", "--config", new], capture_output=True, text=True, timeout=PATIENCE)
         os.replace(new, self.server.configuration)
-        return said.strip()
+        return done.stdout.strip()
 
     def reload(self, what, counts):
         """The configuration anew, with so many principals, rules and service keys."""

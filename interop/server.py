@@ -29,6 +29,8 @@ class Server:
         self.options = list(options)
         # the lines that it printed before it listened
         self.said = []
+        # the lines in which it told, of its start, until when it is quiet
+        self.quiet = []
         [self.port] = free_ports(1)
         private(self.seed).write_bytes(os.urandom(32))
         self.process = None
@@ -39,6 +41,12 @@ class Server:
         if self.idle is not None:
             numbers += ["--idle", self.idle]
         return [self.program, "serve", *files, *map(str, [*numbers, *self.options])]
+
+    def places(self):
+        """Each address and port at which its options have it listen, in their order, as it prints them."""
+        words = list(map(str, self.options))
+        addresses = [after for word, after in zip(words, words[1:]) if word == "--listen"] or ["127.0.0.1"]
+        return [f"[{it}]:{self.port}" if ":" in it else f"{it}:{self.port}" for it in addresses]
 
     def start(self, connections, **options):
         """Until it says that it listens; what it says instead is raised."""
@@ -58,8 +66,8 @@ class Server:
         )
 
     def listens(self):
-        """It says that it listens; what it says instead is raised."""
-        self.said = self.lines_before(f"listening on 127.0.0.1:{self.port}")
+        """It says that it listens, at each of its places; what it says instead is raised."""
+        self.said = [line for place in self.places() for line in self.lines_before(f"listening on {place}")]
 
     def lines_before(self, wanted):
         """The lines that it prints before this one; all that it says is raised where this one doesn't come."""
@@ -89,7 +97,9 @@ class Server:
         except subprocess.TimeoutExpired:
             self.end()
             return "nothing: it waits for connections"
-        return (out + errors).strip()
+        lines = errors.splitlines()
+        self.quiet = [it for it in lines if it.startswith("quiet until ")]
+        return "\n".join([*out.splitlines(), *(it for it in lines if it not in self.quiet)]).strip()
 
     def stop(self, number):
         """Sends it the signal; how it ended, as the shell says it."""

@@ -43,6 +43,8 @@ class Client:
     """The clients of one project."""
 
     CASES = PROGRAMS
+    # how it names a KDC that it is to ask over TCP alone
+    KDC_PREFIX = ""
     # whether a change is one to it only if the new password gives a ticket at once
     ASKS_FOR_TICKET = False
 
@@ -51,7 +53,8 @@ class Client:
         """Whether it can run here; a kind that can't everywhere has `WANTS`, what it wants for that."""
         return True
 
-    def __init__(self, folder, kdc_port, port):
+    def __init__(self, folder, kdc_port, port, host="127.0.0.1", settings=""):
+        """KDC and service are at this host, and lines of `settings` stand in [libdefaults]."""
         self.folder = folder
         self.project = Project(packages_folder() / self.PACKAGE)
         self.file = folder / f"{type(self).__name__}.conf"
@@ -63,10 +66,10 @@ class Client:
     dns_lookup_realm = false
     dns_canonicalize_hostname = false
     rdns = false
-[realms]
+{settings}[realms]
     {REALM} = {{
-        kdc = 127.0.0.1:{kdc_port}
-        kpasswd_server = {self.PREFIX}127.0.0.1:{port}
+        kdc = {self.KDC_PREFIX}{host}:{kdc_port}
+        kpasswd_server = {self.PREFIX}{host}:{port}
     }}
 """)
 

@@ -40,9 +40,19 @@ changed() { printf '%s\n' "$2" "$3" "$3" | kpasswd "$1"; }
 logs_in() { printf '%s\n' "$2" | kinit "$1"; }
 pid() { systemctl show -p MainPID --value "$1"; }
 new_pid() { [ "$(pid "$1")" != "$2" ] && [ "$(pid "$1")" != 0 ]; }
-wait_for() { for _ in $(seq 100); do "$@" > /dev/null 2>&1 && return 0; sleep 0.2; done; "$@"; }
+# the service calls an agent that was away after half a minute at the latest
+wait_for() { for _ in $(seq 200); do "$@" > /dev/null 2>&1 && return 0; sleep 0.2; done; "$@"; }
 files() { find /etc/boddrelyn /var/lib/boddrelyn /var/log/boddrelyn /run/boddrelyn /run/boddrelyn-agent -printf '%M %u:%g %p\n' | sort > /opt/try/found; diff /opt/try/files /opt/try/found; }
 none() { ! "$@"; }
+# until there is /opt/try/over; a change that is refused by the service or the KDC, rather than by nobody who listens, is kept
+changing() {
+    old=$2 n=0
+    until [ -e /opt/try/over ]; do
+        if changed "$1" "$old" "Changing-pass$n" > /opt/try/change 2>&1; then old=Changing-pass$n n=$((n + 1))
+        else grep -q 'Cannot contact any KDC' /opt/try/change || cat /opt/try/change >> /opt/try/refused; fi
+        echo "$n" > /opt/try/count
+    done
+}
 status() { chpw_server control --socket /run/boddrelyn/control status | grep -x "$1"; }
 """
 SCRIPT = HELPERS + r"""
@@ -56,9 +66,9 @@ for it in $S $F; do
 done
 sh -eu /opt/try/first > /opt/try/said 2>&1
 check "README.Debian: import and check" grep "ok: principals 0" /opt/try/said
-check "port 464 is taken: it says so" says $S "port 464: in use"
+check "port 464 is taken: it says so" says $S "127.0.0.1:464: in use"
 check "port 464 is taken: it is given up" wait_for is $S Result exit-code
-systemctl stop $S; rm -f $J
+systemctl stop $S
 sed -i "s/# here/$(cat /opt/try/gives-up)/" /etc/krb5kdc/kdc.conf
 check "kadmind gives it up" systemctl restart krb5-admin-server
 systemctl reset-failed $S
@@ -70,9 +80,17 @@ check "the agent runs" says $F "listening"
 check "the service has found it" wait_for status "kdc connected"
 check "the KDC's users are the service's" wait_for sh -c "chpw_server table --config /etc/boddrelyn/realm.toml --journal $J | grep '^alice kvno 1 '"
 check "the files are those of the start by hand" files
+check "the first start isn't quiet" status "quiet-until -"
 check "kpasswd" changed alice Old-pass1 New-pass1
 check "kinit, at once" logs_in alice New-pass1
 check "the KDC has it" status "kdc-behind 0"
+changing bob Old-pass2 &
+for it in 1 2 3; do sleep 2; check "restart $it amid changes" systemctl restart $S; check "restart $it: not quiet" status "quiet-until -"; done
+sleep 2; touch /opt/try/over; wait
+check "restarts amid changes: there were some" sh -c '[ "$(cat /opt/try/count)" -gt 10 ]'
+check "restarts amid changes: none was refused" none cat /opt/try/refused
+check "restarts amid changes: each is in the table" sh -c "chpw_server table --config /etc/boddrelyn/realm.toml --journal $J | grep \"^bob kvno $(($(cat /opt/try/count) + 1)) \""
+systemctl reset-failed $S
 check "reload" systemctl reload $S
 check "logrotate" logrotate --force /etc/logrotate.d/boddrelyn
 check "the log was opened again" grep log-reopened /var/log/boddrelyn/log

@@ -24,9 +24,9 @@ PATH = "/usr/local/sbin:/usr/local/bin:/usr/sbin:/usr/bin:/sbin:/bin"
 SECRET = "known to root alone"
 KINDS = {"a file": "file", "a folder": "folder", "nothing": "folder/nothing"}
 # names that the programs make by themselves, beside those of the commands
-NAMES = {"journal", "journal.new", "log", "log.1", "control", "realm.toml", "new.toml"}
+NAMES = {"journal", "journal.new", "resume", "resume.new", "log", "log.1", "control", "realm.toml", "new.toml"}
 # what the commands leave elsewhere
-LEFT = "/usr/local/sbin/boddrelyn-check /var/backups/boddrelyn"
+LEFT = "/usr/local/sbin/boddrelyn-check /var/backups/boddrelyn /etc/systemd/system/boddrelyn.service.d"
 SECONDS = 20
 INFO = "/var/lib/dpkg/info/boddrelyn"
 SCRIPTS = (

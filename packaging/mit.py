@@ -11,7 +11,7 @@ AGENT = "boddrelyn-agent-mit"
 USERS = {"alice": "Old-pass1", "bob": "Old-pass2"}
 CHANGED = "Password changed."
 # what the service says while the KDC's own server has the port
-SAYS = ("cannot listen", "port 464: in use")
+SAYS = ("cannot listen", "127.0.0.1:464: in use")
 # of the service, and another export of keys than README.Debian's first
 OPTIONS, EXPORT = "", None
 # what README.Debian says that gives up port 464; the first is the one that it advises

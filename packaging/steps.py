@@ -10,6 +10,8 @@ from root import Failed
 HERE = pathlib.Path(__file__).resolve().parent
 FOLDERS = ("/etc/boddrelyn", "/var/lib/boddrelyn", "/var/log/boddrelyn", "/run/boddrelyn", "/run/boddrelyn-agent")
 SERVICE, JOURNAL, LOG = "boddrelyn", "/var/lib/boddrelyn/journal", "/var/log/boddrelyn/log"
+# what a clean end leaves for the next start
+RESUME = "/var/lib/boddrelyn/resume"
 CONFIGURATION = "/etc/boddrelyn/realm.toml"
 # seconds that a client is ahead, so that it isn't refused in the five minutes after a start
 AHEAD = 298
@@ -121,8 +123,7 @@ class Steps:
         self.tell("port 464 is taken: it ends", it.process.wait(20), 1)
         said = self.output(SERVICE)
         self.tell("port 464 is taken: it says so", [it for it in self.kind.SAYS if it not in said], [])
-        self.tell("port 464 is taken: an empty journal is left", self.root.path(JOURNAL).stat().st_size, 0)
-        self.root.path(JOURNAL).unlink()
+        self.tell("port 464 is taken: the journal stays", self.root.path(JOURNAL).stat().st_size, 3 + len(self.kind.REALM))
 
     def second(self):
         self.realm.is_second(self.tell)
@@ -139,8 +140,7 @@ class Steps:
         self.tell("by hand: no process of its user may trace it", untraced(process.pid))
         stopped = self.root.run("chpw_server", "control", "--socket", "/run/boddrelyn/control", "stop")
         self.tell("by hand: it stops", (stopped.returncode, process.wait(60)), (0, 0))
-        for file in (JOURNAL, LOG):
-            self.root.path(file).unlink()
+        self.root.path(LOG).unlink()
 
     def limits(self):
         pid = self.service().process.pid
@@ -159,6 +159,7 @@ class Steps:
         self.tell("limits: the agent's capabilities", re.search(r"CapEff:\s+(\w+)", status)[1].lstrip("0"), "1")
 
     def changes(self):
+        self.tell("the first start isn't quiet", self.status().get("quiet-until"), "-")
         say = self.realm.kpasswd("alice", "Old-pass1", "short")
         self.tell("kpasswd: a short password is refused", "password too short" in say) or print(say)
         say = self.realm.kpasswd("alice", "Old-pass1", "New-pass1")
@@ -191,9 +192,8 @@ class Steps:
         self.tell("upgrade: no file changes mode or owner", self.files(), before)
         self.tell("upgrade: the journal stays", self.root.path(JOURNAL).read_bytes(), journal)
         self.tell("upgrade: changed settings stay", self.status().get("workers"), "2")
-        say = self.realm.kpasswd("alice", "New-pass1", "Newer-pass1")
-        self.tell("upgrade: quiet for five minutes", "clock skew" in say.lower()) or print(say)
-        self.changes_ahead("New-pass1", "Newer-pass1", 3)
+        self.tell("upgrade: no quiet time", self.status().get("quiet-until"), "-")
+        self.changes_now("New-pass1", "Newer-pass1", 3)
 
     def former_owner(self):
         """The configuration and its directory become what they were in earlier packages."""
@@ -226,11 +226,10 @@ class Steps:
         self.root.must("chown", "boddrelyn:boddrelyn", "/etc/boddrelyn")
         self.root.must("chmod", "700", "/etc/boddrelyn")
 
-    def changes_ahead(self, old, new, kvno):
-        """By a client whose clock is ahead of the quiet time."""
-        time.sleep(300 - AHEAD + 2)
-        say = self.realm.kpasswd("alice", old, new, **self.ahead())
-        self.tell("kpasswd: changed, by a clock that is ahead", self.kind.CHANGED in say) or print(say)
+    def changes_now(self, old, new, kvno):
+        """Without a quiet time, by a client with the right clock."""
+        say = self.realm.kpasswd("alice", old, new)
+        self.tell("kpasswd: changed at once", self.kind.CHANGED in say) or print(say)
         self.tell("kinit: with the new password", self.realm.kinit("alice", new))
         self.tell("the KDC has the new version", self.realm.kvno("alice"), kvno)
 
@@ -273,6 +272,7 @@ class Steps:
         self.tell("remove: both are stopped", stopped, [True, True])
         self.tell("remove: none runs", self.pids(), [])
         self.tell("remove: the files stay", self.files(*FOLDERS[:3]), before)
+        self.tell("remove: what the last clean end left is among them", f"-rw------- boddrelyn:boddrelyn {RESUME}" in before)
         self.tell("remove: the programs are gone", [it.name for it in self.root.path("/usr/sbin").glob("chpw_*")], [])
 
     def purge(self):

@@ -26,7 +26,9 @@ KADMIND = "00000000:01D0 00000000:0000 0A"
 ADDRESS = "printf '[Match]\\nName=lo\\n[Network]\\nAddress=10.9.0.1/32\\n' > /etc/systemd/network/lo.network; systemctl start systemd-networkd"
 # a client whose clock is ahead of a quiet time, but for what names a configuration of its own
 AHEAD = "export LD_PRELOAD=/opt/try/ahead.so KRB5_CONFIG=/etc/krb5-ahead.conf; sleep 4; "
-FORWARDED = "sed 's/127.0.0.1:464/10.9.0.1:464/' /etc/krb5.conf > /opt/try/other.conf"
+OTHER_ADDRESS = "sed 's/127.0.0.1:464/10.9.0.1:464/' /etc/krb5.conf > /opt/try/other.conf; export KRB5_CONFIG=/opt/try/other.conf"
+# at 127.0.0.1 alone, as at first
+ALONE = "sed -i 's/--listen [^ ]* //g' /etc/default/boddrelyn; systemctl restart boddrelyn"
 
 
 @dataclasses.dataclass(frozen=True)
@@ -52,13 +54,18 @@ BLOCKS = (
         "it listens": "says boddrelyn 'listening on 127.0.0.1:464'",
         "kadmind runs beside it": "is krb5-admin-server ActiveState active",
         "the KDC's users are the service's": waits(f"{TABLE} | grep '^bob kvno 1 '"),
-        "there is no rule": "chpw_server check --config /etc/boddrelyn/realm.toml",
+        "there is no rule": "chpw_server check --config /etc/boddrelyn/realm.toml", "nobody is refused": "status 'quiet-until -'",
     }),
     Block("From nothing to a running realm", 1, typed="Old-pass1\nNew-pass1\nNew-pass1\nNew-pass1\n", after={
         "kpasswd": "grep 'Password changed' /opt/try/printed", "a ticket": "klist -s",
     }),
     Block("Let in users of other hosts", before=ADDRESS, after={
-        "through it": f"{FORWARDED}; (export KRB5_CONFIG=/opt/try/other.conf; changed alice New-pass1 Newer-pass1)",
+        "it listens there": "says boddrelyn 'listening on 10.9.0.1:464'", "nobody is refused": "status 'quiet-until -'",
+        "kpasswd": f"({OTHER_ADDRESS}; changed alice New-pass1 Newer-pass1)",
+        "the log has the client's address": f"grep ' peer 10.9.0.1 client alice@' {LOG}",
+    }),
+    Block("Let in users of other hosts", 1, before=ALONE, after={
+        "through it": f"({OTHER_ADDRESS}; changed alice Newer-pass1 short) 2>&1 | grep 'password too short'",
     }),
     Block("Add a user", typed="Carol-pass1\nCarol-pass1\n", after={
         "adopted": waits(f"grep 'adopted carol kvno 1' {LOG}"), "kpasswd": "changed carol Carol-pass1 Carols-pass2",
@@ -97,7 +104,7 @@ BLOCKS = (
         "the table is back": f"{TABLE} | diff /opt/try/table -", "it runs": waits(f"{STATUS} | grep -x 'kdc connected'"),
     }),
     Block("Start a new journal", after={
-        "the table stays": f"{TABLE} | sed '$d' | diff - /opt/try/principals", "the journal is empty": f"{TABLE} | tail -n 1 | grep 'changes 0'",
+        "the table stays": f"{TABLE} | sed '$d' | diff - /opt/try/principals", "the journal is new": f"{TABLE} | tail -n 1 | grep 'changes 0'",
         "it runs": waits(f"{STATUS} | grep -x 'kdc connected'"),
     }, before="sed '$d' /opt/try/table > /opt/try/principals"),
     Block("Upgrade", folder="/opt/try/1", after={
@@ -106,7 +113,7 @@ BLOCKS = (
     }),
     Block("Log to the journal of systemd", after={"the log is there": "says boddrelyn 'service started principals'"}),
     Block("A start failed", before=f"systemctl stop boddrelyn; {OTHER} & other=$!; sleep 1; systemctl start boddrelyn; wait_for is boddrelyn ActiveState failed",
-          after={"it says why": "grep 'port 464: in use' /opt/try/printed"}),
+          after={"it says why": "grep '127.0.0.1:464: in use' /opt/try/printed"}),
     Block("A start failed", 1, before="kill $other; wait $other", after={"it runs": waits(f"{STATUS} | grep -x ok")}),
     Block("Go back to kadmind", after={
         "the service is gone": "none pidof chpw_server", "it listens": f"wait_for grep '{KADMIND}' /proc/net/tcp",

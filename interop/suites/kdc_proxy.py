@@ -10,7 +10,7 @@ import time
 import realm_inside
 import told
 
-PORT, MANY = 4443, 100
+PORT = 4443
 SERVER = """
 import ssl, sys
 from wsgiref.simple_server import make_server
@@ -88,9 +88,9 @@ def main():
     with Proxy("localhost", PORT + 1) as proxy:
         name = realm_inside.user("proxy")
         told.run("localhost is ::1 first", lambda: told.wanted("it", socket.getaddrinfo("localhost", 464)[0][4][0], "::1"))
-        # whether the client still waits then is chance
-        proxy.kpasswd(name, old, new, 15)
-        told.run("a server that is named localhost", lambda: told.wanted("tries that failed", "many" if proxy.failed() > MANY else "few", "few"))
+        told.run("kpasswd by localhost", lambda: told.wanted("it", "Password changed." in proxy.kpasswd(name, old, new), True))
+        told.run("kinit with that password", lambda: told.wanted("it", realm_inside.logs_in(name, new), True))
+        told.run("tries that failed", lambda: told.wanted("they", proxy.failed(), 0))
 
 
 if __name__ == "__main__":

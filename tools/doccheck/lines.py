@@ -17,11 +17,14 @@ TESTS = re.compile(r".*_(cases|tests|vectors|streams|realm|lines)|(cases|tests|s
 DISPLAY = re.compile(r"^impl(?:<.*>)? fmt::Display for (\w+)", re.MULTILINE)
 WRITTEN = re.compile(r"(?:write!\(\s*f,\s*|write_str\(\s*|eprintln!\(\s*rt;\s*|eprintln!\(\s*self\.rt;\s*)\"((?:[^\"\\]|\\.)*)\"")
 PLACEHOLDER = re.compile(r"\{[^}]*\}")
+# Types whose texts are the ends of lines, and what may stand before an end.
+ENDS = re.compile(r".*Words|SetAside")
+BEFORE = r"(?:.+: |.+, since |\.\. )?"
 
 
 def printed():
     """The texts that the program prints: of each the place, the text with its placeholders, and whether it is the end of a
-    line (a type `..Words`)."""
+    line."""
     for folder in sorted(CRATES.iterdir()):
         if TESTS.fullmatch(folder.name):
             continue
@@ -32,13 +35,13 @@ def printed():
                 types = [name for start, end, name in pieces if start <= match.start() < end]
                 if types or match[0].startswith("eprintln"):
                     number = text.count("\n", 0, match.start()) + 1
-                    yield f"{file.relative_to(TOP)}:{number}", match[1], any(it.endswith("Words") for it in types)
+                    yield f"{file.relative_to(TOP)}:{number}", match[1], any(map(ENDS.fullmatch, types))
 
 
 def pattern(text, is_end):
     """What a document may have for a text: anything but nothing where a placeholder stands, and before an end."""
     words = r".+".join(re.escape(part) for part in PLACEHOLDER.split(text))
-    return rf"(?:.+: )?{words}" if is_end else words
+    return BEFORE + words if is_end else words
 
 
 def check(tree, faults):

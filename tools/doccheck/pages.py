@@ -48,11 +48,11 @@ def of_source():
     source = HELP.read_text()
     texts = {name: re.sub(r"\\\n", "", text) for name, text in re.findall(r'const (\w+): &str =\s*"((?:[^"\\]|\\.|\\\n)*)";', source)}
     kinds = {"required_option": True, "number": True, "word": True, "optional": False, "optional_number": False,
-             "optional_word": False, "flag": False}
+             "optional_word": False, "repeated": False, "flag": False}
     line = re.compile(rf'\b({"|".join(kinds)})\(\s*"([\w-]+)",\s*([^()]*?),?\s*\)')
     commands = {}
     for body in re.split(r"\nfn ", source)[1:]:
-        found = re.search(r'command_with\(\s*alloc,\s*"(\w+)"', body)
+        found = re.search(r'command_with\(\s*alloc,\s*"([\w-]+)"', body)
         if found:
             options = {}
             for kind, name, words in line.findall(body):
@@ -125,19 +125,19 @@ def items(body):
         elif depth == 0:
             name = None
         elif name and not line.startswith(".It"):
-            found[name][1] += " " + re.sub(r"^\.\w+ ", "", line)
+            found[name][1] += " " + re.sub(r"^\.\w+ ", "", re.sub(r"^\.Fl -(\S+)(?: (\W))?$", r"--\1\2", line))
     return {name: (value, set(RANGE.findall(text)), default_of(text)) for name, (value, text) in found.items()}
 
 
 def default_of(text):
-    found = re.search(r"The default is ([^.]*)\.(?: |$)", text)
+    found = re.search(r"The default is (.*?)\.(?: |$)", text)
     return found and found[1]
 
 
 def synopses(body):
     """Of each command in a synopsis the options with their values, and whether they are needed."""
     for part in re.split(r"^\.Nm$", body, flags=re.MULTILINE)[1:]:
-        command = re.search(r"^\.Cm (\w+)", part, re.MULTILINE)
+        command = re.search(r"^\.Cm ([\w-]+)", part, re.MULTILINE)
         options = {}
         for optional, name, value, word in re.findall(r"^\.(Op )?(?:Fl -([\w-]+)(?: Ar (\w+))?|Ar (\w+))$", part, re.MULTILINE):
             options[f"--{name}" if name else word] = (value, not optional)

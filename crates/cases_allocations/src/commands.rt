@@ -169,6 +169,7 @@ fn word_of<'a>(invocation: &Invocation<'a>) -> &'a str {
         Invocation::ImportKdc(options) => options.socket,
         Invocation::Key(options) => options.name,
         Invocation::Serve(options) => options.journal,
+        Invocation::NewJournal(options) => options.journal,
         Invocation::Control(options) => options.socket,
         Invocation::Client(options) => options.client,
     }

@@ -131,7 +131,7 @@ fn put_priv_of(page: &mut Page, sent: &Sent) -> Result<(), Stop> {
 }
 
 fn put_priv(page: &mut Page, found: &ApOpened, text: &[u8]) -> Result<(), Stop> {
-    let private = open_result(open_priv(page.alloc(), Strictness::Lenient, found, text))?;
+    let private = open_result(open_priv(page.alloc(), Strictness::Lenient, PEER, found, text))?;
     page.hexadecimal(private.user_bytes.as_slice());
     Ok(())
 }

@@ -6,9 +6,10 @@ use crate::page::Page;
 use crate::seen::{put_alone, put_kept, put_lookup, put_pass, put_receipts};
 use crate::stop::Stop;
 use crate::streams::Serves;
-use crate::world::{NOW, PEER};
+use crate::world::NOW;
 use chpw_book::{AtDesk, DeskName, RaiseFault};
 use chpw_decider::{Alone, Decider};
+use chpw_endpoints::Endpoints;
 use chpw_journal::MemorySink;
 use chpw_messages::Service;
 use chpw_rules::Name;
@@ -96,7 +97,7 @@ impl Serves for Alone<MemorySink> {
         serve_alone(
             alloc,
             service,
-            PEER,
+            Endpoints::LOOPBACK,
             &mut stream,
             written,
             self,
@@ -124,7 +125,7 @@ impl<D: DeskName, R: Wait> Serves for AtDesk<'_, D, MemorySink, R> {
         serve_stream(
             alloc,
             service,
-            PEER,
+            Endpoints::LOOPBACK,
             &mut stream,
             written,
             self,

@@ -9,6 +9,7 @@ use chpw_rules::{Config, Name};
 use chpw_table::{Counts, Digest, Moment, Opened, Table};
 use krb_keys::CONFOUNDER_LEN;
 use std::alloc::Global;
+use std::net::{IpAddr, Ipv4Addr};
 use support_realm::{Counting, change, name};
 
 pub const CONFOUNDER: [u8; CONFOUNDER_LEN] = [1; CONFOUNDER_LEN];
@@ -19,8 +20,8 @@ pub const NOW: Moment = Moment {
     micros: 0,
 };
 
-/// The client's address.
-pub const PEER: [u8; 4] = [127, 0, 0, 1];
+/// The client's address, and the service's.
+pub const PEER: IpAddr = IpAddr::V4(Ipv4Addr::LOCALHOST);
 
 /// The bytes of a journal in these cases.
 pub const JOURNAL: usize = 10_000;

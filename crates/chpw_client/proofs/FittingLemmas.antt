@@ -26,7 +26,7 @@ use Rattle.chpw_rules.specs.Names.{is_component, is_name}
 use Rattle.chpw_rules.specs.declared.name.Name.{Name}
 use Rattle.chpw_client.specs.Questions.{IsAskable, Question}
 use Rattle.chpw_client.specs.Requests.{ap_req_text, authenticator, bit, change, longest_ap_req, longest_krb_priv}
-use Rattle.chpw_client.specs.Requests.{principal, priv_text, private_part, ticket, ticket_part, ticket_text, user_data}
+use Rattle.chpw_client.specs.Requests.{loopback, principal, priv_text, private_part, ticket, ticket_part, ticket_text, user_data}
 use Rattle.chpw_client.specs.Words.{drawn_key}
 use Rattle.chpw_client.specs.declared.drawing.Drawing.{Drawing}
 use Rattle.chpw_client.proofs.LengthLemmas.{close_fits, closest, texts_are_close}
@@ -236,7 +236,7 @@ pub private_part_fits : (q : Question) → IsAskable q
     → fits types.enc_krb_priv_part (enc_krb_priv_part_value (private_part q)) ≡ true
 private_part_fits q ask =
     let short = user_data_short q ask in
-    (priv_parts_fit _ 0 (omega arith) (omega (arith, short))).0
+    (priv_parts_fit loopback _ 0 (omega arith) (omega (arith, short)) (omega arith)).0
 
 private_part_short : (q : Question) → IsAskable q
     → length (text types.enc_krb_priv_part (enc_krb_priv_part_value (private_part q))) ≤ 61490

@@ -1,7 +1,9 @@
 -- The request that a client sends (RFC 3244 section 2): an AP-REQ with a ticket of its own making, and a KRB-PRIV with
 -- the new password. In the earlier protocol the user-data is the new password itself
 -- (draft-ietf-cat-kerb-chg-password-02 section 3).
-use Rattle.std.specs.Prelude.{◌≡◌, ◌^◌, ◌-◌, ℕ, ◌+ℤ◌, pos, List, [], Some, None, option_map, if◌then◌else◌}
+use Rattle.std.specs.Prelude.{◌≡◌, ◌^◌, ◌-◌, ℕ, ◌+ℤ◌, pos, List, [], ◌∷◌, Some, None, option_map, if◌then◌else◌}
+use Rattle.std.specs.declared.net.ip_addr.IpAddr.{IpAddr}
+use Rattle.std.specs.declared.net.ip_addr.IpAddr.TheVariants.{V4}
 use Rattle.krb_codec.specs.Texts.{text}
 use Rattle.krb_protocol.specs.Numbers as protocol
 use Rattle.krb_der.specs.Types as types
@@ -81,8 +83,12 @@ version q = if q.old then old_request_version else request_version
 abbrev pub user_data : Question → List ℕ
 user_data q = if q.old then q.password else text types.change_passwd_data (change_passwd_data_value (change q))
 
+-- 127.0.0.1: the client is on the service's host
+abbrev pub loopback : IpAddr
+loopback = V4 (record { octets = 127 ∷ 0 ∷ 0 ∷ 1 ∷ [] })
+
 abbrev pub private_part : Question → EncKrbPrivPart
-private_part q = priv_part_of (user_data q) 0
+private_part q = priv_part_of loopback (user_data q) 0
 
 abbrev pub ticket : Question → Drawing → Ticket
 ticket q w = ticket_of q.realm (ticket_part q w) q.service (word_bytes w.ticket)

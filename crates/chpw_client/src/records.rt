@@ -20,6 +20,7 @@ use krb_keys::AES256_CTS_HMAC_SHA1_96;
 use krb_msgs::{copy_bytes, priv_part};
 use krb_protocol::{NT_PRINCIPAL, PVNO, TICKET_INITIAL};
 use std::alloc::{AllocError, Global};
+use std::net::{IpAddr, Ipv4Addr};
 
 /// Seconds for which a ticket is good.
 const LIFETIME: i64 = 3600;
@@ -148,5 +149,6 @@ pub(crate) fn private_part(alloc: Global, asked: &Asked<'_>) -> Result<EncKrbPri
     requires askable { IsAskable (question_of asked.now) }
     ensures value { IfOk result (λ part. part ≡ private_part_of (question_of asked.entry.now)) }
 {
-    priv_part(alloc, user_data(alloc, asked)?, 0)
+    let own = IpAddr::V4(Ipv4Addr::LOCALHOST);
+    priv_part(alloc, own, user_data(alloc, asked)?, 0)
 }

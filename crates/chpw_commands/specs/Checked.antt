@@ -1,5 +1,5 @@
 -- The command `check`: its line about a file, and the status.
-use Rattle.std.specs.Prelude.{ℕ, List, ◌++◌, length, Result, Ok, Err, codes, if◌then◌else◌}
+use Rattle.std.specs.Prelude.{ℕ, List, [], ◌++◌, length, Result, Ok, Err, codes, if◌then◌else◌}
 use Rattle.std.specs.Fmt.{decimal}
 use Rattle.std.specs.Str.{is_utf8}
 use Rattle.chpw_rules.specs.declared.config.Config.{Config}
@@ -7,6 +7,8 @@ use Rattle.chpw_config.specs.declared.fault.ConfigFault.{ConfigFault}
 use Rattle.chpw_config.specs.Faults.{no_toml, fault_text, ◌>>=◌}
 use Rattle.chpw_config.specs.Kdc.{kdc_of}
 use Rattle.chpw_config.specs.Settings.{settings_of}
+use Rattle.chpw_warnings.specs.Lines.{file_lines}
+use Rattle.chpw_warnings.specs.Rules.{config_warnings}
 use Rattle.chpw_commands.specs.declared.drill.DrillFault.{DrillFault}
 use Rattle.chpw_commands.specs.declared.drill.DrillFault.TheVariants as drill
 
@@ -37,6 +39,17 @@ line_of_check (Err fault) = fault_line fault
 abbrev pub status_of : Result Config ConfigFault → ℕ
 status_of (Ok c) = 0
 status_of (Err fault) = 1
+
+-- ---- the warnings about a configuration without a fault, a line for each
+
+abbrev pub lines_about : (file text : List ℕ) → Result Config ConfigFault → List ℕ
+lines_about file text (Ok c) = file_lines file (config_warnings text c)
+lines_about file text (Err fault) = []
+
+abbrev pub warning_lines : (file text : List ℕ) → List ℕ
+warning_lines file text = lines_about file text (checked text)
+
+-- ---- the end
 
 -- the only faults with which a check ends early
 abbrev pub IsCheckFault : DrillFault → Type 0

@@ -1,13 +1,14 @@
 //! The check of a configuration.
-ghost use Rattle.std.specs.Prelude.{◌≡◌, Err, IfOk, IfErr, is_some, string_bytes, if◌then◌else◌};
+ghost use Rattle.std.specs.Prelude.{◌≡◌, Err, IfOk, IfErr, OnOk, is_some, string_bytes, if◌then◌else◌};
 ghost use Rattle.std.specs.Io.KnownBytes.{Appends};
 ghost use Rattle.chpw_config.specs.Faults.{UnlessMemory};
-ghost use Rattle.chpw_commands.specs.Checked.{checked, whole_file, line_of_check, status_of, good_line, fault_line, IsCheckFault};
+ghost use Rattle.chpw_commands.specs.Checked.{checked, whole_file, line_of_check, lines_about, status_of, good_line, fault_line, warning_lines, IsCheckFault};
 ghost use Rattle.chpw_commands.specs.declared.drill.DrillFault.TheVariants.{Memory};
 
 use crate::drill::DrillFault;
 use chpw_config::{ConfigError, ConfigFault, explain, read_config, read_kdc};
 use chpw_rules::Config;
+use chpw_warnings::{config_warnings, put_file_warnings};
 use std::alloc::{AllocError, Global};
 use std::io::Write;
 use std::str;
@@ -48,6 +49,55 @@ pub fn explain_check(alloc: Global, text: &[u8]) -> Result<Option<String>, Alloc
         Err(ConfigError::Memory) => Err(AllocError),
         Err(ConfigError::Fault(fault)) => Ok(Some(in_words(alloc, text, fault)?)),
     }
+}
+
+/// Writes a line for each warning about the text of a configuration, behind the name of its file; none if it has a fault.
+///
+/// `Memory` if a growth was refused, and nothing is written then; `Write` if the write failed.
+pub fn warn_check<W: Write>(
+    alloc: Global,
+    file: &str,
+    text: &[u8],
+    writer: &mut W,
+) -> Result<(), DrillFault>
+    ensures written { OnOk result
+        (Appends (W.contents writer.old) (W.contents writer.new) (warning_lines file.now text.now)) }
+    ensures faults { IfErr result IsCheckFault }
+    ensures unchanged { result ≡ Err Memory → writer.new ≡ writer.old }
+{
+    let Ok(lines) = warning_lines(alloc, file, text) else {
+        return Err(DrillFault::Memory);
+    };
+    if writer.write_all(lines.as_slice()).is_err() {
+        return Err(DrillFault::Write);
+    }
+    Ok(())
+}
+
+// The lines of the warnings about the bytes.
+fn warning_lines(alloc: Global, file: &str, text: &[u8]) -> Result<Vec<u8>, AllocError>
+    ensures value { IfOk result (λ lines. lines.items ≡ warning_lines file.now text.now) }
+{
+    match str::from_utf8(text) {
+        Ok(text) => lines_about(alloc, file, text),
+        Err(_) => Ok(Vec::new(alloc)),
+    }
+}
+
+// The lines of the warnings about the text.
+fn lines_about(alloc: Global, file: &str, text: &str) -> Result<Vec<u8>, AllocError>
+    ensures value { IfOk result (λ lines. lines.items ≡ lines_about file.now text.now (whole_file text.now)) }
+{
+    let mut lines = Vec::new(alloc);
+    match read_whole(alloc, text) {
+        Err(ConfigError::Memory) => return Err(AllocError),
+        Err(ConfigError::Fault(_)) => {}
+        Ok(config) => {
+            let warnings = config_warnings(alloc, text, &config)?;
+            put_file_warnings(&mut lines, file, warnings.as_slice())?;
+        }
+    }
+    Ok(lines)
 }
 
 fn in_words(alloc: Global, text: &[u8], fault: ConfigFault) -> Result<String, AllocError> {

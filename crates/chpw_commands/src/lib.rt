@@ -4,5 +4,5 @@
 mod check;
 mod drill;
 
-pub use check::{explain_check, run_check};
+pub use check::{explain_check, run_check, warn_check};
 pub use drill::{DrillFault, run_drill};

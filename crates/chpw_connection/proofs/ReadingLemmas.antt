@@ -54,14 +54,15 @@ module _ (now : ℕ) (c d : Connection) (i j : Incoming) (bytes : List ℕ) (was
   count_behind = subst (λ (p : Phase). c.answered ≡ count_after c.answered (stage_of p) (came bytes)) (sym was) refl
 
   pub goes_on_reading : j.room ≡ whole_after i.received.items → j.begun ≡ cond (j.room == i.room) i.begun now
-      → d.answered ≡ c.answered → d.since ≡ c.since → d.number ≡ c.number → d.peer ≡ c.peer → Goes now c d (came bytes)
-  goes_on_reading room begun answered since number peer = record {
+      → d.answered ≡ c.answered → d.since ≡ c.since → d.number ≡ c.number → d.ends ≡ c.ends → d.share ≡ c.share → Goes now c d (came bytes)
+  goes_on_reading room begun answered since number ends share = record {
     stage_is = stage_after;
     count_is = answered ∙ count_behind;
     since_is = since ∙ since_behind;
     room_is = room_behind room begun;
     number = number;
-    peer = peer;
+    ends = ends;
+    share = share;
   }
 
 -- what has come of a message that isn't whole, and what is wanted of it, is all of it

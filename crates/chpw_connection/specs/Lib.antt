@@ -7,6 +7,7 @@ pub mod Late
 pub mod Lives
 pub mod Messages
 pub mod Reading
+pub mod Shares
 pub mod Slot
 pub mod Stages
 pub mod Times

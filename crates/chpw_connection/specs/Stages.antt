@@ -135,4 +135,5 @@ pub record Goes (now : ℕ) (old new : Connection) (event : Event) : Type 0 wher
   pub since_is : new.since ≡ since_after now old.since (stage old) event
   pub room_is : IsRoomBehind now event old.phase new.phase
   pub number : new.number ≡ old.number
-  pub peer : new.peer ≡ old.peer
+  pub ends : new.ends ≡ old.ends
+  pub share : new.share ≡ old.share

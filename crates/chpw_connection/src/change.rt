@@ -107,7 +107,8 @@ impl Connection {
         ensures phase { self.new.phase ≡ self.old.phase }
         ensures since { self.new.since ≡ self.old.since }
         ensures number { self.new.number ≡ self.old.number }
-        ensures peer { self.new.peer ≡ self.old.peer }
+        ensures ends { self.new.ends ≡ self.old.ends }
+        ensures share { self.new.share ≡ self.old.share }
     {
         let is_last = is_last || self.answered >= MAX_MESSAGES - 1;
         if !is_last {

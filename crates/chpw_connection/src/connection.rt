@@ -6,6 +6,7 @@ use crate::eviction::EvictionRule;
 use crate::limits::ConnectionLimits;
 use crate::message::{WholeMessage, at_most, wanted_after, whole_after};
 use crate::remembered::Remembered;
+use chpw_endpoints::{Endpoints, Peer};
 use std::alloc::{AllocError, Global};
 use std::mem;
 
@@ -81,7 +82,10 @@ pub struct Outgoing {
 #[derive(Drop)]
 pub struct Connection {
     pub number: u64,
-    pub peer: [u8; 4],
+    /// Its two addresses.
+    pub ends: Endpoints,
+    /// In whose share of the connections it counts, if in any.
+    pub share: Option<Peer>,
     pub since: u64,
     pub answered: u32,
     pub phase: Phase,
@@ -97,24 +101,43 @@ impl Connection {
     ghost use Rattle.chpw_connection.specs.Stages.{Goes, came, taken, failed, wanted_by, left_of};
     ghost use Rattle.chpw_connection.specs.Slot.{waits, queued_by, is_newly_queued};
     ghost use Rattle.chpw_connection.specs.Late.{is_late};
+    ghost use Rattle.chpw_connection.specs.Shares.{is_of_peer};
     ghost use Rattle.chpw_connection.specs.Confirming.{is_confirmed as is_confirmed_by, overdue_in};
     ghost use Rattle.chpw_connection.specs.Eviction.{gives_way as gives_way_of, is_among as is_among_of};
 
-    /// A connection that was accepted at this moment.
-    pub fn new(alloc: Global, number: u64, peer: [u8; 4], now: u64) -> Connection
+    /// A connection between these two, in this share, that was accepted at this moment.
+    pub fn new(
+        alloc: Global,
+        number: u64,
+        ends: Endpoints,
+        share: Option<Peer>,
+        now: u64,
+    ) -> Connection
         ensures stage { stage result ≡ reading [] }
         ensures number { result.number ≡ number }
-        ensures peer { result.peer ≡ peer }
+        ensures ends { result.ends ≡ ends }
+        ensures share { result.share ≡ share }
         ensures answered { result.answered ≡ 0 }
         ensures since { result.since ≡ now }
         ensures nothing { held_by result.phase ≡ 0 }
     {
         Connection {
             number,
-            peer,
+            ends,
+            share,
             since: now,
             answered: 0,
             phase: Phase::Reading(Incoming::new(alloc)),
+        }
+    }
+
+    /// Whether it counts in this peer's share.
+    pub fn is_of(&self, peer: Peer) -> bool
+        ensures value { result ≡ is_of_peer peer self.now }
+    {
+        match self.share {
+            None => false,
+            Some(own) => own.is(peer),
         }
     }
 
@@ -171,6 +194,7 @@ impl Connection {
         ensures whole { IfOk result (λ whole. whole ≡ is_newly_queued (queued_by (stage self.old)) (queued_by (stage self.new))) }
         ensures reading { OnErr result (queued_by (stage self.old) ≡ None) }
         ensures held { held_by self.new.phase ≤ held_by self.old.phase + growth_by self.old.phase }
+        ensures share { self.new.share ≡ self.old.share }
     {
         match mem::replace(&mut self.phase, Phase::Ended) {
             Phase::Reading(

@@ -5,6 +5,8 @@
 pub struct ConnectionLimits {
     /// Connections at a time, at least 1.
     pub connections: usize,
+    /// Those of one peer, at least 1.
+    pub per_peer: usize,
     /// The bytes of messages and replies that are held together.
     pub bytes: usize,
     /// How long a connection may be without a whole message, or with a reply that isn't taken.

@@ -27,7 +27,8 @@ goes_too now c d e f same goes = record {
   since_is = goes.since_is ∙ same.since_too;
   room_is = same.room_too c.phase d.phase goes.room_is;
   number = goes.number;
-  peer = goes.peer;
+  ends = goes.ends;
+  share = goes.share;
 }
 
 -- how much room there is doesn't depend on which bytes came

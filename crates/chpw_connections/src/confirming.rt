@@ -12,12 +12,14 @@ ghost use Rattle.chpw_connections.specs.Noting.{noted_by, NotesEach, IsFirstOver
 
 use crate::set::Connections;
 use chpw_connection::Change;
+use chpw_endpoints::Endpoints;
+use std::net::IpAddr;
 
 /// A reply that no longer waits although its change wasn't confirmed.
 #[derive(Clone, Copy, PartialEq, Eq, Debug, Drop)]
 pub struct Unconfirmed {
-    /// The peer: an IPv4 address, high byte first.
-    pub peer: [u8; 4],
+    /// The address that its message came from.
+    pub peer: IpAddr,
     /// The ticket of the change.
     pub ticket: u64,
 }
@@ -89,7 +91,7 @@ impl Connections {
         ensures queues { queues_of self.new ≡ queues_of self.old }
     {
         let (slot, ticket) = self.first_overdue(wait, now)?;
-        let peer = self.slots.peer(slot);
+        let peer = self.peer(slot);
         self.release(slot, now);
         Some(Unconfirmed { peer, ticket })
     }
@@ -103,9 +105,19 @@ impl Connections {
         ensures held { held_in (slots_of self.new) ≤ held_in (slots_of self.old) }
     {
         let (late, ticket) = self.first_overdue(wait, now)?;
-        let peer = self.slots.peer(late);
+        let peer = self.peer(late);
         self.fail(late);
         Some(Unconfirmed { peer, ticket })
+    }
+
+    // The address that the connection in a slot comes from.
+    fn peer(&self, slot: usize) -> IpAddr
+        ensures value { IfSome (get (slots_of self.now) slot) (λ c. result ≡ c.ends.peer) }
+    {
+        match self.slots.get(slot) {
+            None => Endpoints::LOOPBACK.peer,
+            Some(connection) => connection.ends.peer,
+        }
     }
 
     // The first slot whose reply has waited for `wait`, and its ticket.

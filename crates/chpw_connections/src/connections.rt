@@ -10,6 +10,7 @@ ghost use Rattle.chpw_connection.specs.Late.{is_late_in, Passes, is_dropped_in};
 ghost use Rattle.chpw_connections.specs.Expiry.{one_more, dropped_in, and_more};
 ghost use Rattle.chpw_connections.specs.Queues.{queues_of, queue_of, workers_of};
 ghost use Rattle.chpw_slots.specs.Waiting.{in_time, Leaves};
+ghost use Rattle.chpw_slots.specs.Shares.{count_of as count_of_peer, is_share_full as is_share_full_of};
 ghost use Rattle.chpw_connections.specs.Held.{slots_of, accepted_by, removed_by, expired_by, bounds_of, changed_of, Counts};
 ghost use Rattle.chpw_connections.specs.Rest.{Rest};
 ghost use Rattle.chpw_connections.specs.Noting.{noted_by, room_to_note, NotesEach, slot_if, slots_where};
@@ -17,6 +18,7 @@ ghost use Rattle.chpw_connection.specs.Slot.{is_gone_in, ends_closed_in};
 
 use crate::set::Connections;
 use chpw_connection::{Change, Connection, ConnectionLimits, Phase};
+use chpw_endpoints::{Endpoints, Peer};
 use chpw_slots::{Queues, Slots};
 use std::alloc::{AllocError, Global};
 use std::collections::VecDeque;
@@ -41,7 +43,7 @@ impl Connections {
         Ok(Connections {
             alloc,
             bounds,
-            slots: Slots::new(alloc, bounds.connections)?,
+            slots: Slots::new(alloc, bounds.connections, bounds.per_peer)?,
             queues: Queues::new(alloc, workers, bounds.connections)?,
             changed: VecDeque::with_capacity(alloc, bounds.connections)?,
             accepted: 0,
@@ -88,12 +90,31 @@ impl Connections {
         self.slots.len() >= self.bounds.connections
     }
 
-    /// A connection of this peer was accepted: it is in this slot, which was free. None if there are as many as
-    /// allowed, or after 18,446,744,073,709,551,615: more than can come in five hundred years.
+    /// How many connections count in this peer's share: never more than allowed.
+    pub fn count_of(&self, peer: Peer) -> usize
+        ensures value { result ≡ count_of_peer peer (slots_of self.now) }
+        ensures few { result ≤ (bounds_of self.now).per_peer }
+    {
+        self.slots.count_of(peer)
+    }
+
+    /// Whether this share has as many as allowed. What counts in none may always come.
+    pub fn is_share_full(&self, share: Option<Peer>) -> bool
+        ensures value { result ≡ is_share_full_of (bounds_of self.now).per_peer (slots_of self.now) share }
+    {
+        self.slots.is_share_full(share)
+    }
+
+    /// A connection between these two was accepted, which counts in this share, or in none: it is in this slot, which was
+    /// free. None if there are as many as allowed, in all or in this share, or after 18,446,744,073,709,551,615: more
+    /// than can come in five hundred years.
     #[tactic(auto, using(chpw_slots::proofs::HoldsLemmas::holds_accepted))]
-    pub fn accept(&mut self, peer: [u8; 4], now: u64) -> Option<usize>
-        ensures some { slab_len (slots_of self.old) < (bounds_of self.old).connections → accepted_by self.old < 18446744073709551615 → IsSome result }
-        ensures accepted { IfSome result (λ slot. IsNew peer now (accepted_by self.old) (slots_of self.old) (slots_of self.new) slot) }
+    pub fn accept(&mut self, ends: Endpoints, share: Option<Peer>, now: u64) -> Option<usize>
+        ensures some { slab_len (slots_of self.old) < (bounds_of self.old).connections
+            → is_share_full_of (bounds_of self.old).per_peer (slots_of self.old) share ≡ false
+            → accepted_by self.old < 18446744073709551615 → IsSome result }
+        ensures full { is_share_full_of (bounds_of self.old).per_peer (slots_of self.old) share ≡ true → result ≡ None }
+        ensures accepted { IfSome result (λ slot. IsNew ends share now (accepted_by self.old) (slots_of self.old) (slots_of self.new) slot) }
         ensures counts { IfSome result (λ slot. Counts self.new (accepted_by self.old + 1) (removed_by self.old)) }
         ensures expired { expired_by self.new ≡ expired_by self.old }
         ensures queues { queues_of self.new ≡ queues_of self.old }
@@ -102,10 +123,10 @@ impl Connections {
         ensures notes { noted_by self.new ≡ noted_by self.old }
         ensures unchanged { IfNone result (self.new ≡ self.old) }
     {
-        if self.is_full() || self.accepted == u64::MAX {
+        if self.is_full() || self.is_share_full(share) || self.accepted == u64::MAX {
             return None;
         }
-        let connection = Connection::new(self.alloc, self.accepted, peer, now);
+        let connection = Connection::new(self.alloc, self.accepted, ends, share, now);
         let slot = self.slots.accept(connection);
         self.accepted += 1;
         Some(slot)

@@ -3,7 +3,7 @@ ghost use Rattle.std.specs.Prelude.{◌≡◌, ◌+◌, ◌≤◌, ◌<◌, ℕ,
 ghost use Rattle.chpw_slots.specs.Slots.{held_in, Happens};
 ghost use Rattle.chpw_connection.specs.Holding.{growth_at};
 ghost use Rattle.chpw_connection.specs.Stages.{failed};
-ghost use Rattle.chpw_slots.specs.Longest.{IsLongest, NobodyWaits, has_room_besides};
+ghost use Rattle.chpw_slots.specs.Longest.{IsLongest, NobodyWaits, IsLongestOf, NobodyWaitsOf, has_room_besides};
 ghost use Rattle.chpw_connection.specs.Slot.{is_answering_in};
 ghost use Rattle.slab.specs.Slab.{get};
 ghost use Rattle.chpw_connections.specs.Room.{MakesRoom, IsNeeded, is_large_in, read_within, for_message, for_reply};
@@ -15,6 +15,7 @@ ghost use Rattle.chpw_connections.specs.Noting.{noted_by, NotesEach, NotesEnds};
 
 use crate::set::Connections;
 use chpw_connection::EvictionRule;
+use chpw_endpoints::Peer;
 
 /// A message of more bytes is a large one.
 const LARGEST_SMALL: usize = 4_096;
@@ -41,6 +42,24 @@ impl Connections {
         ensures queues { queues_of self.new ≡ queues_of self.old }
     {
         let slot = self.slots.longest_waiting()?;
+        self.fail(slot);
+        Some(slot)
+    }
+
+    /// Ends the connection that has waited longest for its client of those in this peer's share, to make room in that: its
+    /// slot, if there was one.
+    #[tactic(auto, using(chpw_slots::proofs::HoldsLemmas::longest_of_not_queued))]
+    pub fn make_room_for(&mut self, peer: Peer) -> Option<usize>
+        ensures ended { IfSome result (λ slot. IsLongestOf peer (slots_of self.old) slot
+            × Happens 0 (slots_of self.old) (slots_of self.new) slot failed) }
+        ensures nobody { IfNone result (NobodyWaitsOf peer (slots_of self.old) × (slots_of self.new ≡ slots_of self.old)) }
+        ensures noted { IfSome result (λ slot. NotesEach (noted_by self.old) (noted_by self.new) (slot ∷ [])) }
+        ensures unnoted { IfNone result (noted_by self.new ≡ noted_by self.old) }
+        ensures rest { Rest self.old self.new }
+        ensures held { held_in (slots_of self.new) ≤ held_in (slots_of self.old) }
+        ensures queues { queues_of self.new ≡ queues_of self.old }
+    {
+        let slot = self.slots.longest_of(peer)?;
         self.fail(slot);
         Some(slot)
     }

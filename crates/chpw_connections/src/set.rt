@@ -27,4 +27,6 @@ pub struct Connections {
     // Each worker's queue holds the slots whose messages wait for that worker, each once, and no others.
     ghost waiting: { Holds (lists_of queues) slots.connections },
     ghost room: { bounds.connections ≤ slots.connections.capacity },
+    // So no peer has more than its share, as `Slots` promises.
+    ghost shared: { slots.per_peer ≡ bounds.per_peer },
 }

@@ -14,18 +14,19 @@ ghost use Rattle.chpw_slots.specs.Waiting.{Becomes};
 ghost use Rattle.chpw_connections.specs.Held.{slots_of, accepted_by, removed_by, expired_by, bounds_of, Counts};
 ghost use Rattle.chpw_connections.specs.Rest.{Rest};
 ghost use Rattle.chpw_connections.specs.Noting.{noted_by, NotesEach, NotesEnds, slot_if};
-ghost use Rattle.chpw_connections.specs.Turns.{slot_of, peer_of, message_of};
+ghost use Rattle.chpw_connections.specs.Turns.{slot_of, ends_of, message_of};
 
 use crate::kdc_change::KdcChange;
 use crate::set::Connections;
 use chpw_connection::{Change, WholeMessage};
+use chpw_endpoints::Endpoints;
 
-/// A message that a worker took, with its peer. Only `Connections::take` makes one, and it is used up by what the worker
+/// A message that a worker took, with its two addresses. Only `Connections::take` makes one, and it is used up by what the worker
 /// did about it: by `answer`, `defer` or `leave_unanswered`. So each is answered once, and its reply goes to the
 /// connection that it came from. It can't be dropped.
 pub struct TakenMessage {
     slot: usize,
-    peer: [u8; 4],
+    ends: Endpoints,
     message: WholeMessage,
 }
 
@@ -37,11 +38,11 @@ impl TakenMessage {
         self.slot
     }
 
-    /// Its peer: an IPv4 address, high byte first.
-    pub fn peer(&self) -> [u8; 4]
-        ensures value { result ≡ peer_of self.now }
+    /// The two addresses of its connection.
+    pub fn ends(&self) -> Endpoints
+        ensures value { result ≡ ends_of self.now }
     {
-        self.peer
+        self.ends
     }
 
     /// Its length in four bytes, and then its bytes; of one that is too long its length alone.
@@ -78,7 +79,7 @@ impl Connections {
         ensures message { IfSome result (λ t. queued_at (get (slots_of self.old) (slot_of t)) ≡ Some (message_of t)) }
         ensures in_time { IfSome result (λ t. is_late_in (bounds_of self.old) now (get (slots_of self.old) (slot_of t)) ≡ false) }
         ensures happens { IfSome result (λ t. Happens 0 (slots_of self.old) (slots_of self.new) (slot_of t) is_taken) }
-        ensures peer { IfSome result (λ t. IfSome (get (slots_of self.old) (slot_of t)) (λ c. peer_of t ≡ c.peer)) }
+        ensures ends { IfSome result (λ t. IfSome (get (slots_of self.old) (slot_of t)) (λ c. ends_of t ≡ c.ends)) }
         ensures first { IfSome result (λ t. queue_of self.old worker ≡ slot_of t ∷ queue_of self.new worker) }
         ensures others { (other : ℕ) → other ≢ worker → queue_of self.new other ≡ queue_of self.old other }
         ensures none { IfNone result (((queue_of self.old worker ≡ []) × (self.new ≡ self.old)) ⊎ DropsLate now self.old self.new worker) }
@@ -104,19 +105,19 @@ impl Connections {
         ensures some { IsSome result }
         ensures message { IfSome result (λ t. queued_at (get (slots_of self.old) slot) ≡ Some (message_of t)) }
         ensures happens { IfSome result (λ t. (slot_of t ≡ slot) × Happens 0 (slots_of self.old) (slots_of self.new) slot is_taken) }
-        ensures peer { IfSome result (λ t. IfSome (get (slots_of self.old) slot) (λ c. peer_of t ≡ c.peer)) }
+        ensures ends { IfSome result (λ t. IfSome (get (slots_of self.old) slot) (λ c. ends_of t ≡ c.ends)) }
         ensures becomes { Becomes (queues_of self.old) (queues_of self.new) worker (drop 1 (queue_of self.old worker)) }
         ensures rest { Rest self.old self.new }
         ensures held { held_in (slots_of self.new) ≤ held_in (slots_of self.old) }
         ensures notes { noted_by self.new ≡ noted_by self.old }
     {
-        let peer = self.slots.peer(slot);
+        let ends = self.slots.ends(slot);
         let taken = self.slots.take(slot);
         self.queues.drop_first(worker);
         let message = taken?;
         Some(TakenMessage {
             slot,
-            peer,
+            ends,
             message,
         })
     }
@@ -153,7 +154,7 @@ impl Connections {
     {
         let TakenMessage {
             slot,
-            peer: _,
+            ends: _,
             message: _,
         } = taken;
         if self.find_room_to_reply(slot, reply.len(), now) {
@@ -203,7 +204,7 @@ impl Connections {
     {
         let TakenMessage {
             slot,
-            peer: _,
+            ends: _,
             message: _,
         } = taken;
         if self.find_room_to_reply(slot, reply.len(), now) {
@@ -229,7 +230,7 @@ impl Connections {
     {
         let TakenMessage {
             slot,
-            peer: _,
+            ends: _,
             message: _,
         } = taken;
         self.end_unanswered(slot, now);

@@ -1,7 +1,7 @@
 -- How an answer ends.
 use Rattle.std.proofs.Common.{◌≡◌, ℕ, ◌+◌, ◌-◌, ◌<◌, List, [], ◌∷◌, ◌++◌, length, take, Bool, true, false}
 use Rattle.std.proofs.Common.{◌&&◌, ◌||◌, not, cond, inl, inr, ◌⊎◌, suc, zero, codes, refl, sym, ◌∙◌, ap}
-use Rattle.std.proofs.Common.{subst, append_assoc, arith, length-append, nat_eq, Result, Ok, Err, OnOk, is_ok}
+use Rattle.std.proofs.Common.{subst, append_assoc, arith, length-append, nat_eq, Option, Some, None, Result, Ok, Err, OnOk, is_ok}
 use Rattle.std.specs.Prelude.{◌==◌}
 use Rattle.std.specs.List.{ends_with, list_any}
 use Rattle.std.specs.Str.{bytes_eq}
@@ -14,9 +14,10 @@ use Rattle.chpw_printing.specs.Quoting.{are_printed, is_field, words_text}
 use Rattle.chpw_printing.proofs.QuotingLemmas.{graphic_printed}
 use Rattle.chpw_control.specs.declared.status.KdcState.{KdcState}
 use Rattle.chpw_control.specs.declared.status.KdcState.TheVariants.{Absent, Connected, Down}
-use Rattle.chpw_control.specs.declared.status.JournalState.{JournalState}
-use Rattle.chpw_control.specs.declared.status.JournalState.TheVariants.{Good, Failed}
-use Rattle.chpw_control.specs.Statuses.{journal_word, kdc_word, row}
+use Rattle.chpw_control.specs.declared.status.NameState.{NameState}
+use Rattle.chpw_control.specs.declared.status.NameState.TheVariants as name
+use Rattle.chpw_control.specs.declared.time.Time.{Time}
+use Rattle.chpw_control.specs.Statuses.{kdc_word, name_word, quiet_words, row}
 use Rattle.chpw_control.specs.Answers.{lines_text, ok_line, error_line, ended_ok}
 use Rattle.chpw_control.specs.Dialogs.{is_newline, is_whole}
 use Rattle.chpw_control.specs.Endings.{is_line, are_lines, EndsWell, CutOff, EndsBadly}
@@ -279,9 +280,15 @@ and_line name value more h k rest = and_from _ _ (row_line name value h k) rest
 pub and_lines : (lines more : List (List ℕ)) → are_lines lines ≡ true → are_lines more ≡ true → are_lines (lines ++ more) ≡ true
 and_lines lines more h k = list_all-append is_line lines more ∙ and_from _ _ h k
 
-pub journal_plain : (journal : JournalState) → is_whole (journal_word journal) ≡ false
-journal_plain Good = refl
-journal_plain Failed = refl
+pub name_plain : (state : NameState) → is_whole (name_word state) ≡ false
+name_plain name.Absent = refl
+name_plain name.Kept = refl
+name_plain name.Gone = refl
+name_plain name.Elsewhere = refl
+
+pub quiet_plain : (until : Option Time) → is_whole (quiet_words until) ≡ false
+quiet_plain None = refl
+quiet_plain (Some until) = refl
 
 pub kdc_plain : (kdc : KdcState) → is_whole (kdc_word kdc) ≡ false
 kdc_plain Absent = refl

@@ -7,6 +7,8 @@ use Rattle.chpw_printing.specs.Quoting.{words_text}
 use Rattle.chpw_printing.specs.Times.{time_text}
 use Rattle.chpw_control.specs.declared.status.JournalState.{JournalState}
 use Rattle.chpw_control.specs.declared.status.JournalState.TheVariants.{Good, Failed}
+use Rattle.chpw_control.specs.declared.status.NameState.{NameState}
+use Rattle.chpw_control.specs.declared.status.NameState.TheVariants as name
 use Rattle.chpw_control.specs.declared.status.KdcState.{KdcState}
 use Rattle.chpw_control.specs.declared.status.KdcState.TheVariants.{Absent, Connected, Down}
 use Rattle.chpw_control.specs.declared.status.Status.{Status}
@@ -25,9 +27,22 @@ AreTold s = IsTold s.since × ForSome s.quiet_until IsTold × ForSome s.kdc_sinc
 abbrev pub text_of : Time → List ℕ
 text_of t = time_text t.seconds t.micros
 
-abbrev pub journal_word : JournalState → List ℕ
-journal_word Good = codes "good"
-journal_word Failed = codes "failed"
+-- what no change is accepted for, behind `failed`
+abbrev pub journal_text : JournalState → List ℕ
+journal_text Good = codes "good"
+journal_text (Failed why) = codes "failed: " ++ words_text why.now
+
+-- whether a name leads to the file that is open
+abbrev pub name_word : NameState → List ℕ
+name_word name.Absent = codes "-"
+name_word name.Kept = codes "good"
+name_word name.Gone = codes "gone"
+name_word name.Elsewhere = codes "elsewhere"
+
+-- why requests are refused while a quiet time lasts
+abbrev pub quiet_words : Option Time → List ℕ
+quiet_words None = codes "-"
+quiet_words (Some until) = codes "requests are refused after a start; the clients' clocks are not at fault"
 
 abbrev pub kdc_word : KdcState → List ℕ
 kdc_word Absent = codes "none"
@@ -44,6 +59,7 @@ service_lines s =
     row (codes "version") (words_text s.version.now)
     ∷ row (codes "since") (text_of s.since)
     ∷ row (codes "quiet-until") (option_map_or text_of s.quiet_until (codes "-"))
+    ∷ row (codes "quiet-reason") (quiet_words s.quiet_until)
     ∷ row (codes "principals") (decimal s.principals)
     ∷ row (codes "iterations") (decimal s.iterations)
     ∷ []
@@ -77,8 +93,10 @@ worker_lines s =
 abbrev pub keeping_lines : Status → List (List ℕ)
 keeping_lines s =
     row (codes "journal-bytes") (decimal s.journal_bytes)
-    ∷ row (codes "journal") (journal_word s.journal)
+    ∷ row (codes "journal") (journal_text s.journal)
+    ∷ row (codes "journal-name") (name_word s.journal_name)
     ∷ row (codes "log-lost") (decimal s.log_lost)
+    ∷ row (codes "log-name") (name_word s.log_name)
     ∷ []
 
 abbrev pub kdc_lines : Status → List (List ℕ)

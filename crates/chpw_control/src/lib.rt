@@ -21,6 +21,6 @@ pub use command::Command;
 pub use dialog::Dialog;
 pub use fault::ControlFault;
 pub use file_name::FileName;
-pub use status::{JournalState, KdcState, Status};
+pub use status::{JournalState, KdcState, NameState, Status};
 pub use telling::status_answer;
 pub use time::Time;

@@ -1,15 +1,27 @@
 //! The state of the service.
 ghost use Rattle.std.specs.Prelude.{◌≡◌};
-ghost use Rattle.chpw_control.specs.Statuses.{journal_word, kdc_word};
+ghost use Rattle.chpw_control.specs.Statuses.{kdc_word, name_word};
 
 use crate::time::Time;
 
 /// Whether changes can be written to the journal.
 #[derive(Clone, Copy, Drop)]
-pub enum JournalState {
+pub enum JournalState<'a> {
     Good,
-    /// An append has failed, and no change is accepted.
-    Failed,
+    /// An append has failed, for this reason, and no change is accepted.
+    Failed(&'a str),
+}
+
+/// Whether the name of a file that the service has open still leads to it.
+#[derive(Clone, Copy, PartialEq, Eq, Drop)]
+pub enum NameState {
+    /// There is no such file.
+    Absent,
+    Kept,
+    /// It leads to no file, or to none that can be examined.
+    Gone,
+    /// It leads to another file.
+    Elsewhere,
 }
 
 /// Whether the agent at the KDC's database can be asked.
@@ -52,9 +64,11 @@ pub struct Status<'a> {
     pub busy: u64,
     pub queue: u64,
     pub journal_bytes: u64,
-    pub journal: JournalState,
+    pub journal: JournalState<'a>,
+    pub journal_name: NameState,
     /// The lines of the log that couldn't be written.
     pub log_lost: u64,
+    pub log_name: NameState,
     pub kdc: KdcState,
     /// Since when there is a connection to the agent, or none.
     pub kdc_since: Option<Time>,
@@ -64,13 +78,15 @@ pub struct Status<'a> {
     pub kdc_refused: Option<&'a [u8]>,
 }
 
-impl JournalState {
+impl NameState {
     pub(crate) fn word(self) -> &'static str
-        ensures value { result.now ≡ journal_word self }
+        ensures value { result.now ≡ name_word self }
     {
         match self {
-            JournalState::Good => "good",
-            JournalState::Failed => "failed",
+            NameState::Absent => "-",
+            NameState::Kept => "good",
+            NameState::Gone => "gone",
+            NameState::Elsewhere => "elsewhere",
         }
     }
 }

@@ -7,10 +7,10 @@ ghost use Rattle.chpw_control.specs.Answers.{lines_text, ok_line};
 ghost use Rattle.chpw_control.specs.Dialogs.{is_whole};
 ghost use Rattle.chpw_control.specs.Endings.{are_lines};
 ghost use Rattle.chpw_control.specs.Statuses.{AreTold, IsTold, connection_lines, history_lines, kdc_lines, keeping_lines};
-ghost use Rattle.chpw_control.specs.Statuses.{refused_text, row, service_lines, status_lines, text_of, worker_lines};
+ghost use Rattle.chpw_control.specs.Statuses.{journal_text, quiet_words, refused_text, row, service_lines, status_lines, text_of, worker_lines};
 
 use crate::answer::put_ok;
-use crate::status::Status;
+use crate::status::{JournalState, Status};
 use crate::time::Time;
 use chpw_printing::{put_number, put_time, put_words};
 use std::alloc::{AllocError, Global};
@@ -40,6 +40,7 @@ fn put_service(text: &mut Vec<u8>, status: &Status<'_>) -> Result<(), AllocError
     put_version(text, status.version)?;
     put_since(text, status.since)?;
     put_moment(text, "quiet-until", status.quiet_until)?;
+    put_word(text, "quiet-reason", quiet_words(status.quiet_until))?;
     put_count(text, "principals", status.principals)?;
     put_count(text, "iterations", status.iterations)
 }
@@ -81,8 +82,10 @@ fn put_keeping(text: &mut Vec<u8>, status: &Status<'_>) -> Result<(), AllocError
     ensures lines { OnOk result (are_lines (keeping_lines status.now) ≡ true) }
 {
     put_count(text, "journal-bytes", status.journal_bytes)?;
-    put_word(text, "journal", status.journal.word())?;
-    put_count(text, "log-lost", status.log_lost)
+    put_journal(text, status.journal)?;
+    put_word(text, "journal-name", status.journal_name.word())?;
+    put_count(text, "log-lost", status.log_lost)?;
+    put_word(text, "log-name", status.log_name.word())
 }
 
 fn put_kdc(text: &mut Vec<u8>, status: &Status<'_>) -> Result<(), AllocError>
@@ -132,6 +135,48 @@ fn put_moment(text: &mut Vec<u8>, name: &str, time: Option<Time>) -> Result<(), 
     put_until(text, time)?;
     text.push(b'\n')?;
     Ok(())
+}
+
+// Why requests are refused while a quiet time lasts, up to this moment; `-` without one.
+fn quiet_words(until: Option<Time>) -> &'static str
+    ensures value { result.now ≡ quiet_words until }
+{
+    match until {
+        None => "-",
+        Some(_) => "requests are refused after a start; the clients' clocks are not at fault",
+    }
+}
+
+// Puts the line of the journal's state at the end.
+fn put_journal(text: &mut Vec<u8>, journal: JournalState<'_>) -> Result<(), AllocError>
+    ensures value { OnOk result (text.new.items
+        ≡ text.old.items ++ lines_text (row (codes "journal") (journal_text journal.entry) ∷ [])) }
+    ensures plain { OnOk result (is_whole (journal_text journal.entry) ≡ false) }
+{
+    text.extend_from_slice(b"journal ")?;
+    put_journal_state(text, journal)?;
+    text.push(b'\n')?;
+    Ok(())
+}
+
+// Puts the journal's state at the end.
+fn put_journal_state(text: &mut Vec<u8>, journal: JournalState<'_>) -> Result<(), AllocError>
+    ensures value { OnOk result (text.new.items ≡ text.old.items ++ journal_text journal.entry) }
+    ensures plain { OnOk result (is_whole (journal_text journal.entry) ≡ false) }
+{
+    match journal {
+        JournalState::Good => text.extend_from_slice(b"good"),
+        JournalState::Failed(why) => put_failure(text, why),
+    }
+}
+
+// Puts `failed` and the reason at the end.
+fn put_failure(text: &mut Vec<u8>, why: &str) -> Result<(), AllocError>
+    ensures value { OnOk result (text.new.items ≡ text.old.items ++ (codes "failed: " ++ words_text why.now)) }
+    ensures plain { OnOk result (is_whole (words_text why.now) ≡ false) }
+{
+    text.extend_from_slice(b"failed: ")?;
+    put_words(text, why.as_bytes())
 }
 
 // Puts the line of the last refusal at the end, or of `-`.

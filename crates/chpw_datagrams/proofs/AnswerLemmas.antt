@@ -1,5 +1,5 @@
 -- What is kept of what was answered.
-use Rattle.std.proofs.Common.{◌≡◌, ℕ, zero, suc, ◌+◌, ◌-◌, ◌<◌, ◌≤◌, List, [], ◌∷◌, ◌++◌, length}
+use Rattle.std.proofs.Common.{◌≡◌, ◌==◌, ℕ, zero, suc, ◌+◌, ◌-◌, ◌<◌, ◌≤◌, List, [], ◌∷◌, ◌++◌, length}
 use Rattle.std.proofs.Common.{take, Bool, true, false, ◌&&◌, cond, Option, Some, None, refl, sym}
 use Rattle.std.proofs.Common.{◌∙◌, ap, subst, append_assoc, arith, nat_lt, nat_le, nat_eq}
 use borrow.Author.Tests.{ltb-true, ltb-false}
@@ -12,7 +12,9 @@ use Rattle.std.proofs.lemmas.Slice.Eq.{bytes_eq-Decides}
 use Rattle.std.proofs.lemmas.Bool.Decides.{Decides-eqb}
 use Rattle.std.proofs.Math.Seq.{take-append-add}
 use Rattle.chpw_datagrams.specs.declared.sender.Sender.{Sender}
-use Rattle.chpw_datagrams.specs.Senders.{is_same_sender}
+use Rattle.chpw_datagrams.specs.Senders.{is_same_address, is_same_sender}
+use Rattle.std.specs.declared.net.ip_addr.IpAddr.TheVariants.{V4, V6}
+use Rattle.std.specs.declared.net.ip_addr.IpAddr.{IpAddr}
 use Rattle.chpw_datagrams.specs.Answers.{Answer, is_recent, is_for, size_of, bytes_of, within, after_keep, reply_for}
 use Rattle.chpw_datagrams.specs.Laws.{kept_behind, WasGiven, GivenAgain, IsRemembered}
 use Rattle.chpw_datagrams.proofs.WithinLemmas.{bytes-cons, bytes-filter, within-fits, within-append}
@@ -102,13 +104,37 @@ all_given done kept (b ∷ rest) e =
     subst (λ (xs : List Answer). Each (Given xs) (kept_behind (after_keep kept b) rest)) (append_assoc done (b ∷ []) rest)
     (all_given (done ++ b ∷ []) (after_keep kept b) rest next)
 
+same_address : (a b : IpAddr) → is_same_address a b ≡ true → a ≡ b
+same_address (V4 a) (V4 b) h =
+    let of : List ℕ → IpAddr = λ o. V4 (record { octets = o }) in
+    ap of ((bytes_eq-Decides a.octets b.octets).0 h)
+same_address (V6 a) (V6 b) h =
+    let of : List ℕ → IpAddr = λ s. V6 (record { segments = s }) in
+    ap of ((bytes_eq-Decides a.segments b.segments).0 h)
+same_address (V4 a) (V6 b) h = cc
+same_address (V6 a) (V4 b) h = cc
+
+own_address : (a : IpAddr) → is_same_address a a ≡ true
+own_address (V4 a) = (bytes_eq-Decides a.octets a.octets).1 refl
+own_address (V6 a) = (bytes_eq-Decides a.segments a.segments).1 refl
+
 same_sender : (a b : Sender) → is_same_sender a b ≡ true → a ≡ b
 same_sender a b h =
-    let at : List ℕ → Sender = λ address. record { address = address; port = a.port } in
-    let on : ℕ → Sender = λ port. record { address = b.address; port = port } in
-    let address : a.address ≡ b.address = (bytes_eq-Decides a.address b.address).0 (first_true (bytes_eq a.address b.address) (nat_eq a.port b.port) h) in
-    let port : a.port ≡ b.port = (Decides-eqb a.port b.port).0 (second_true (bytes_eq a.address b.address) (nat_eq a.port b.port) h) in
-    ap at address ∙ ap on port
+    let own : Bool = is_same_address a.ends.local b.ends.local in
+    let rest : (own && (a.port == b.port)) ≡ true = second_true (is_same_address a.ends.peer b.ends.peer) (own && (a.port == b.port)) h in
+    let peer : a.ends.peer ≡ b.ends.peer =
+    same_address a.ends.peer b.ends.peer (first_true (is_same_address a.ends.peer b.ends.peer) (own && (a.port == b.port)) h) in
+    let local : a.ends.local ≡ b.ends.local = same_address a.ends.local b.ends.local (first_true own (nat_eq a.port b.port) rest) in
+    let port : a.port ≡ b.port = (Decides-eqb a.port b.port).0 (second_true own (nat_eq a.port b.port) rest) in
+    let from : IpAddr → Sender = λ x. record { ends = record { peer = x; local = a.ends.local }; port = a.port } in
+    let to : IpAddr → Sender = λ x. record { ends = record { peer = b.ends.peer; local = x }; port = a.port } in
+    let on : ℕ → Sender = λ n. record { ends = b.ends; port = n } in
+    ap from peer ∙ (ap to local ∙ ap on port)
+
+own_sender : (a : Sender) → is_same_sender a a ≡ true
+own_sender a =
+    both_true (is_same_address a.ends.peer a.ends.peer) (is_same_address a.ends.local a.ends.local && (a.port == a.port)) (own_address a.ends.peer)
+    (both_true (is_same_address a.ends.local a.ends.local) (nat_eq a.port a.port) (own_address a.ends.local) ((Decides-eqb a.port a.port).1 refl))
 
 given_so : (answers : List Answer) (sender : Sender) (message : List ℕ) (now : ℕ) (a : Answer) → Given answers a
     → (is_for sender message a && is_recent now a) ≡ true → WasGiven answers sender message a.reply now
@@ -229,8 +255,7 @@ is_remembered before later a now recent ascending few few_bytes =
     let p : Answer → Bool = λ b. is_for a.sender a.message b && is_recent now b in
     let same : is_for a.sender a.message a ≡ true =
     both_true (is_same_sender a.sender a.sender) (bytes_eq a.message a.message)
-    (both_true (bytes_eq a.sender.address a.sender.address) (nat_eq a.sender.port a.sender.port)
-    ((bytes_eq-Decides a.sender.address a.sender.address).1 refl) ((Decides-eqb a.sender.port a.sender.port).1 refl))
+    (own_sender a.sender)
     ((bytes_eq-Decides a.message a.message).1 refl) in
     let passes : p a ≡ true = both_true (is_for a.sender a.message a) (is_recent now a) same (less_true (now - a.moment) 5000 recent) in
     let all : kept_behind [] (before ++ a ∷ later) ≡ s.front ++ a ∷ s.rest = behind_append [] before (a ∷ later) ∙ s.parts in

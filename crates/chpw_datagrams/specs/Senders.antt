@@ -1,6 +1,9 @@
 -- Which datagrams are answered. One has a whole message (RFC 3244 section 2), without the length that it has over TCP.
 use Rattle.std.specs.Prelude.{◌≡◌, ℕ, List, Bool, true, false, ◌&&◌, ◌||◌, ◌==◌, is_none}
 use Rattle.std.specs.Str.{bytes_eq}
+use Rattle.std.specs.Net.Addr.{ipv4_octets, ipv6_segments}
+use Rattle.std.specs.declared.net.ip_addr.IpAddr.{IpAddr}
+use Rattle.std.specs.declared.net.ip_addr.IpAddr.TheVariants.{V4, V6}
 use Rattle.krb_codec.specs.Grammar.{Spells}
 use Rattle.krb_der.specs.Types.{ap_req}
 use Rattle.krb_der.specs.Values.{ap_req_value}
@@ -13,8 +16,14 @@ use Rattle.chpw_datagrams.specs.declared.sender.Sender.{Sender}
 abbrev pub kpasswd_port : ℕ
 kpasswd_port = 464
 
+abbrev pub is_same_address : IpAddr → IpAddr → Bool
+is_same_address (V4 a) (V4 b) = bytes_eq (ipv4_octets a) (ipv4_octets b)
+is_same_address (V6 a) (V6 b) = bytes_eq (ipv6_segments a) (ipv6_segments b)
+is_same_address _ _ = false
+
 abbrev pub is_same_sender : Sender → Sender → Bool
-is_same_sender a b = bytes_eq a.address b.address && (a.port == b.port)
+is_same_sender a b =
+    is_same_address a.ends.peer b.ends.peer && (is_same_address a.ends.local b.ends.local && (a.port == b.port))
 
 -- it was sent by a service, this one or another: two services would answer each other without end
 abbrev pub is_from_service : ℕ → Sender → Bool

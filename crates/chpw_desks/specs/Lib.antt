@@ -1,5 +1,6 @@
 pub mod Filled
 pub mod Following
+pub mod Keeping
 pub mod Orders
 pub mod ServiceRuns
 pub mod Staff

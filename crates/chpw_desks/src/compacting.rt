@@ -4,7 +4,7 @@ ghost use Rattle.chpw_book.specs.Starting.{table_of, workers_of};
 ghost use Rattle.chpw_reload.specs.Compacting.{GoesWith};
 ghost use Rattle.chpw_orders.specs.Answers.{replaced_lines, Tells};
 ghost use Rattle.chpw_desks.specs.Following.{reopened};
-ghost use Rattle.chpw_orders.specs.Replacing.{compact_text};
+ghost use Rattle.chpw_orders.specs.Replacing.{text_behind};
 ghost use Rattle.chpw_orders.specs.declared.replacing.NotReplaced.TheVariants.{Unsafe};
 ghost use Rattle.chpw_start.specs.declared.fault.ServeFault.TheVariants.{Memory};
 
@@ -53,7 +53,7 @@ pub(crate) fn compact<
         rt,
         path: hall.options.journal,
     };
-    let replaced = replace(rt, hall, &mut place, &compaction.base, &table, &mut sink);
+    let replaced = replace(rt, hall, &mut place, &compaction, &table, &mut sink);
     if !matches!(replaced, Ok(()) | Err(NotReplaced::Unsafe)) {
         let _ = fs::remove_file(rt, compaction.copy.as_str());
     }
@@ -74,18 +74,26 @@ fn replace<'l, R: Wait + Clock + Eprint + AllocGlobal, P: JournalPlace>(
     rt: &R,
     hall: &ServiceContext<'l, R>,
     place: &mut P,
-    base: &Table,
+    compaction: &Compaction,
     held: &Table,
     sink: &mut FileSink<File>,
 ) -> Result<(), NotReplaced>
-    ensures written { OnOk result (P.takes place.old (compact_text base.now.state held.now.state) place.new) }
-    ensures goes_with { OnOk result (GoesWith base.now.state held.now.state) }
+    ensures written { OnOk result (P.takes place.old (text_behind compaction.now.heading.items compaction.now.base.state held.now.state) place.new) }
+    ensures goes_with { OnOk result (GoesWith compaction.now.base.state held.now.state) }
     ensures safe { OnOk result (sink.new.is_unsafe ≡ false) }
     ensures unchanged { IfErr result (λ why. why ≢ Unsafe → sink.new ≡ sink.old) }
     ensures failed { ⟦<FileSink<File> as JournalSink>⟧.failed sink.new ≡ ⟦<FileSink<File> as JournalSink>⟧.failed sink.old }
 {
     let present = hall.journal.bytes();
-    let text = match text_to_write(rt.alloc(), hall.log.has_failed(), present, base, held) {
+    let Compaction { base, heading, .. } = compaction;
+    let text = match text_to_write(
+        rt.alloc(),
+        hall.log.has_failed(),
+        present,
+        heading,
+        base,
+        held,
+    ) {
         Ok(text) => text,
         Err(why) => return Err(why),
     };

@@ -15,6 +15,7 @@ ghost use Rattle.chpw_start.specs.declared.fault.ServeFault.TheVariants.{Memory}
 use crate::closing::{Left, abandon_refused, left_by};
 use crate::compacting::compact;
 use crate::context::ServiceContext;
+use crate::keeping::keep_where_asked;
 use crate::openings::{Opened, Opening, next_opening, start_desk};
 use crate::orders::{AfterClose, Orders};
 use crate::reloading::reload;
@@ -40,7 +41,7 @@ use std::time::Clock;
 /// Answers the messages of the engine's connections at this desk, and then at one after the other, until none will come
 /// any more. When a history is full, its desk is closed and the next one opens with the closed table; when the
 /// configuration was reloaded, with the reload of it. The workers go from each desk to the next. The table of the last desk is
-/// returned.
+/// returned; before that it is left to the next start, in the resume file, if there is to be one.
 #[tactic(auto, using(crate::proofs::ServiceRunLemmas::run_begins, crate::proofs::ServiceRunLemmas::run_leads))]
 pub fn serve_histories<
     'a,
@@ -75,6 +76,7 @@ pub fn serve_histories<
     } = serve_desk(rt, time, hall, &rules, workers, first, &mut reported)?;
     for _ in rt.forever() {
         if served.is_over {
+            keep_where_asked(rt, hall, &served.table, &served.sink);
             return Ok(served.into_table(rt, &hall.engine));
         }
         let opening = further_opening(rt, time, hall, &mut rules, served)?;

@@ -1,19 +1,17 @@
-//! How long a service's journal is.
+//! What others read of a service's journal: how long it is.
 ghost use Rattle.std.specs.Prelude.{◌≡◌, IfErr};
 ghost use Rattle.chpw_start.specs.Faults.{IsOfJournal};
 
-use chpw_journal::FileSink;
+use chpw_journal::{FileSink, JournalMarks};
 use chpw_start::{ServeFault, unread_fault};
 use chpw_table::JournalSink;
-use std::alloc::Global;
+use std::alloc::{AllocError, Global};
 use std::fs::File;
-use std::sync::Arc;
-use std::sync::atomic::{AtomicU64, Ordering};
 
-/// How long the journal is on the disk.
+/// How long the journal is on the disk, with the rest of its marks.
 #[derive(Drop)]
 pub struct JournalLength {
-    end: Arc<AtomicU64>,
+    marks: JournalMarks,
 }
 
 /// The length of the journal at a path, which this sink appends to.
@@ -26,7 +24,7 @@ pub fn journal_length<'a>(
     ensures fault { IfErr result (IsOfJournal path.now) }
 {
     match sink.show_end(alloc) {
-        Ok(end) => Ok(JournalLength { end }),
+        Ok(marks) => Ok(JournalLength { marks }),
         Err(error) => Err(unread_fault(path, error)),
     }
 }
@@ -34,6 +32,11 @@ pub fn journal_length<'a>(
 impl JournalLength {
     /// In bytes.
     pub fn bytes(&self) -> u64 {
-        self.end.load(Ordering::SeqCst)
+        self.marks.bytes()
+    }
+
+    /// What else is read of the journal, for another reader.
+    pub fn marks(&self) -> Result<JournalMarks, AllocError> {
+        self.marks.share()
     }
 }

@@ -7,6 +7,7 @@ mod compacting;
 mod context;
 mod histories;
 mod journals;
+mod keeping;
 pub mod laws;
 mod openings;
 mod orders;

@@ -20,6 +20,7 @@ use chpw_rules::Name;
 use chpw_serve::Clock as _;
 use chpw_start::{Rules, ServeFault};
 use chpw_table::{JournalSink, Table};
+use chpw_warnings::Warning;
 use chpw_workers::MachineClock;
 use std::alloc::Global;
 use std::fs::File;
@@ -52,12 +53,13 @@ pub(crate) fn reload<'a, 'l, R: Wait + Clock + Eprint + AllocGlobal, T: Clock>(
         rest,
         rules: next_rules,
         names,
+        warnings,
     } = anew;
     match made_anew(rt.alloc(), renewed, rest, table) {
         Ok(Reloaded { table, lacked }) => {
             *rules = next_rules;
             tell_reloaded(rt, time, hall, &table, &lacked);
-            let answer = reloaded_answer(rt.alloc(), &lacked);
+            let answer = reloaded_answer(rt.alloc(), &warnings, &lacked);
             hall.engine.hold_table(rt, &table, names);
             hall.engine.answer_order(rt, order, answer);
             Ok(Opening {
@@ -90,11 +92,11 @@ fn made_anew(
     finish(alloc, renewed.into_renewal(), rest, closed)
 }
 
-// The answer to the order when it is reloaded, by which these principals were lacked.
-fn reloaded_answer(alloc: Global, lacked: &[Name]) -> Vec<u8>
-    ensures tells { Tells (reloaded_lines lacked.now) result.items }
+// The answer to the order when a configuration is reloaded that has these warnings and lacks these principals.
+fn reloaded_answer(alloc: Global, warnings: &[Warning], lacked: &[Name]) -> Vec<u8>
+    ensures tells { Tells (reloaded_lines warnings.now lacked.now) result.items }
 {
-    answer_or_empty(alloc, reload_answer(alloc, lacked))
+    answer_or_empty(alloc, reload_answer(alloc, warnings, lacked))
 }
 
 // The answer to the order when the reload is refused.

@@ -1,5 +1,5 @@
 -- What the program writes when no keys can be written, and which faults come from where.
-use Rattle.std.specs.Prelude.{◌≡◌, ◌⊎◌, ℕ, List, ◌++◌, codes, false, None, Err}
+use Rattle.std.specs.Prelude.{◌≡◌, ◌⊎◌, ◌&&◌, ℕ, nat_eq, Bool, List, ◌++◌, length, codes, true, false, None, Err}
 use Rattle.std.specs.Fmt.{decimal}
 use Rattle.std.specs.List.{list_all}
 use Rattle.krb_keytab.specs.declared.fault.KeytabFault.{KeytabFault}
@@ -13,9 +13,11 @@ use Rattle.chpw_invocation.specs.declared.invocation.ImportOptions.{ImportOption
 use Rattle.chpw_invocation.specs.declared.invocation.KeyOptions.{KeyOptions}
 use Rattle.chpw_import.specs.declared.fault.KeysFault.{KeysFault}
 use Rattle.chpw_import.specs.declared.fault.KeysFault.TheVariants.{BadName, CannotRead, Keytab, EmptyPassword, CannotPrint, Memory}
-use Rattle.chpw_import.specs.declared.fault.KeysFault.TheVariants.{Unconnected, Unanswered, Kdc, Patterns, NoPrincipal}
+use Rattle.chpw_import.specs.declared.fault.KeysFault.TheVariants.{Unconnected, Unanswered, Kdc, Patterns, NoPrincipal, NoKey}
 use Rattle.chpw_config.specs.Faults.{fault_text}
 use Rattle.chpw_import.specs.KdcLists.{fault_words}
+use Rattle.chpw_import.specs.Keytabs.{IsBrought}
+use Rattle.chpw_import.specs.declared.keytab.KeytabImport.{KeytabImport}
 
 abbrev pub keytab_text : KeytabFault → List ℕ
 keytab_text NotKeytab = codes "not a keytab of format 0x0502"
@@ -33,6 +35,7 @@ line_of (Unanswered socket) = socket.now ++ codes ": the connection failed"
 line_of (Kdc socket fault) = socket.now ++ codes ": " ++ fault_words fault
 line_of (Patterns file fault) = file.now ++ codes ": " ++ fault_text fault
 line_of (NoPrincipal socket) = socket.now ++ codes ": no principal is imported"
+line_of (NoKey file) = file.now ++ codes ": no key is imported"
 line_of CannotPrint = codes "cannot write"
 line_of Memory = codes "memory"
 
@@ -60,6 +63,20 @@ IsOfBytes path bytes (Keytab file fault) = (file.now ≡ path) × (keytab bytes 
 IsOfBytes path bytes Memory = Unit {0}
 IsOfBytes path bytes fault = ⊥
 
+-- neither a key of the service nor one of a principal is imported
+abbrev pub brings_none : KeytabImport → Bool
+brings_none b = nat_eq (length b.service.items) 0 && nat_eq (length b.principals.items) 0
+
+abbrev pub IsNone : List ℕ → KeytabImport → KeysFault → Type 0
+IsNone path b (NoKey file) = (file.now ≡ path) × (brings_none b ≡ true)
+IsNone path b fault = ⊥
+
+-- the same, of the keys that a keytab with these bytes has of the realm
+abbrev pub BringsNone : ImportOptions → List ℕ → KeysFault → Type 0
+BringsNone o bytes (NoKey file) = (file.now ≡ o.keytab.now)
+    × ((b : KeytabImport) × IsBrought bytes o.realm.now o.iterations b × (brings_none b ≡ true))
+BringsNone o bytes fault = ⊥
+
 -- the fault of a password's bytes: there are none
 abbrev pub IsOfPassword : List ℕ → List ℕ → KeysFault → Type 0
 IsOfPassword path bytes (EmptyPassword file) = (file.now ≡ path) × HoldsNoPassword bytes
@@ -76,12 +93,13 @@ IsOfName text fault = ⊥
 abbrev pub IsEarly : KeysFault → Type 0
 IsEarly CannotPrint = ⊥
 IsEarly (NoPrincipal socket) = ⊥
+IsEarly (NoKey file) = ⊥
 IsEarly fault = Unit {0}
 
 -- a fault of `import`
 abbrev pub IsOfImport : ImportOptions → KeysFault → Type 0
 IsOfImport o fault = IsUnread o.keytab.now fault
-    ⊎ (((bytes : List ℕ) × IsOfBytes o.keytab.now bytes fault) ⊎ IsLate fault)
+    ⊎ (((bytes : List ℕ) × (IsOfBytes o.keytab.now bytes fault ⊎ BringsNone o bytes fault)) ⊎ IsLate fault)
 
 -- a fault of `key`
 abbrev pub IsOfKey : KeyOptions → KeysFault → Type 0

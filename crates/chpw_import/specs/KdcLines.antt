@@ -1,11 +1,11 @@
 -- The lines about a KDC's principals that aren't imported.
 use Rattle.std.specs.Prelude.{ℕ, List, [], ◌∷◌, ◌++◌, length, codes}
-use Rattle.std.specs.Fmt.{decimal}
 use Rattle.chpw_printing.specs.Quoting.{name_text}
 use Rattle.chpw_kdc.specs.declared.answer.Reason.TheVariants as reason
 use Rattle.chpw_import.specs.declared.kdc.choosing.LeftName.{LeftName}
 use Rattle.chpw_import.specs.declared.kdc.choosing.LeftReason.{LeftReason}
 use Rattle.chpw_import.specs.declared.kdc.choosing.LeftReason.TheVariants.{Untold, NotOurs, BadName, NoVersion, TooMany}
+use Rattle.chpw_import.specs.Counts.{count_line}
 use Rattle.chpw_import.specs.KdcChoices.{Choice}
 
 abbrev pub reason_words : LeftReason → List ℕ
@@ -26,9 +26,6 @@ left_line socket left = socket ++ codes ": skipped: " ++ name_text left.name ++ 
 abbrev pub left_lines : List ℕ → List LeftName → List ℕ
 left_lines socket [] = []
 left_lines socket (l ∷ left) = left_line socket l ++ left_lines socket left
-
-abbrev pub count_line : ℕ → ℕ → List ℕ
-count_line imported left = codes "imported " ++ decimal imported ++ codes ", not imported " ++ decimal left ++ codes "\n"
 
 abbrev pub told : List ℕ → Choice → List ℕ
 told socket c = left_lines socket c.left ++ count_line (length c.principals) (length c.left)

@@ -1,5 +1,5 @@
 -- The lines about the skipped entries.
-use Rattle.std.specs.Prelude.{ℕ, ℤ, pos, negsuc, ◌==◌, if◌then◌else◌, List, [], ◌∷◌, ◌++◌, length, codes, Option, Some, None}
+use Rattle.std.specs.Prelude.{ℕ, ◌-◌, ℤ, pos, negsuc, ◌==◌, if◌then◌else◌, List, [], ◌∷◌, ◌++◌, length, codes, Option, Some, None}
 use Rattle.std.specs.List.{slice_get}
 use Rattle.std.specs.Fmt.{decimal, signed_decimal}
 use Rattle.krb_keytab.specs.declared.entry.KeytabEntry.{KeytabEntry}
@@ -9,6 +9,8 @@ use Rattle.chpw_import.specs.declared.left.Reason.{Reason}
 use Rattle.chpw_import.specs.declared.left.Reason.TheVariants.{OtherRealm, BadName, NoVersion, OtherType}
 use Rattle.chpw_import.specs.declared.left.Reason.TheVariants.{KeyLength, Repeated, Unpaired, BehindGap}
 use Rattle.chpw_import.specs.declared.left.Reason.TheVariants.{TooManyKeys, TooManyPrincipals}
+use Rattle.chpw_import.specs.declared.keytab.KeytabImport.{KeytabImport}
+use Rattle.chpw_import.specs.Counts.{count_line}
 use Rattle.chpw_import.specs.Entries.{name_in}
 
 -- a reason whose words are the same for each entry
@@ -54,3 +56,9 @@ line_of file why (Some e) = file ++ codes ": " ++ left_text e why ++ codes "\n"
 abbrev pub left_lines : List ℕ → List KeytabEntry → List SkippedEntry → List ℕ
 left_lines file es [] = []
 left_lines file es (l ∷ left) = line_of file l.why (slice_get es l.index) ++ left_lines file es left
+
+-- and the numbers of the entries that are imported and of those that aren't
+abbrev pub told : List ℕ → KeytabImport → List ℕ
+told file b =
+    left_lines file b.entries.items b.left.items
+    ++ count_line (length b.entries.items - length b.left.items) (length b.left.items)

@@ -13,8 +13,9 @@ use Rattle.chpw_invocation.specs.declared.invocation.ImportOptions.{ImportOption
 use Rattle.chpw_invocation.specs.declared.invocation.KeyOptions.{KeyOptions}
 use Rattle.chpw_import.specs.declared.keytab.KeytabImport.{KeytabImport}
 use Rattle.chpw_import.specs.declared.numbers.KeyNumbers.{KeyNumbers}
+use Rattle.chpw_import.specs.Faults.{brings_none}
 use Rattle.chpw_import.specs.Keytabs.{IsBrought}
-use Rattle.chpw_import.specs.LeftLines.{left_lines}
+use Rattle.chpw_import.specs.LeftLines.{told as told_of}
 use Rattle.chpw_import.specs.Passwords.{IsPasswordOf, has_carriage_return, row_of}
 
 -- A text is added that is read as the stanzas of these rows. It is a document of lines, each table with a header of its
@@ -27,13 +28,14 @@ AppendsRows before behind service principals =
 -- ---- import
 
 -- the keys that a keytab with these bytes has of the realm, in stanzas that a configuration can have; and a line for
--- each skipped entry
+-- each skipped entry, with both numbers; there is a key of the service or of a principal
 pub record Imports (o : ImportOptions) (bytes : List ℕ) (before behind untold told : Option (List ℕ)) : Type 0 where
   pub brought : KeytabImport
   pub is_brought : IsBrought bytes o.realm.now o.iterations brought
   pub fits : (service_fits brought.service.items ≡ true) × (principals_fit brought.principals.items ≡ true)
   pub written : AppendsRows before behind brought.service.items brought.principals.items
-  pub left : Appends untold told (left_lines o.keytab.now brought.entries.items brought.left.items)
+  pub left : Appends untold told (told_of o.keytab.now brought)
+  pub some : brings_none brought ≡ false
 
 -- ---- key
 

@@ -25,6 +25,8 @@ pub enum KeysFault<'a> {
     Patterns(&'a str, ConfigFault),
     /// No principal is imported of the agent's at this socket.
     NoPrincipal(&'a str),
+    /// No key is imported of the keytab in this file.
+    NoKey(&'a str),
     /// A line couldn't be printed.
     CannotPrint,
     /// A growth was refused.
@@ -48,6 +50,7 @@ impl fmt::Display for KeysFault<'_> {
             KeysFault::Kdc(socket, fault) => write!(f, "{socket}: {fault}"),
             KeysFault::Patterns(file, fault) => write!(f, "{file}: {fault}"),
             KeysFault::NoPrincipal(socket) => write!(f, "{socket}: no principal is imported"),
+            KeysFault::NoKey(file) => write!(f, "{file}: no key is imported"),
             KeysFault::CannotPrint => f.write_str("cannot write"),
             KeysFault::Memory => f.write_str("memory"),
         }

@@ -1,8 +1,9 @@
 //! Skipped entries, and the lines about them.
 ghost use Rattle.std.specs.Prelude.{◌≡◌, ◌++◌, IfOk, OnOk};
 ghost use Rattle.std.specs.Option.{option_copied};
-ghost use Rattle.chpw_import.specs.LeftLines.{entry_text, left_lines, left_text, length_text, line_of, reason_text, unpaired_text, words_of};
+ghost use Rattle.chpw_import.specs.LeftLines.{entry_text, left_lines, left_text, length_text, line_of, reason_text, told, unpaired_text, words_of};
 
+use crate::counts::put_counts;
 use crate::entries::name_of;
 use crate::keytab::KeytabImport;
 use chpw_printing::{put_number, put_principal, put_signed};
@@ -41,8 +42,19 @@ pub struct SkippedEntry {
     pub why: Reason,
 }
 
-/// A line for each skipped entry, after the file's name.
-pub fn left_text(alloc: Global, file: &str, brought: &KeytabImport) -> Result<Vec<u8>, AllocError>
+/// A line for each skipped entry, after the file's name, and one with the numbers of those that are imported and of
+/// those that aren't.
+pub fn told_of(alloc: Global, file: &str, brought: &KeytabImport) -> Result<Vec<u8>, AllocError>
+    ensures value { IfOk result (λ text. text.items ≡ told file.now brought.now) }
+{
+    let mut text = left_text(alloc, file, brought)?;
+    let left = brought.left.len();
+    put_counts(&mut text, brought.entries.len().saturating_sub(left), left)?;
+    Ok(text)
+}
+
+// A line for each skipped entry, after the file's name.
+fn left_text(alloc: Global, file: &str, brought: &KeytabImport) -> Result<Vec<u8>, AllocError>
     ensures value { IfOk result (λ text.
         text.items ≡ left_lines file.now brought.now.entries.items brought.now.left.items) }
 {

@@ -2,6 +2,7 @@
 //! the principals that a KDC has; and a principal's keys from a password.
 #![tactic(auto)]
 
+mod counts;
 mod entries;
 mod fault;
 mod import_command;
@@ -24,6 +25,6 @@ pub use kdc::{
 };
 pub use key_command::{key, tell_password, write_password};
 pub use keytab::{ImportFault, KeytabImport, bring_in};
-pub use left::{Reason, SkippedEntry, left_text};
+pub use left::{Reason, SkippedEntry};
 pub use numbers::KeyNumbers;
 pub use password::{default_salt, has_carriage_return, password_in, password_row};

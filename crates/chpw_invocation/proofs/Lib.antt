@@ -1,4 +1,5 @@
 pub mod LevelLemmas
+pub mod ListeningLemmas
 pub mod NeedLemmas
 pub mod OwnLemmas
 pub mod PortLemmas

@@ -63,6 +63,24 @@ given_once name options a b suits is was = go (first_of name options) refl
               is.1 one ∙ sym (was.1 one)
         ]
 
+pub flag_given : (name : Text) (options : List Row) → Suits (filled (flag name)) options → IsGiven options name true
+    → one_of name options ≡ Some (codes "true")
+flag_given name options suits is = go (first_of name options) refl
+  where
+    go : (o : Option Text) → first_of name options ≡ o → one_of name options ≡ Some (codes "true")
+    go None e = absurd (true≢false (is.2 (no_value (find (λ r. bytes_eq r.id name) options) e)))
+    go (Some text) e =
+        let taken = suits.taken text e in
+        elim (or_cases (bytes_eq text (codes "true")) (bytes_eq text (codes "false")) taken.0) [
+          | inl is_yes ↦
+              let text_is : text ≡ codes "true" = (bytes_eq-Decides text (codes "true")).0 is_yes in
+              rw (← text_is) taken.1
+          | inr is_no ↦
+              let text_is : text ≡ codes "false" = (bytes_eq-Decides text (codes "false")).0 is_no in
+              let one : one_of name options ≡ Some (codes "false") = rw (← text_is) taken.1 in
+              absurd (true≢false (is.1 one))
+        ]
+
 -- ---- the command that was matched
 
 pub matched_as : (m : ArgMatches) (name : Text) (options : List Row) → Some name ≡ subcommand_name_of m

@@ -8,10 +8,12 @@ use Rattle.clap.specs.Simple.{filled}
 use Rattle.clap.specs.Walk.{Row, Text, first_of}
 use Rattle.chpw_invocation.specs.Controls.{takes_file}
 use Rattle.chpw_invocation.specs.Invocations.{AimsOld, HasNoPassword, HasTwoPasswords, IsGiven, IsOwnReason}
-use Rattle.chpw_invocation.specs.Invocations.{IsOwnRefusal, LacksKdc, RefusesClient, RefusesControl, RefusesImport, RefusesServe}
+use Rattle.chpw_invocation.specs.Invocations.{IsOwnRefusal, LacksKdc, Listens, RefusesListen, RefusesClient, RefusesControl, RefusesImport, RefusesServe}
+use Rattle.std.specs.declared.net.ip_addr.IpAddr.{IpAddr}
 use Rattle.chpw_invocation.specs.Needs.{IsSuited, Meets, Suits}
 use Rattle.chpw_invocation.specs.Options.{flag}
 use Rattle.chpw_invocation.specs.Program.{client, serve}
+use Rattle.chpw_invocation.proofs.ListeningLemmas.{listens_or_not}
 use Rattle.chpw_invocation.proofs.NeedLemmas.{not_aimed}
 use Rattle.chpw_invocation.specs.declared.refusing.Refusal.{Refusal}
 use Rattle.chpw_invocation.specs.declared.refusing.Refusal.TheVariants.{OldTarget, TwoPasswords, NoPassword, NoCommand, NoFile, SpareFile, NoKdc, NoLimit}
@@ -55,7 +57,11 @@ of_serve options refusal (inr (inr (inr (inr (inr r))))) = absurd (differ (codes
 
 -- the flag of a service whose KDC has to be in reach is given once
 pub flag_suits : (options : List Row) → Meets serve options → Suits (filled (flag (codes "require-kdc"))) options
-flag_suits options whole = whole.1.1.1.1.1.1.1.1.1.1.1.1.1.0
+flag_suits options whole = whole.1.1.1.1.1.1.1.1.1.1.1.1.1.1.1.1.0
+
+-- the same of the flag for datagrams
+pub udp_suits : (options : List Row) → Meets serve options → Suits (filled (flag (codes "udp"))) options
+udp_suits options whole = whole.1.1.1.1.1.1.1.1.1.1.1.1.1.1.1.1.1.1.0
 
 pub client_refused : (asked : Option (Text × List Row)) (options : List Row) (refusal : Refusal) → asked ≡ Some (codes "client", options)
     → (Suits (filled (flag (codes "old"))) options → (r : Refusal) → RefusesClient options r → RefusesClient options refusal)
@@ -80,22 +86,32 @@ import_refused asked options refusal is why reason =
     (inr (inr (inr (inr (inl (refl, why own.0 (of_import options own.0 own.1)))))))
 
 pub serve_refused : (asked : Option (Text × List Row)) (options : List Row) (refusal : Refusal) → asked ≡ Some (codes "serve", options)
-    → (Suits (filled (flag (codes "require-kdc"))) options → (r : Refusal) → RefusesServe options r → RefusesServe options refusal)
+    → (Meets serve options → (r : Refusal) → RefusesServe options r → RefusesServe options refusal)
     → IsSuited asked → IsOwnReason asked → IsOwnRefusal asked refusal
 serve_refused asked options refusal is why suited reason =
     let whole : Meets serve options = subst IsSuited is suited in
     let own : IsOwnReason (Some (codes "serve", options)) = subst IsOwnReason is reason in
     subst (λ (o : Option (Text × List Row)). IsOwnRefusal o refusal) (sym is)
-    (inr (inr (inr (inl (refl, why (flag_suits options whole) own.0 (of_serve options own.0 own.1))))))
+    (inr (inr (inr (inl (refl, why whole own.0 (of_serve options own.0 own.1))))))
+
+-- a refusal that is there is one
+pub some_refusal : (o p : Option Refusal) → is_some o ≡ true → o ≡ p → (refusal : Refusal) × (p ≡ Some refusal)
+some_refusal None p some is = absurd (true≢false (sym some))
+some_refusal (Some refusal) p some is = (refusal, sym is)
 
 -- ---- why `serve` is refused
 
 pub lacking : (options : List Row) → LacksKdc options → RefusesServe options NoKdc
 lacking options lacks = inl (refl, lacks)
 
-pub unlimited : (options : List Row) → ¬ (LacksKdc options) → (refusal : Refusal) → RefusesServe options refusal → RefusesServe options NoLimit
-unlimited options other refusal (inl r) = absurd (other r.1)
-unlimited options other refusal (inr r) = inr (refl, r.1, r.2)
+pub unlimited : (options : List Row) → Suits (filled (flag (codes "udp"))) options → ¬ (LacksKdc options)
+    → (addresses : List IpAddr) × Listens options addresses → (refusal : Refusal) → RefusesServe options refusal → RefusesServe options NoLimit
+unlimited options suits other listen refusal (inl r) = absurd (other r.1)
+unlimited options suits other listen refusal (inr (inl r)) = absurd (listens_or_not options listen.0 refusal suits listen.1 r.0)
+unlimited options suits other listen refusal (inr (inr r)) = inr (inr (refl, r.1, r.2, r.3))
+
+pub unlistened : (options : List Row) → ¬ (LacksKdc options) → (refusal : Refusal) → RefusesListen options refusal → RefusesServe options refusal
+unlistened options other refusal why = inr (inl (why, other))
 
 -- ---- why `client` is refused
 

@@ -148,6 +148,9 @@ import_found = ((refl, refl), ((refl, refl), ((refl, refl), ((refl, refl), ((ref
 key_found : AllByRecursion (IsFound (rules_of program.key.rules)) (rules_of program.key.rules)
 key_found = ((refl, refl), ((refl, refl), ((refl, refl), ((refl, refl), ((refl, refl), ((refl, refl), tt))))))
 
+new_journal_found : AllByRecursion (IsFound (rules_of program.new_journal.rules)) (rules_of program.new_journal.rules)
+new_journal_found = ((refl, refl), ((refl, refl), ((refl, refl), ((refl, refl), tt))))
+
 serve_found : AllByRecursion (IsFound (rules_of program.serve.rules)) (rules_of program.serve.rules)
 serve_found = (
   (refl, refl),
@@ -168,10 +171,7 @@ serve_found = (
                 (
                   (refl, refl),
                   (
-                    (
-                      refl,
-                      refl,
-                    ),
+                    (refl, refl),
                     (
                       (refl, refl),
                       (
@@ -180,7 +180,22 @@ serve_found = (
                           (refl, refl),
                           (
                             (refl, refl),
-                            ((refl, refl), ((refl, refl), ((refl, refl), ((refl, refl), ((refl, refl), ((refl, refl), tt)))))),
+                            (
+                              (refl, refl),
+                              (
+                                (refl, refl),
+                                (
+                                  (refl, refl),
+                                  (
+                                    (refl, refl),
+                                    (
+                                      (refl, refl),
+                                      ((refl, refl), ((refl, refl), ((refl, refl), ((refl, refl), ((refl, refl), tt))))),
+                                    ),
+                                  ),
+                                ),
+                              ),
+                            ),
                           ),
                         ),
                       ),
@@ -231,14 +246,17 @@ each_suits name words no_help = (
         (
           λ is e. leaf_meets (codes "key") program.key.rules words key_found e,
           (
-            λ is e. leaf_meets (codes "serve") program.serve.rules words serve_found e,
+            λ is e. leaf_meets (codes "new-journal") program.new_journal.rules words new_journal_found e,
             (
-              λ is e. leaf_meets (codes "control") program.control.rules words control_found e,
+              λ is e. leaf_meets (codes "serve") program.serve.rules words serve_found e,
               (
-                λ is e. leaf_meets (codes "client") program.client.rules words client_found e,
+                λ is e. leaf_meets (codes "control") program.control.rules words control_found e,
                 (
-                  λ is e. absurd (true≢false (sym (named is) ∙ no_help)),
-                  tt,
+                  λ is e. leaf_meets (codes "client") program.client.rules words client_found e,
+                  (
+                    λ is e. absurd (true≢false (sym (named is) ∙ no_help)),
+                    tt,
+                  ),
                 ),
               ),
             ),

@@ -1,19 +1,23 @@
 -- What a user asks for, by what clap matched: the command's name, and each option's value by its name. The words are
 -- matched by clap's own rules.
 use Rattle.std.specs.Prelude.{◌≡◌, ◌≢◌, ◌⊎◌, ◌≤◌, ℕ, Bool, true, false, List, [], Option, Some}
-use Rattle.std.specs.Prelude.{None, option_map, codes, bytes_eq, if◌then◌else◌, length, pos, ◌<◌, ◌&&◌, nat_le}
+use Rattle.std.specs.Prelude.{None, option_map, codes, bytes_eq, if◌then◌else◌, length, pos, ◌<◌, ◌&&◌, nat_le, unwrap_or}
 use Rattle.std.specs.Fmt.{decimal}
 use Rattle.std.specs.Option.{option_map_or}
 use Rattle.std.specs.Str.Parse.{IsNumeral, digits_value, without_leading_plus}
 use Rattle.clap.specs.Kinds.{HasKind, Kinds}
 use Rattle.clap.specs.Values.{IsSignedIn, kind_of, read_as}
-use Rattle.clap.specs.Walk.{Row, Text, first_of, one_of}
+use Rattle.clap.specs.Walk.{Row, Text, all_of, first_of, one_of}
 use Rattle.clap.specs.declared.builder.value_parser.Reading.TheVariants.{WithoutMinus}
 use Rattle.clap.specs.declared.error.Error.{Error}
+use Rattle.std.specs.declared.net.ip_addr.IpAddr.{IpAddr}
+use Rattle.chpw_invocation.specs.Addresses.{HasWildcard, IsListening, IsNoList}
+use Rattle.chpw_invocation.specs.Listening.{listened}
 use Rattle.chpw_invocation.specs.Controls.{file_of, takes_file, word_of}
 use Rattle.chpw_invocation.specs.Refusals.{kind_for}
+use Rattle.chpw_invocation.specs.Sharing.{usual_per_peer}
 use Rattle.chpw_invocation.specs.declared.refusing.Refusal.{Refusal}
-use Rattle.chpw_invocation.specs.declared.refusing.Refusal.TheVariants.{OldTarget, TwoPasswords, NoPassword, NoCommand, NoKdc}
+use Rattle.chpw_invocation.specs.declared.refusing.Refusal.TheVariants.{OldTarget, TwoPasswords, NoPassword, NoCommand, NoKdc, AnyDatagrams}
 use Rattle.chpw_invocation.specs.declared.refusing.Refusal.TheVariants.{NoFile, SpareFile, NoForm, NoLimit, NoRealm, SpareSource, NoSource, SpareConfig}
 use Rattle.chpw_invocation.specs.declared.invocation.ClientOptions.{ClientOptions}
 use Rattle.chpw_invocation.specs.declared.invocation.ConnectionLimit.{ConnectionLimit}
@@ -23,8 +27,9 @@ use Rattle.chpw_invocation.specs.declared.invocation.ServeOptions.{ServeOptions}
 use Rattle.chpw_invocation.specs.declared.invocation.ImportOptions.{ImportOptions}
 use Rattle.chpw_invocation.specs.declared.invocation.KdcOptions.{KdcOptions}
 use Rattle.chpw_invocation.specs.declared.invocation.KeyOptions.{KeyOptions}
+use Rattle.chpw_invocation.specs.declared.invocation.NewJournalOptions.{NewJournalOptions}
 use Rattle.chpw_invocation.specs.declared.invocation.Invocation.{Invocation}
-use Rattle.chpw_invocation.specs.declared.invocation.Invocation.TheVariants.{Drill, Check, Table, Import, ImportKdc, Key, Serve, Control, Client}
+use Rattle.chpw_invocation.specs.declared.invocation.Invocation.TheVariants.{Drill, Check, Table, Import, ImportKdc, Key, NewJournal, Serve, Control, Client}
 use Rattle.chpw_invocation.specs.declared.invocation.PasswordSource.{PasswordSource}
 use Rattle.chpw_invocation.specs.declared.invocation.PasswordSource.TheVariants as source
 use Rattle.chpw_invocation.specs.declared.invocation.TableForm.{TableForm}
@@ -126,18 +131,35 @@ pub record AsksKey (options : List Row) (asked : KeyOptions) : Type 0 where
   pub iterations : HasNumberOr 4096 1 16777216 options (codes "iterations") asked.iterations
   pub kvno : HasNumberOr 1 1 4294967295 options (codes "kvno") asked.kvno
 
+pub record AsksNewJournal (options : List Row) (asked : NewJournalOptions) : Type 0 where
+  pub config : HasText options (codes "config") asked.config.now
+  pub journal : HasText options (codes "journal") asked.journal.now
+  pub resume : option_map (λ file. file.now) asked.resume ≡ first_of (codes "resume") options
+
+-- what `--listen` gives
+abbrev pub given : List Row → List Text
+given options = unwrap_or (all_of (codes "listen") options) []
+
+-- these are the addresses at which it listens, none of them a wildcard if it takes datagrams
+abbrev pub Listens : List Row → List IpAddr → Type 0
+Listens options addresses = IsListening (given options) addresses
+    × (one_of (codes "udp") options ≡ Some (codes "true") → ¬ (HasWildcard addresses))
+
 pub record AsksServe (options : List Row) (asked : ServeOptions) : Type 0 where
   pub config : HasText options (codes "config") asked.config.now
   pub journal : HasText options (codes "journal") asked.journal.now
   pub seed : HasText options (codes "seed") asked.seed.now
   pub port : HasNumber 1 65535 options (codes "port") asked.port
+  pub listen : Listens options (listened asked.listen)
   pub workers : HasNumber 1 16 options (codes "workers") asked.workers
   pub connections : HasLimit options asked.connections
   pub idle : HasNumberOr 30 1 3600 options (codes "idle") asked.idle
   pub clients : HasNumberOr 1024 1 65536 options (codes "clients") asked.clients
+  pub clients_per_peer : HasNumberOr (usual_per_peer asked.clients) 1 65536 options (codes "clients-per-peer") asked.clients_per_peer
   pub buffers : HasNumberOr 32 1 1024 options (codes "buffers") asked.buffers
   pub raise : MayHaveNumber 1 16777216 options (codes "raise") asked.raise
   pub log : option_map (λ file. file.now) asked.log ≡ first_of (codes "log") options
+  pub resume : option_map (λ file. file.now) asked.resume ≡ first_of (codes "resume") options
   pub kdc : option_map (λ socket. socket.now) asked.kdc ≡ first_of (codes "kdc") options
   pub kdc_wait : HasNumberOr 2000 1 60000 options (codes "kdc-wait") asked.kdc_wait
   pub require_kdc : IsGiven options (codes "require-kdc") asked.require_kdc
@@ -146,6 +168,7 @@ pub record AsksServe (options : List Row) (asked : ServeOptions) : Type 0 where
   pub rfc3244_only : IsGiven options (codes "rfc3244-only") asked.rfc3244_only
   pub strict_messages : IsGiven options (codes "strict-messages") asked.strict_messages
   pub strict_modes : IsGiven options (codes "strict-modes") asked.strict_modes
+  pub existing_journal : IsGiven options (codes "existing-journal") asked.existing_journal
 
 pub record AsksControl (options : List Row) (asked : ControlOptions) : Type 0 where
   pub socket : HasText options (codes "socket") asked.socket.now
@@ -196,6 +219,7 @@ AsksFor (Some p) (Table asked) = (p.0 ≡ codes "table") × AsksTable p.1 asked
 AsksFor (Some p) (Import asked) = (p.0 ≡ codes "import") × AsksImport p.1 asked
 AsksFor (Some p) (ImportKdc asked) = (p.0 ≡ codes "import") × AsksKdc p.1 asked
 AsksFor (Some p) (Key asked) = (p.0 ≡ codes "key") × AsksKey p.1 asked
+AsksFor (Some p) (NewJournal asked) = (p.0 ≡ codes "new-journal") × AsksNewJournal p.1 asked
 AsksFor (Some p) (Serve asked) = (p.0 ≡ codes "serve") × AsksServe p.1 asked
 AsksFor (Some p) (Control asked) = (p.0 ≡ codes "control") × AsksControl p.1 asked
 AsksFor (Some p) (Client asked) = (p.0 ≡ codes "client") × AsksClient p.1 asked
@@ -257,11 +281,19 @@ RefusesImport options refusal =
 abbrev pub LacksKdc : List Row → Type 0
 LacksKdc options = IsGiven options (codes "require-kdc") true × (first_of (codes "kdc") options ≡ None)
 
--- Why a service isn't started: it lacks its KDC; otherwise a number of connections or `unlimited`.
+-- Why it can't listen at what is given: that is no list of addresses; otherwise one is a wildcard, and it is to take datagrams.
+abbrev pub RefusesListen : List Row → Refusal → Type 0
+RefusesListen options refusal = IsNoList (given options) refusal
+    ⊎ ((refusal ≡ AnyDatagrams) × IsGiven options (codes "udp") true
+    × ((addresses : List IpAddr) × IsListening (given options) addresses × HasWildcard addresses))
+
+-- Why a service isn't started: it lacks its KDC; otherwise it can't listen at its addresses; otherwise it lacks a number of
+-- connections or `unlimited`.
 abbrev pub RefusesServe : List Row → Refusal → Type 0
 RefusesServe options refusal =
     ((refusal ≡ NoKdc) × LacksKdc options)
-    ⊎ ((refusal ≡ NoLimit) × LacksLimit options × ¬ (LacksKdc options))
+    ⊎ ((RefusesListen options refusal × ¬ (LacksKdc options))
+    ⊎ ((refusal ≡ NoLimit) × LacksLimit options × ¬ (LacksKdc options) × ((addresses : List IpAddr) × Listens options addresses)))
 
 -- Why words in which clap finds no fault are refused: a refused client, control, import or service, a table in an unknown
 -- form, or a password of a realm of 0 or more than 255 bytes.

@@ -3,10 +3,10 @@ use Rattle.std.specs.Prelude.{true, Option, Some, option_map, pos, codes, ℕ}
 use Rattle.clap.specs.Walk.{Rule, Text}
 use Rattle.clap.specs.Simple.{new_rule}
 use Rattle.clap.specs.declared.builder.arg.Arg.{Arg}
-use Rattle.clap.specs.declared.builder.action.ArgAction.TheVariants.{Set, SetTrue}
+use Rattle.clap.specs.declared.builder.action.ArgAction.TheVariants.{Append, Set, SetTrue}
 use Rattle.clap.specs.declared.builder.value_parser.ValueParser.TheVariants as parser
 use Rattle.chpw_invocation.specs.declared.options.OptionKind.{OptionKind}
-use Rattle.chpw_invocation.specs.declared.options.OptionKind.TheVariants.{Required, Optional, Number, OptionalNumber, Flag, Word, OptionalWord}
+use Rattle.chpw_invocation.specs.declared.options.OptionKind.TheVariants.{Required, Optional, Repeated, Number, OptionalNumber, Flag, Word, OptionalWord}
 use Rattle.chpw_invocation.specs.declared.options.OptionLine.{OptionLine}
 
 -- `--NAME VALUE`
@@ -16,6 +16,10 @@ optional name = record (new_rule name) { long = Some name; action = Some Set; va
 -- `--NAME VALUE`, required
 abbrev pub required : Text → Rule
 required name = record (optional name) { required = true }
+
+-- `--NAME VALUE`, as often as it is given
+abbrev pub repeated : Text → Rule
+repeated name = record (optional name) { action = Some Append }
 
 -- `--NAME`
 abbrev pub flag : Text → Rule
@@ -41,6 +45,7 @@ required_word name = record (optional_word name) { required = true }
 abbrev pub rule_by : OptionKind → Text → Rule
 rule_by Required name = required name
 rule_by Optional name = optional name
+rule_by Repeated name = repeated name
 rule_by (Number limit) name = numbered name limit
 rule_by (OptionalNumber limit) name = may_be_numbered name limit
 rule_by Flag name = flag name
@@ -72,6 +77,9 @@ idle = may_be_numbered (codes "idle") 3600
 
 abbrev pub clients : Rule
 clients = may_be_numbered (codes "clients") 65536
+
+abbrev pub clients_per_peer : Rule
+clients_per_peer = may_be_numbered (codes "clients-per-peer") 65536
 
 abbrev pub buffers : Rule
 buffers = may_be_numbered (codes "buffers") 1024

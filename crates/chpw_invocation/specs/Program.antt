@@ -4,8 +4,8 @@ use Rattle.clap.specs.Walk.{Rule, Text}
 use Rattle.clap.specs.Simple.{App, Shape, app_of, new_shape}
 use Rattle.clap.specs.declared.builder.command.Command.{Command}
 use Rattle.clap.specs.declared.builder.command.Command.TheViews.{out-Command}
-use Rattle.chpw_invocation.specs.Options.{required, optional, flag, required_word, optional_word, port, workers}
-use Rattle.chpw_invocation.specs.Options.{connections, idle, clients, buffers, raise, kdc_wait, iterations, kvno}
+use Rattle.chpw_invocation.specs.Options.{required, optional, repeated, flag, required_word, optional_word, port, workers}
+use Rattle.chpw_invocation.specs.Options.{connections, idle, clients, clients_per_peer, buffers, raise, kdc_wait, iterations, kvno}
 
 abbrev pub command : Text → List Rule → Shape
 command name options = record (new_shape name) { rules = options }
@@ -58,22 +58,34 @@ key = command (codes "key")
     ∷ kvno
     ∷ [])
 
--- serve --config FILE --journal FILE --seed FILE --port N --workers N --connections N [--idle SECONDS]
--- [--clients N] [--buffers MEBIBYTES] [--raise COUNT] [--log FILE] [--kdc SOCKET] [--kdc-wait MILLISECONDS]
--- [--require-kdc] [--control SOCKET] [--udp] [--rfc3244-only] [--strict-messages] [--strict-modes]
+-- new-journal --config FILE --journal FILE [--resume FILE]
+abbrev pub new_journal : Shape
+new_journal = command (codes "new-journal")
+    (required (codes "config")
+    ∷ required (codes "journal")
+    ∷ optional (codes "resume")
+    ∷ [])
+
+-- serve --config FILE --journal FILE --seed FILE --port N [--listen ADDRESS].. --workers N --connections N
+-- [--idle SECONDS] [--clients N] [--clients-per-peer N] [--buffers MEBIBYTES] [--raise COUNT] [--log FILE] [--resume FILE]
+-- [--kdc SOCKET] [--kdc-wait MILLISECONDS] [--require-kdc] [--control SOCKET] [--udp] [--rfc3244-only] [--strict-messages]
+-- [--strict-modes] [--existing-journal]
 abbrev pub serve : Shape
 serve = command (codes "serve")
     (required (codes "config")
     ∷ required (codes "journal")
     ∷ required (codes "seed")
     ∷ port
+    ∷ repeated (codes "listen")
     ∷ workers
     ∷ connections
     ∷ idle
     ∷ clients
+    ∷ clients_per_peer
     ∷ buffers
     ∷ raise
     ∷ optional (codes "log")
+    ∷ optional (codes "resume")
     ∷ optional (codes "kdc")
     ∷ kdc_wait
     ∷ flag (codes "require-kdc")
@@ -82,6 +94,7 @@ serve = command (codes "serve")
     ∷ flag (codes "rfc3244-only")
     ∷ flag (codes "strict-messages")
     ∷ flag (codes "strict-modes")
+    ∷ flag (codes "existing-journal")
     ∷ [])
 
 -- control --socket SOCKET COMMAND [FILE]
@@ -119,5 +132,5 @@ leading a = record a {
 
 abbrev pub program : App
 program = record (leading (alone (record (new_shape (codes "chpw_server")) { is_leaf = false }))) {
-  subs = drill ∷ check ∷ table ∷ import ∷ key ∷ serve ∷ control ∷ client ∷ [];
+  subs = drill ∷ check ∷ table ∷ import ∷ key ∷ new_journal ∷ serve ∷ control ∷ client ∷ [];
 }

@@ -1,6 +1,9 @@
 //! What a user asks the program for.
 ghost use Rattle.std.specs.Prelude.{◌≡◌, ◌≤◌, ℕ, Some, true, None, length, option_map};
 ghost use Rattle.chpw_invocation.specs.Controls.{file_of, word_of};
+ghost use Rattle.chpw_invocation.specs.Sharing.{usual_per_peer};
+
+use crate::listening::ListenAddresses;
 
 /// The greatest `--port`.
 pub const GREATEST_PORT: u16 = 65_535;
@@ -19,6 +22,16 @@ pub const MOST_CLIENTS: u32 = 65_536;
 
 /// The default of `--clients`: how many connections may be open at a time.
 pub const USUAL_CLIENTS: u32 = 1_024;
+
+/// The greatest `--clients-per-peer`.
+pub const MOST_CLIENTS_PER_PEER: u32 = 65_536;
+
+/// The default of `--clients-per-peer`: a quarter of `--clients`, and at least 1.
+pub fn usual_clients_per_peer(clients: u32) -> u32
+    ensures value { result ≡ usual_per_peer clients }
+{
+    if clients < 4 { 1 } else { clients / 4 }
+}
 
 /// The greatest `--buffers`, in MiB.
 pub const MOST_BUFFERS: u16 = 1_024;
@@ -100,6 +113,8 @@ pub struct ServeOptions<'a> {
     pub seed: &'a str,
     /// 1 to 65535.
     pub port: u16,
+    /// The addresses at which it listens; default [`USUAL_ADDRESS`](crate::USUAL_ADDRESS).
+    pub listen: ListenAddresses,
     /// 1 to 16.
     pub workers: u8,
     /// After how many connections it ends.
@@ -109,6 +124,8 @@ pub struct ServeOptions<'a> {
     pub idle: u16,
     /// How many connections may be open at a time, 1 to 65,536; default [`USUAL_CLIENTS`].
     pub clients: u32,
+    /// How many of them one peer may have at a time, 1 to 65,536; default [`usual_clients_per_peer`] of `clients`.
+    pub clients_per_peer: u32,
     /// How many MiB the messages and replies of all connections may hold together, 1 to 1,024; default
     /// [`USUAL_BUFFERS`].
     pub buffers: u16,
@@ -116,6 +133,8 @@ pub struct ServeOptions<'a> {
     pub raise: Option<u32>,
     /// The file of the log, if there is one.
     pub log: Option<&'a str>,
+    /// The file that a clean end leaves for the next start, if there is one.
+    pub resume: Option<&'a str>,
     /// The socket of the agent at the KDC's database; without one keys go nowhere else, and no reply waits.
     pub kdc: Option<&'a str>,
     /// How many milliseconds the reply to a change waits for the KDC, 1 to [`LONGEST_KDC_WAIT`]; default
@@ -133,9 +152,12 @@ pub struct ServeOptions<'a> {
     pub strict_messages: bool,
     /// Whether a start is refused when others may read or write one of its files.
     pub strict_modes: bool,
+    /// Whether a start is refused when there is no journal.
+    pub existing_journal: bool,
     ghost some_workers: { (1 ≤ workers) × (workers ≤ 16) },
     ghost some_idle: { (1 ≤ idle) × (idle ≤ 3600) },
     ghost some_clients: { (1 ≤ clients) × (clients ≤ 65536) },
+    ghost some_clients_per_peer: { (1 ≤ clients_per_peer) × (clients_per_peer ≤ 65536) },
     ghost some_buffers: { (1 ≤ buffers) × (buffers ≤ 1024) },
     ghost some_kdc_wait: { (1 ≤ kdc_wait) × (kdc_wait ≤ 60000) },
     ghost some_count: { (count : ℕ) → raise ≡ Some count → (1 ≤ count) × (count ≤ 16777216) },
@@ -212,6 +234,17 @@ pub struct TableOptions<'a> {
     pub form: TableForm,
 }
 
+/// Which journal is made, and for which realm.
+#[derive(Clone, Copy, Drop)]
+pub struct NewJournalOptions<'a> {
+    /// The configuration's file, which has the realm.
+    pub config: &'a str,
+    /// The file that is made.
+    pub journal: &'a str,
+    /// The file that is made beside it for the first start, if there is one.
+    pub resume: Option<&'a str>,
+}
+
 /// The keytab that is imported.
 #[derive(Clone, Copy, Drop)]
 pub struct ImportOptions<'a> {
@@ -270,6 +303,8 @@ pub enum Invocation<'a> {
     ImportKdc(KdcOptions<'a>),
     /// Make the keys of a password.
     Key(KeyOptions<'a>),
+    /// Make a journal.
+    NewJournal(NewJournalOptions<'a>),
     /// Run the service.
     Serve(ServeOptions<'a>),
     /// Send a command to a running service.

@@ -12,18 +12,24 @@ ghost use Rattle.chpw_invocation.specs.Invocations.{AsksFor, HasNoPassword, HasN
 ghost use Rattle.chpw_invocation.specs.Invocations.{HasPassword, HasRealm, HasTakenNumber, HasText};
 ghost use Rattle.chpw_invocation.specs.Invocations.{HasTwoPasswords, IsGiven, IsInFile, IsOwnReason, IsRefusal};
 ghost use Rattle.chpw_invocation.specs.Invocations.{HasLimit, IsLimit, LacksGiven, LacksLimit, LacksNumber, LacksRealm};
-ghost use Rattle.chpw_invocation.specs.Invocations.{MayHaveNumber};
+ghost use Rattle.chpw_invocation.specs.Invocations.{Listens, MayHaveNumber, RefusesListen, given};
 ghost use Rattle.chpw_invocation.specs.Invocations.{RefusesClient, RefusesControl, RefusesImport, RefusesServe, form_asked, form_of_name};
 ghost use Rattle.chpw_invocation.specs.Controls as controls;
 ghost use Rattle.chpw_invocation.specs.Controls.{file_of, word_of};
+ghost use Rattle.chpw_invocation.specs.Addresses.{IsListening, IsNoList};
+ghost use Rattle.chpw_invocation.specs.Listening.{listened};
+ghost use Rattle.chpw_invocation.specs.Sharing.{usual_per_peer};
 
+use crate::addresses::addresses_of;
 use crate::invocation::{
     ClientOptions, ConnectionLimit, ControlCommand, ControlOptions, GREATEST_COUNT, GREATEST_KVNO,
     GREATEST_PORT, ImportOptions, Invocation, KdcOptions, KeyOptions, LONGEST_IDLE,
-    LONGEST_KDC_WAIT, LONGEST_REALM, MOST_BUFFERS, MOST_CLIENTS, MOST_WORKERS, PasswordSource,
-    ServeOptions, TableForm, TableOptions, USUAL_BUFFERS, USUAL_CLIENTS, USUAL_COUNT, USUAL_IDLE,
-    USUAL_KDC_WAIT, USUAL_KVNO,
+    LONGEST_KDC_WAIT, LONGEST_REALM, MOST_BUFFERS, MOST_CLIENTS, MOST_CLIENTS_PER_PEER,
+    MOST_WORKERS, NewJournalOptions, PasswordSource, ServeOptions, TableForm, TableOptions,
+    USUAL_BUFFERS, USUAL_CLIENTS, USUAL_COUNT, USUAL_IDLE, USUAL_KDC_WAIT, USUAL_KVNO,
+    usual_clients_per_peer,
 };
+use crate::listening::ListenAddresses;
 use crate::program::program as new_program;
 use crate::refusing::{Refusal, import_refusal, lacks_kdc, refusal_of};
 use clap::{ArgMatches, Error};
@@ -65,6 +71,7 @@ fn asked_of<'a>(matches: &ArgMatches<'a>) -> Option<Invocation<'a>>
         "table" => table_of(options),
         "import" => import_of(options),
         "key" => key_of(options),
+        "new-journal" => new_journal_of(options),
         "serve" => serve_of(options),
         "control" => control_of(options),
         "client" => client_of(options),
@@ -168,6 +175,18 @@ fn realm_of<'a>(options: &ArgMatches<'a>) -> Option<&'a str>
     Some(realm)
 }
 
+#[tactic(auto, using(crate::proofs::NeedLemmas::required_there))]
+fn new_journal_of<'a>(options: &ArgMatches<'a>) -> Option<Invocation<'a>>
+    ensures asked { IfSome result (AsksFor (Some (codes "new-journal", rows_of (found_of options.now)))) }
+    ensures whole { Meets specs_of.new_journal (rows_of (found_of options.now)) → result ≢ None }
+{
+    Some(Invocation::NewJournal(NewJournalOptions {
+        config: text_of(options, "config")?,
+        journal: text_of(options, "journal")?,
+        resume: text_of(options, "resume"),
+    }))
+}
+
 fn serve_of<'a>(options: &ArgMatches<'a>) -> Option<Invocation<'a>>
     ensures asked { IfSome result (AsksFor (Some (codes "serve", rows_of (found_of options.now)))) }
     ensures none { Meets specs_of.serve (rows_of (found_of options.now)) → result ≡ None
@@ -176,28 +195,36 @@ fn serve_of<'a>(options: &ArgMatches<'a>) -> Option<Invocation<'a>>
     if lacks_kdc(options) {
         return None;
     }
-    service_of(options)
+    match listen_of(options) {
+        Ok(listen) => service_of(options, listen),
+        Err(_) => None,
+    }
 }
 
 // A service whose options agree.
 #[tactic(auto, using(crate::proofs::NeedLemmas::required_there))]
-fn service_of<'a>(options: &ArgMatches<'a>) -> Option<Invocation<'a>>
+fn service_of<'a>(options: &ArgMatches<'a>, listen: ListenAddresses) -> Option<Invocation<'a>>
+    requires listen { Listens (rows_of (found_of options.now)) (listened listen) }
     ensures asked { IfSome result (AsksFor (Some (codes "serve", rows_of (found_of options.now)))) }
     ensures none { Meets specs_of.serve (rows_of (found_of options.now)) → result ≡ None
         → LacksLimit (rows_of (found_of options.now)) }
 {
+    let clients = clients_of(options)?;
     Some(Invocation::Serve(ServeOptions {
         config: text_of(options, "config")?,
         journal: text_of(options, "journal")?,
         seed: text_of(options, "seed")?,
         port: port_of(options)?,
+        listen,
         workers: workers_of(options)?,
         connections: connections_of(options)?,
         idle: idle_of(options)?,
-        clients: clients_of(options)?,
+        clients,
+        clients_per_peer: clients_per_peer_of(options, clients)?,
         buffers: buffers_of(options)?,
         raise: raise_of(options)?,
         log: text_of(options, "log"),
+        resume: text_of(options, "resume"),
         kdc: text_of(options, "kdc"),
         kdc_wait: kdc_wait_of(options)?,
         require_kdc: is_given(options, "require-kdc"),
@@ -206,6 +233,7 @@ fn service_of<'a>(options: &ArgMatches<'a>) -> Option<Invocation<'a>>
         rfc3244_only: is_given(options, "rfc3244-only"),
         strict_messages: is_given(options, "strict-messages"),
         strict_modes: is_given(options, "strict-modes"),
+        existing_journal: is_given(options, "existing-journal"),
     }))
 }
 
@@ -316,6 +344,29 @@ pub(crate) fn text_of<'a>(options: &ArgMatches<'a>, name: &str) -> Option<&'a st
         ≡ first_of name.now (rows_of (found_of options.now)) }
 {
     options.get_str(name)
+}
+
+/// Where a service listens, if its addresses are such; none may be a wildcard if it takes datagrams.
+pub(crate) fn listen_of(options: &ArgMatches<'_>) -> Result<ListenAddresses, Refusal>
+    ensures listen { IfOk result (λ l. Listens (rows_of (found_of options.now)) (listened l)) }
+    ensures refused { IfErr result (RefusesListen (rows_of (found_of options.now))) }
+{
+    let listen = given_of(options)?;
+    if is_given(options, "udp") && listen.has_wildcard() {
+        return Err(Refusal::AnyDatagrams);
+    }
+    Ok(listen)
+}
+
+// The addresses that are given, or the usual one.
+fn given_of(options: &ArgMatches<'_>) -> Result<ListenAddresses, Refusal>
+    ensures listen { IfOk result (λ l. IsListening (given (rows_of (found_of options.now))) (listened l)) }
+    ensures refused { IfErr result (IsNoList (given (rows_of (found_of options.now)))) }
+{
+    match options.get_strs("listen") {
+        Some(texts) => addresses_of(texts),
+        None => addresses_of(&[]),
+    }
 }
 
 /// Whether a flag is given.
@@ -432,6 +483,19 @@ fn clients_of(options: &ArgMatches<'_>) -> Option<u32>
     ensures taken { Suits (filled options_of.clients) (rows_of (found_of options.now)) → result ≢ None }
 {
     number_or(options, "clients", USUAL_CLIENTS, MOST_CLIENTS)
+}
+
+// How many of these connections one peer may have at a time.
+fn clients_per_peer_of(options: &ArgMatches<'_>, clients: u32) -> Option<u32>
+    requires few { clients ≤ 65536 }
+    ensures clients_per_peer { IfSome result
+        (HasNumberOr (usual_per_peer clients) 1 65536 (rows_of (found_of options.now)) (codes "clients-per-peer")) }
+    ensures lacks { result ≡ None
+        → LacksGiven 1 65536 (rows_of (found_of options.now)) (codes "clients-per-peer") }
+    ensures taken { Suits (filled options_of.clients_per_peer) (rows_of (found_of options.now)) → result ≢ None }
+{
+    let usual = usual_clients_per_peer(clients);
+    number_or(options, "clients-per-peer", usual, MOST_CLIENTS_PER_PEER)
 }
 
 // How many MiB the messages and replies of all connections may hold.

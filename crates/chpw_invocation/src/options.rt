@@ -15,6 +15,8 @@ pub(crate) enum OptionKind {
     Required,
     /// An optional value.
     Optional,
+    /// A value as often as it is given.
+    Repeated,
     /// A required number from 1 to a limit.
     Number(u32),
     /// An optional number from 1 to a limit.
@@ -61,6 +63,20 @@ pub(crate) fn optional(name: &'static str, value: &'static str, help: &'static s
     ensures texts { specs_of.texts_of result ≡ (value.entry.now, help.entry.now) }
 {
     let kind = OptionKind::Optional;
+    OptionLine {
+        name,
+        kind,
+        value,
+        help,
+    }
+}
+
+/// An option with a value that may be given more than once.
+pub(crate) fn repeated(name: &'static str, value: &'static str, help: &'static str) -> OptionLine
+    ensures rule { specs_of.rule_for result ≡ specs_of.repeated name.entry.now }
+    ensures texts { specs_of.texts_of result ≡ (value.entry.now, help.entry.now) }
+{
+    let kind = OptionKind::Repeated;
     OptionLine {
         name,
         kind,
@@ -162,6 +178,7 @@ pub(crate) fn argument_of<'a>(alloc: Global, line: &OptionLine) -> Arg<'a>
     match line.kind {
         OptionKind::Required => option_arg(alloc, line, true),
         OptionKind::Optional => option_arg(alloc, line, false),
+        OptionKind::Repeated => option_arg(alloc, line, false).action(ArgAction::Append),
         OptionKind::Number(limit) => option_arg(alloc, line, true).value_parser(up_to(limit)),
         OptionKind::OptionalNumber(limit) => option_arg(alloc, line, false).value_parser(up_to(
             limit,

@@ -7,17 +7,21 @@ ghost use Rattle.chpw_invocation.specs.Program as specs_of;
 
 use crate::invocation::{
     GREATEST_COUNT, GREATEST_KVNO, GREATEST_PORT, LONGEST_IDLE, LONGEST_KDC_WAIT, MOST_BUFFERS,
-    MOST_CLIENTS, MOST_WORKERS,
+    MOST_CLIENTS, MOST_CLIENTS_PER_PEER, MOST_WORKERS,
 };
 use crate::options::{
-    OptionLine, argument_of, flag, number, optional, optional_number, optional_word,
+    OptionLine, argument_of, flag, number, optional, optional_number, optional_word, repeated,
     required_option, word,
 };
 use clap::Command;
 use std::alloc::{AllocError, Global};
 
-/// The version that `--version` and `status` print.
-pub const VERSION: &str = "0.1";
+/// The version that `status` prints.
+pub const VERSION: &str = "0.2";
+
+// What `--version` prints: the version, and the toolchain by which the program is proved and compiled. `tools/documents`
+// compares both with the documents.
+const LONG_VERSION: &str = "0.2\ntoolchain rattle-kit-13 logic dac8208d650f15bf";
 
 const ABOUT: &str = "The Kerberos change-password service kadmin/changepw (RFC 3244).";
 
@@ -41,7 +45,8 @@ const CHECK: &str = "Check a configuration, and print its first fault.";
 const CHECK_MORE: &str = "\
 Prints 'ok: principals N, rules N, service keys N' with status 0, or the first fault as kind, part and
 index, such as 'C4 policy 0', with status 1; then standard error says where it is and what was
-expected.
+expected. Settings that nothing reads, rules whose names are no principal's, and rules for everybody are
+named on standard error, too; they don't change the status.
 
 Example:
   chpw_server check --config samples/realm.toml";
@@ -69,11 +74,11 @@ const OLD_JOURNAL_HELP: &str = "The journal of accepted changes, which must exis
 
 const AS_HELP: &str = "lines, configuration or keys [default: lines]";
 
-const SERVE: &str = "Run the service on 127.0.0.1.";
+const SERVE: &str = "Run the service.";
 
 const SERVE_MORE: &str = "\
-Prints 'listening on 127.0.0.1:N' before it accepts the first connection, and 'entries N changes N' at
-the end and whenever a history ends, when it is full or by a reload or 'control compact': how many
+Prints 'listening on ADDRESS:PORT' for each address before it accepts the first connection, and
+'entries N changes N' at the end and whenever a history ends, when it is full or by a reload or 'control compact': how many
 requests were decided, and how many of them changed a password.
 
 Connection i is answered by worker i modulo the number of workers; with --udp each datagram counts as
@@ -88,6 +93,11 @@ can use its new password at once. If the agent doesn't answer within --kdc-wait,
 anyway, and the log says so. With --require-kdc such a reply isn't sent, and its connection ends; and
 while there is no connection to the agent, or a key has been on its way for longer, each request is
 answered code 2, error 60, 'KDC out of reach', and isn't decided.
+
+After a start that finds a journal, requests are refused for five minutes, since some may have been
+answered before. With --resume FILE a clean end ('control stop') leaves in FILE which requests were
+answered, and the next start removes FILE and goes on from there at once. A FILE that doesn't fit the
+realm, the journal and the clock is set aside, and a line says why.
 
 With --raise COUNT it first prints the result: 'raised COUNT', 'count not higher', 'journal failed' or
 'history full'. It serves after each of them.
@@ -109,6 +119,9 @@ const IDLE_HELP: &str =
 
 const CLIENTS_HELP: &str = "How many connections may be open at a time, 1 to 65536 [default: 1024]";
 
+const CLIENTS_PER_PEER_HELP: &str =
+    "How many of them one peer may have at a time, 1 to 65536 [default: a quarter of --clients]";
+
 const BUFFERS_HELP: &str =
     "How many MiB the messages and replies of all connections may hold together, 1 to 1024 [default: 32]";
 
@@ -117,6 +130,9 @@ const RAISE_HELP: &str =
 
 const LOG_HELP: &str =
     "Append a line for each decision to this file, created if it doesn't exist; - for standard error [default: no log]";
+
+const RESUME_HELP: &str =
+    "Write to this file at a clean end which requests were answered, and take it over at the next start, without a quiet time [default: none]";
 
 const KDC_HELP: &str =
     "The socket of the agent at the KDC's database: keys are written and taken there [default: none]";
@@ -129,7 +145,7 @@ const REQUIRE_KDC_HELP: &str =
 
 const CONTROL_HELP: &str = "Accept commands of 'control' at this socket [default: none]";
 
-const UDP_HELP: &str = "Accept messages over UDP too, at the same port";
+const UDP_HELP: &str = "Accept messages over UDP too, at the same port and addresses";
 
 const RFC3244_ONLY_HELP: &str =
     "Answer requests of the earlier protocol, version 0x0001, with 'bad version'";
@@ -138,6 +154,26 @@ const STRICT_MESSAGES_HELP: &str =
     "Refuse a KRB-PRIV without an expected sequence number or microseconds, or for another address";
 
 const STRICT_MODES_HELP: &str = "Don't start if other users may read, write or replace its files";
+
+const EXISTING_JOURNAL_HELP: &str = "Don't start if there is no journal: make one with new-journal";
+
+const NEW_JOURNAL: &str = "Make an empty journal for a realm.";
+
+const NEW_JOURNAL_MORE: &str = "\
+The journal begins with a record of the configuration's realm, and is refused from then on with a
+configuration of another realm. It is readable and writable by its owner alone. Nothing is overwritten.
+
+A start that finds a journal refuses requests for five minutes, since some may have been answered
+before. --resume FILE makes FILE as a clean end would leave it that had answered none: the first
+'serve --resume FILE' removes it and answers at once.
+
+Example:
+  chpw_server new-journal --config samples/realm.toml --journal realm.journal --resume realm.resume";
+
+const NEW_JOURNAL_HELP: &str = "The journal to make, where there is no file yet";
+
+const NEW_RESUME_HELP: &str =
+    "Make this file, too, where there is none yet, so that the first 'serve --resume' has no quiet time [default: none]";
 
 const IMPORT: &str = "Convert a keytab's keys, or a KDC's, to a configuration.";
 
@@ -225,7 +261,12 @@ Example:
 const SEED_HELP: &str =
     "A file whose first 32 bytes seed the random numbers; use a new seed for each run";
 
-const PORT_HELP: &str = "The service's port on 127.0.0.1, 1 to 65535";
+const LISTEN_HELP: &str =
+    "An address of this host to listen at, IPv4 or IPv6; as often as there are addresses [default: 127.0.0.1]";
+
+const PORT_HELP: &str = "The port to listen at, 1 to 65535";
+
+const CLIENT_PORT_HELP: &str = "The service's port on 127.0.0.1, 1 to 65535";
 
 const CLIENT_HELP: &str =
     "The client's principal: 1 to 8 components of 1 to 128 bytes, with / between them, as alice or alice/admin";
@@ -317,6 +358,24 @@ fn key<'a>(alloc: Global) -> Result<Command<'a>, AllocError>
     command_with(alloc, "key", KEY, KEY_MORE, &options)
 }
 
+fn new_journal<'a>(alloc: Global) -> Result<Command<'a>, AllocError>
+    ensures shape { IfOk result (λ c. app_of c ≡ specs_of.alone specs_of.new_journal) }
+    ensures local { IfOk result specs_of.IsLocal }
+{
+    let options = [
+        required_option("config", "FILE", CONFIG_HELP),
+        required_option("journal", "FILE", NEW_JOURNAL_HELP),
+        optional("resume", "FILE", NEW_RESUME_HELP),
+    ];
+    command_with(
+        alloc,
+        "new-journal",
+        NEW_JOURNAL,
+        NEW_JOURNAL_MORE,
+        &options,
+    )
+}
+
 fn serve<'a>(alloc: Global) -> Result<Command<'a>, AllocError>
     ensures shape { IfOk result (λ c. app_of c ≡ specs_of.alone specs_of.serve) }
     ensures local { IfOk result specs_of.IsLocal }
@@ -326,13 +385,21 @@ fn serve<'a>(alloc: Global) -> Result<Command<'a>, AllocError>
         required_option("journal", "FILE", JOURNAL_HELP),
         required_option("seed", "FILE", SEED_HELP),
         number("port", "N", GREATEST_PORT as u32, PORT_HELP),
+        repeated("listen", "ADDRESS", LISTEN_HELP),
         number("workers", "N", MOST_WORKERS as u32, WORKERS_HELP),
         required_option("connections", "N", CONNECTIONS_HELP),
         optional_number("idle", "SECONDS", LONGEST_IDLE as u32, IDLE_HELP),
         optional_number("clients", "N", MOST_CLIENTS, CLIENTS_HELP),
+        optional_number(
+            "clients-per-peer",
+            "N",
+            MOST_CLIENTS_PER_PEER,
+            CLIENTS_PER_PEER_HELP,
+        ),
         optional_number("buffers", "MEBIBYTES", MOST_BUFFERS as u32, BUFFERS_HELP),
         optional_number("raise", "COUNT", GREATEST_COUNT, RAISE_HELP),
         optional("log", "FILE", LOG_HELP),
+        optional("resume", "FILE", RESUME_HELP),
         optional("kdc", "SOCKET", KDC_HELP),
         optional_number("kdc-wait", "MILLISECONDS", LONGEST_KDC_WAIT, KDC_WAIT_HELP),
         flag("require-kdc", REQUIRE_KDC_HELP),
@@ -341,6 +408,7 @@ fn serve<'a>(alloc: Global) -> Result<Command<'a>, AllocError>
         flag("rfc3244-only", RFC3244_ONLY_HELP),
         flag("strict-messages", STRICT_MESSAGES_HELP),
         flag("strict-modes", STRICT_MODES_HELP),
+        flag("existing-journal", EXISTING_JOURNAL_HELP),
     ];
     command_with(alloc, "serve", SERVE, SERVE_MORE, &options)
 }
@@ -364,7 +432,7 @@ fn client<'a>(alloc: Global) -> Result<Command<'a>, AllocError>
     let options = [
         required_option("config", "FILE", CONFIG_HELP),
         required_option("seed", "FILE", SEED_HELP),
-        number("port", "N", GREATEST_PORT as u32, PORT_HELP),
+        number("port", "N", GREATEST_PORT as u32, CLIENT_PORT_HELP),
         required_option("client", "NAME", CLIENT_HELP),
         optional("password", "TEXT", PASSWORD_HELP),
         optional("password-file", "FILE", NEW_PASSWORD_FILE_HELP),
@@ -395,7 +463,7 @@ fn leading<'a>(alloc: Global) -> Command<'a>
     Command::new(alloc, "chpw_server")
         .about(ABOUT)
         .after_help(STATUSES)
-        .version(VERSION)
+        .version(LONG_VERSION)
         .subcommand_required(true)
         .arg_required_else_help(true)
 }
@@ -410,6 +478,7 @@ pub(crate) fn program<'a>(alloc: Global) -> Result<Command<'a>, AllocError>
     let program = with_command(program, table(alloc));
     let program = with_command(program, import(alloc));
     let program = with_command(program, key(alloc));
+    let program = with_command(program, new_journal(alloc));
     let program = with_command(program, serve(alloc));
     let program = with_command(program, control(alloc));
     with_command(program, client(alloc))

@@ -5,12 +5,13 @@ ghost use Rattle.clap.specs.Words.{first_of, found_of, rows_of, subcommand_rows_
 ghost use Rattle.chpw_invocation.specs.Controls as controls;
 ghost use Rattle.chpw_invocation.specs.Invocations.{AimsOld, IsOwnReason, IsOwnRefusal, RefusesClient, RefusesControl};
 ghost use Rattle.chpw_invocation.specs.Invocations.{LacksKdc, RefusesImport, RefusesServe, import_refusal, is_realm};
-ghost use Rattle.chpw_invocation.specs.Needs.{IsSuited, Suits};
+ghost use Rattle.chpw_invocation.specs.Needs.{IsSuited, Meets, Suits};
 ghost use Rattle.chpw_invocation.specs.Options.{flag};
+ghost use Rattle.chpw_invocation.specs.Program.{serve};
 ghost use Rattle.chpw_invocation.specs.Refusals.{kind_for, text_for};
 
 use crate::invocation::LONGEST_REALM;
-use crate::matching::{is_given, text_of};
+use crate::matching::{is_given, listen_of, text_of};
 use clap::ArgMatches;
 use clap::error::ErrorKind;
 
@@ -35,6 +36,14 @@ pub(crate) enum Refusal {
     NoLimit,
     /// `serve` requires the KDC to be in reach, and has none.
     NoKdc,
+    /// `serve` has a value of `--listen` that is no address.
+    NoAddress,
+    /// `serve` has the same address twice.
+    SameAddress,
+    /// `serve` has more than 64 addresses.
+    ManyAddresses,
+    /// `serve` is to take datagrams at all addresses, by 0.0.0.0 or ::, where none tells at which one it came.
+    AnyDatagrams,
     /// The realm is empty or has more than 255 bytes.
     NoRealm,
     /// `import` has a KDC, and a keytab or its realm.
@@ -52,11 +61,16 @@ impl Refusal {
     {
         match self {
             Refusal::OldTarget | Refusal::TwoPasswords => ErrorKind::ArgumentConflict,
-            Refusal::SpareSource | Refusal::SpareConfig => ErrorKind::ArgumentConflict,
+            Refusal::SpareSource | Refusal::SpareConfig | Refusal::AnyDatagrams => {
+                ErrorKind::ArgumentConflict
+            }
             Refusal::NoPassword | Refusal::NoFile | Refusal::NoSource | Refusal::NoKdc => {
                 ErrorKind::MissingRequiredArgument
             }
             Refusal::NoCommand | Refusal::NoForm | Refusal::NoLimit | Refusal::NoRealm => {
+                ErrorKind::InvalidValue
+            }
+            Refusal::NoAddress | Refusal::SameAddress | Refusal::ManyAddresses => {
                 ErrorKind::InvalidValue
             }
             Refusal::SpareFile => ErrorKind::UnknownArgument,
@@ -85,6 +99,15 @@ impl Refusal {
                 "a value for '--connections <N>' is a number from 1 to 4294967295, or unlimited"
             }
             Refusal::NoKdc => "the argument '--require-kdc' requires '--kdc <SOCKET>'",
+            Refusal::NoAddress => {
+                "a value for '--listen <ADDRESS>' is an address of IPv4 or IPv6, without a port"
+            }
+            Refusal::SameAddress => "the argument '--listen <ADDRESS>' has the same address twice",
+            Refusal::ManyAddresses =>
+                "the argument '--listen <ADDRESS>' has more than 64 addresses",
+            Refusal::AnyDatagrams => {
+                "the argument '--udp' cannot be used with '--listen 0.0.0.0' or '--listen ::'"
+            }
             Refusal::NoRealm => "a value for '--realm <REALM>' has 1 to 255 bytes",
             Refusal::SpareSource => {
                 "the argument '--kdc <SOCKET>' cannot be used with '--keytab <FILE>' or '--realm <REALM>'"
@@ -149,14 +172,16 @@ fn control_refusal(options: &ArgMatches<'_>) -> Refusal
 
 // Why `serve` is refused.
 fn refusal_of_serve(options: &ArgMatches<'_>) -> Refusal
-    ensures why { Suits (filled (flag (codes "require-kdc"))) (rows_of (found_of options.now))
+    ensures why { Meets serve (rows_of (found_of options.now))
         → (refusal : Refusal) → RefusesServe (rows_of (found_of options.now)) refusal
         → RefusesServe (rows_of (found_of options.now)) result }
 {
     if lacks_kdc(options) {
-        Refusal::NoKdc
-    } else {
-        Refusal::NoLimit
+        return Refusal::NoKdc;
+    }
+    match listen_of(options) {
+        Err(refusal) => refusal,
+        Ok(_) => Refusal::NoLimit,
     }
 }
 

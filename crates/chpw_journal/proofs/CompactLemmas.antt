@@ -1,7 +1,7 @@
 -- What a compact journal gives, and what is found again behind it.
-use Rattle.std.proofs.Common.{◌≡◌, ℕ, zero, suc, ◌≤◌, ◌<◌, ◌+◌, max, List, [], ◌∷◌, ◌++◌, take, length, Bool, true, false, ◌||◌, ◌==◌}
-use Rattle.std.proofs.Common.{if◌then◌else◌, Option, Some, None, refl, sym, ◌∙◌, ap, subst, arith, rules}
-use Rattle.std.specs.Prelude.{Decides, nat_lt, IsSome, IfSome}
+use Rattle.std.proofs.Common.{◌≡◌, ℕ, ◌≤◌, ◌<◌, ◌+◌, max, List, [], ◌∷◌, ◌++◌, length, Bool, true, false, ◌||◌, ◌==◌}
+use Rattle.std.proofs.Common.{if◌then◌else◌, Option, Some, None, refl, sym, ◌∙◌, ap, subst, arith}
+use Rattle.std.specs.Prelude.{Decides, nat_lt, IfSome}
 use Rattle.std.specs.List.{flat_map}
 use Rattle.std.specs.Cmp.Lexicographic.{pointwise_decides, bytes_decides}
 use Rattle.std.proofs.lemmas.Bool.Decides.{Decides-and, Decides-eqb, Decides-like, nat_tests}
@@ -24,12 +24,12 @@ use Rattle.chpw_record.specs.declared.record.KeyKind.TheVariants as kind
 use Rattle.chpw_record.specs.declared.record.Record.{Record}
 use Rattle.chpw_record.specs.declared.record.Record.TheVariants as record_of
 use Rattle.chpw_record.specs.Records.{ChangeFits, records_text}
-use Rattle.chpw_journal.specs.JournalText.{restored, is_lacked, may_follow, with_record, IsNextRecord, AreNext, Begins, whole, IsReading}
-use Rattle.chpw_journal.specs.Runs.{SameKeys, IsWholeKey, journals, records_in, last_state}
+use Rattle.chpw_journal.specs.JournalText.{restored, is_lacked, may_follow, IsNextRecord, AreNext, Begins, whole, IsReading}
+use Rattle.chpw_journal.specs.Runs.{SameKeys, IsWholeKey, journals, records_in}
 use Rattle.chpw_journal.specs.Joined.{IsAlike}
 use Rattle.chpw_journal.specs.Compact.{is_same_key, are_same_keys, newer_kind, key_records, records_between, names_of, joined_names}
-use Rattle.chpw_journal.specs.Compact.{name_records, raise_records, compacted, KeyInRange, IsAfter}
-use Rattle.chpw_journal.specs.Compact.{AreInRow, AreKeptInRow, IsWholeRecord, AreWholeRecords, MayCompact}
+use Rattle.chpw_journal.specs.Compact.{name_records, raise_records, compacted, KeyInRange}
+use Rattle.chpw_journal.specs.Compact.{AreInRow, AreKeptInRow, AreWholeRecords, MayCompact}
 use Rattle.chpw_journal.specs.CompactLaws.{IsGiven, CompactGives, CompactIsNext, CompactReads, CompactIsFoundAgain, CompactMayOpen}
 use Rattle.chpw_journal.proofs.CoverLemmas.{Covers, AreShared, all_shared, record_keys, restored_kept, restored_alike, restored_count, next_shared}
 use Rattle.chpw_journal.proofs.FoundLemmas.{all_next, found_again, found_of, kept_again, count_again, reads_again}

@@ -20,7 +20,7 @@ use Rattle.chpw_table.proofs.HoldingLemmas.{kept_at_least}
 use Rattle.chpw_table.proofs.KeyLemmas.{keys_in}
 use Rattle.chpw_table.proofs.UpdateLemmas.{keys_with, same_held}
 use Rattle.chpw_journal.specs.JournalText.{with_record, restored, is_lacked, may_follow, IsNextRecord, AreNext}
-use Rattle.chpw_journal.specs.Known.{IsKnown, AreKnown}
+use Rattle.chpw_journal.specs.Known.{AreKnown}
 
 -- ---- one record
 

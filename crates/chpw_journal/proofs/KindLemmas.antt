@@ -1,9 +1,8 @@
 -- What putting back a key does, kind by kind, and why it isn't put back.
-use Rattle.std.proofs.Common.{◌≡◌, ◌≢◌, ℕ, ◌+◌, ◌<◌, List, length, Bool, true, false, ◌==◌, Option, Some, None}
-use Rattle.std.proofs.Common.{is_none, unwrap_or, refl, sym, ◌∙◌, ap, subst, arith}
+use Rattle.std.proofs.Common.{◌≡◌, ◌≢◌, ℕ, ◌+◌, ◌<◌, List, length, true, false, ◌==◌, Option, Some, None}
+use Rattle.std.proofs.Common.{is_none, refl, sym, ◌∙◌, ap, subst, arith}
 use Rattle.std.specs.Prelude.{IsSome, nat_lt}
 use Rattle.std.proofs.lemmas.Bool.Decides.{nat_tests}
-use Rattle.chpw_rules.specs.declared.name.Name.{Name}
 use Rattle.chpw_record.specs.declared.key.KeyRow.{KeyRow}
 use Rattle.chpw_record.specs.declared.record.Change.{Change}
 use Rattle.chpw_record.specs.declared.record.KeyKind.TheVariants as kind
@@ -14,8 +13,7 @@ use Rattle.chpw_table.specs.State.{State, keys_held, kept_count}
 use Rattle.chpw_table.specs.Agreement.{Held, Agrees}
 use Rattle.chpw_table.specs.BaseKeys.{with_base_key, IsBaseRefused}
 use Rattle.chpw_table.specs.Decision.{newest_kvno}
-use Rattle.chpw_table.specs.Restoring.{with_kept_key, IsNextKey, IsKeyRefused, IsHigherKey, IsNextUpdate, IsUpdateKeyRefused}
-use Rattle.chpw_table.specs.Updates.{is_newer}
+use Rattle.chpw_table.specs.Restoring.{with_kept_key, IsNextKey, IsKeyRefused, IsHigherKey, IsUpdateKeyRefused}
 use Rattle.chpw_table.proofs.AgreementLemmas.{agrees_itself}
 use Rattle.chpw_table.proofs.BaseLemmas.{keys_based}
 use Rattle.chpw_table.proofs.KeyLemmas.{keys_put}

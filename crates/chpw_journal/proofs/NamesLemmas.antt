@@ -1,7 +1,6 @@
 -- The names that a compact journal is made over: each stands once, and all that the two states hold are among them.
 use Rattle.std.proofs.Common.{◌≡◌, List, [], ◌∷◌, ◌++◌, map, filter, Bool, true, false, not, ◌&&◌, ◌||◌}
-use Rattle.std.proofs.Common.{if◌then◌else◌, Option, Some, None, is_none, refl, sym, ◌∙◌, ap}
-use Rattle.std.specs.Prelude.{IsSome}
+use Rattle.std.proofs.Common.{Option, Some, None, is_none, refl, sym, ◌∙◌, ap}
 use Rattle.std.specs.List.{AllByRecursion}
 use Rattle.std.specs.List.Sorted.{IsStrictlySortedBy}
 use Rattle.std.specs.declared.cmp.Ordering.TheVariants.{Less}

@@ -10,7 +10,7 @@ use Rattle.chpw_record.specs.declared.record.KeyKind.TheVariants as kind
 use Rattle.chpw_record.specs.declared.record.Record.{Record}
 use Rattle.chpw_record.specs.declared.record.Record.TheVariants as record_of
 use Rattle.chpw_journal.specs.declared.fault.RestoreFault.{RestoreFault}
-use Rattle.chpw_journal.specs.declared.fault.RestoreFault.TheVariants.{BadRecord, WrongVersion, UnknownPrincipal, TooMany, CannotRead, Memory}
+use Rattle.chpw_journal.specs.declared.fault.RestoreFault.TheVariants.{BadRecord, WrongVersion, UnknownPrincipal, TooMany, OtherRealm, CannotRead, Memory}
 use Rattle.chpw_journal.specs.declared.restoring.Restored.{Restored}
 use Rattle.chpw_record.specs.Records.{RecordFits, body_text, record_text, records_text, stated_length, is_record_length, framed}
 use Rattle.chpw_journal.specs.JournalText.{restored, is_cut_off, HasBadLength, HasBadBody, Begins}
@@ -208,5 +208,6 @@ record_fault before old now new r body (TooMany n) h d range f = (
   consumes_more old now new (records_text h.whole_records) (framed body) h.read d,
   too_many before old now r body n h f.0 f.1 f.2 f.3 f.4,
 )
+record_fault before old now new r body OtherRealm h d range f = absurd f
 record_fault before old now new r body CannotRead h d range f = absurd f
 record_fault before old now new r body Memory h d range f = tt

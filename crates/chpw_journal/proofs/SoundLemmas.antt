@@ -1,5 +1,5 @@
 -- States within the limits, and what a key's record makes of one.
-use Rattle.std.proofs.Common.{◌≡◌, ℕ, zero, suc, ◌≤◌, max, List, [], ◌∷◌, take, Bool, true, false, if◌then◌else◌, Option, Some, None, refl, sym, subst, arith}
+use Rattle.std.proofs.Common.{◌≡◌, ℕ, zero, suc, ◌≤◌, List, [], ◌∷◌, take, Bool, true, false, if◌then◌else◌, Option, Some, None, refl, sym, subst, arith}
 use Rattle.std.specs.Prelude.{IsSome, IfSome}
 use Rattle.std.specs.List.{list_all}
 use Rattle.std.proofs.lemmas.Bool.Decides.{nat_tests}
@@ -12,15 +12,15 @@ use Rattle.chpw_record.specs.declared.record.KeyKind.{KeyKind}
 use Rattle.chpw_record.specs.declared.record.KeyKind.TheVariants as kind
 use Rattle.chpw_record.specs.declared.record.Record.TheVariants as record_of
 use Rattle.chpw_record.specs.Records.{ChangeFits}
-use Rattle.chpw_table.specs.State.{State, keys_held, kept_count, new_count}
+use Rattle.chpw_table.specs.State.{State, keys_held, kept_count}
 use Rattle.chpw_table.specs.Decision.{newest_kvno}
 use Rattle.chpw_table.specs.Holding.{is_count_in_range}
-use Rattle.chpw_table.specs.Updates.{keys_after, with_newest}
+use Rattle.chpw_table.specs.Updates.{keys_after}
 use Rattle.chpw_table.proofs.BoolLemmas.{and_left, and_right, both}
 use Rattle.chpw_table.proofs.KeyLemmas.{kept_some}
 use Rattle.chpw_table.proofs.NameLemmas.{is_same_name-Decides}
 use Rattle.chpw_journal.specs.JournalText.{with_record}
-use Rattle.chpw_journal.specs.Runs.{SameKeys, IsSound}
+use Rattle.chpw_journal.specs.Runs.{IsSound}
 use Rattle.chpw_journal.specs.Joined.{IsAlike}
 use Rattle.chpw_journal.proofs.CoverLemmas.{record_keys}
 

@@ -1,5 +1,5 @@
 -- Where the records of a journal stop: a text comes to one thing.
-use Rattle.std.proofs.Common.{◌≡◌, ◌≢◌, ℕ, zero, suc, ◌+◌, ◌≤◌, ◌<◌, List, [], ◌∷◌, ◌++◌, length}
+use Rattle.std.proofs.Common.{◌≡◌, ℕ, zero, suc, ◌+◌, ◌≤◌, ◌<◌, List, [], ◌∷◌, ◌++◌, length}
 use Rattle.std.proofs.Common.{take, Bool, true, false, ⊎_elim, refl, sym, ◌∙◌}
 use Rattle.std.proofs.Common.{ap, subst, arith, lit<, length-append, length-take, append_assoc}
 use Rattle.std.specs.Prelude.{◌⊎◌, nat_lt}

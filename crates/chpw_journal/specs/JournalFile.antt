@@ -9,6 +9,7 @@ use Rattle.chpw_journal.specs.declared.journal_file.JournalFile.{JournalFile}
 use Rattle.chpw_journal.specs.declared.journal_file.OpenFault.{OpenFault}
 use Rattle.chpw_journal.specs.declared.journal_file.OpenFault.TheVariants.{CannotRead, CannotWrite, Restore}
 use Rattle.chpw_journal.specs.Restoring.{IsRestored, IsRefused}
+use Rattle.chpw_journal.specs.Headings.{IsWholeRestored, IsWholeRefused}
 
 -- the fault of a file that isn't read yet
 abbrev pub IsUnopened : OpenFault → Type 0
@@ -20,7 +21,7 @@ IsUnopened (Restore fault) = ⊥
 abbrev pub cut_of : Restored → Option ℕ
 cut_of r = if r.torn then Some r.kept else None
 
--- restored from all that was left of a file
+-- restored from all that was left of a file, behind its heading
 abbrev pub IsReadFrom : Held → Option (List ℕ) → Restored → Type 0
 IsReadFrom before old r = (left : Option (List ℕ)) × IsRestored before old left r
 
@@ -31,7 +32,7 @@ given_by remaining f = remaining f.file
 -- a file that was there: its records, and none besides, are replayed in the table, and a torn tail is cut off
 pub record IsReopened {F : Type 0} (before : Held) (given : Option (List ℕ)) (j : Journal F) : Type 0 where
   pub all : Restored
-  pub read : IsReadFrom before given all
+  pub read : IsWholeRestored before given all
   pub table : j.table ≡ all.table
   pub cut : j.cut_at ≡ cut_of all
 
@@ -42,7 +43,7 @@ IsBegun before j = (j.table ≡ before) × (j.cut_at ≡ None)
 abbrev pub IsOpened : {F : Type 0} → Held → Option (List ℕ) → Journal F → Type 0
 IsOpened before given j = MatchBool j.found (IsReopened before given j) (IsBegun before j)
 
--- refused for what was read of a file
+-- refused for what was read of the rest of a file, behind its heading
 abbrev pub IsRefusedFrom : Held → Option (List ℕ) → RestoreFault → Type 0
 IsRefusedFrom before old fault = (left : Option (List ℕ)) × IsRefused before old left fault
 
@@ -50,5 +51,5 @@ IsRefusedFrom before old fault = (left : Option (List ℕ)) × IsRefused before 
 -- were read
 abbrev pub IsUnrestored : Held → Option (List ℕ) → OpenFault → Type 0
 IsUnrestored before given CannotRead = ⊥
-IsUnrestored before given CannotWrite = (r : Restored) × IsReadFrom before given r × (r.torn ≡ true)
-IsUnrestored before given (Restore fault) = IsRefusedFrom before given fault
+IsUnrestored before given CannotWrite = (r : Restored) × IsWholeRestored before given r × (r.torn ≡ true)
+IsUnrestored before given (Restore fault) = IsWholeRefused before given fault

@@ -1,5 +1,5 @@
 -- For proofs alone: what was read of a journal.
-use Rattle.std.specs.Prelude.{◌≡◌, ℕ, ◌≤◌, ◌<◌, List, [], ◌++◌, length, true, Option}
+use Rattle.std.specs.Prelude.{◌≡◌, ℕ, ◌≤◌, ◌<◌, List, [], length, true, Option}
 use Rattle.std.specs.Int.{to_be_bytes, w16}
 use Rattle.std.specs.Io.KnownBytes.{Consumes, IsAtEnd}
 use Rattle.chpw_journal.specs.declared.reading.Next.{Next}

@@ -11,7 +11,7 @@ use Rattle.chpw_record.specs.declared.record.KeyKind.TheVariants as kind
 use Rattle.chpw_record.specs.declared.record.Record.{Record}
 use Rattle.chpw_record.specs.declared.record.Record.TheVariants as record_of
 use Rattle.chpw_journal.specs.declared.fault.RestoreFault.{RestoreFault}
-use Rattle.chpw_journal.specs.declared.fault.RestoreFault.TheVariants.{BadRecord, WrongVersion, UnknownPrincipal, TooMany, CannotRead, Memory}
+use Rattle.chpw_journal.specs.declared.fault.RestoreFault.TheVariants.{BadRecord, WrongVersion, UnknownPrincipal, TooMany, OtherRealm, CannotRead, Memory}
 use Rattle.chpw_journal.specs.declared.restoring.Restored.{Restored}
 use Rattle.chpw_record.specs.Records.{records_text}
 use Rattle.chpw_journal.specs.JournalText.{restored, BeginsWith, Reading, whole, bad_record, unknown_principal, wrong_version, IsReading}
@@ -52,12 +52,14 @@ pub record IsTooMany (before : Held) (read : List ℕ) (n : ℕ) : Type 0 where
   pub full : length table.state.principals ≡ principal_counts.high
   pub number : n ≡ length whole_records + 1
 
--- J1, J2 and J3 are the text's first fault, or J5; if it can't be read on, what was read has none
+-- J1, J2 and J3 are the text's first fault, or J6; if it can't be read on, what was read has none. The records of a history
+-- name no realm.
 abbrev pub IsRefused : Held → Option (List ℕ) → Option (List ℕ) → RestoreFault → Type 0
 IsRefused before old new (BadRecord n) = (read : List ℕ) × Consumes old new read × AlwaysReads before read (bad_record n)
 IsRefused before old new (WrongVersion n) = (read : List ℕ) × Consumes old new read × AlwaysReads before read (wrong_version n)
 IsRefused before old new (UnknownPrincipal n) = (read : List ℕ) × Consumes old new read × AlwaysReads before read (unknown_principal n)
 IsRefused before old new (TooMany n) = (read : List ℕ) × Consumes old new read × IsTooMany before read n
+IsRefused before old new OtherRealm = ⊥
 IsRefused before old new CannotRead = (whole_records : List Record) × (rest : List ℕ) × Consumes old new (records_text whole_records ++ rest)
     × ((s : State) → Agrees before.state s → IsReading s (records_text whole_records ++ rest) (whole whole_records rest))
 IsRefused before old new Memory = Unit {0}
@@ -67,6 +69,7 @@ abbrev pub fault_text : RestoreFault → List ℕ
 fault_text (BadRecord n) = codes "J1 at " ++ decimal n
 fault_text (WrongVersion n) = codes "J2 at " ++ decimal n
 fault_text (UnknownPrincipal n) = codes "J3 at " ++ decimal n
-fault_text (TooMany n) = codes "J5 at " ++ decimal n
+fault_text (TooMany n) = codes "J6 at " ++ decimal n
+fault_text OtherRealm = codes "J5"
 fault_text CannotRead = codes "J4"
 fault_text Memory = codes "memory"

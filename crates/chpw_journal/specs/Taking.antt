@@ -48,6 +48,7 @@ IsRecordFault before body (fault.WrongVersion n) = (n ≡ before.records + 1) ×
     × ((s : State) → Agrees before.table.state s → IsOfWrongVersion s r)
 IsRecordFault before body (fault.TooMany n) = (n ≡ before.records + 1) × (r : Record) × RecordFits r × (body ≡ body_text r)
     × IsOneTooMany before.table r
+IsRecordFault before body fault.OtherRealm = ⊥
 IsRecordFault before body fault.CannotRead = ⊥
 IsRecordFault before body fault.Memory = Unit {0}
 

@@ -204,7 +204,7 @@ fn newer_kind(key: &KeyRow, older: &[KeyRow]) -> KeyKind
 }
 
 // The newest version, and 0 if there is no key.
-fn newest_version(keys: &[KeyRow]) -> u32
+pub(crate) fn newest_version(keys: &[KeyRow]) -> u32
     ensures value { result ≡ newest_kvno keys.now }
 {
     match keys {

@@ -1,5 +1,6 @@
 //! Laws of restoring, over its definitions alone.
 ghost use Rattle.chpw_journal.specs.Laws.{ReadsJournals, RecordsAreJournals, RestoresKeys, RestoresCount, FrontsAreCutOff, OpeningsAreSound};
+ghost use Rattle.chpw_journal.specs.HeadingLaws.{HeadingsAreApart, HeadingsAreNoRecords, WholeMayOpen};
 ghost use Rattle.chpw_journal.specs.CompactLaws.{CompactGives, CompactIsNext, CompactReads, CompactIsFoundAgain};
 ghost use Rattle.chpw_journal.specs.CompactLaws.{CompactMayOpen, OpeningsHoldInRow, RestoredHoldInRow};
 ghost use Rattle.chpw_journal.specs.CompactLaws.{RunsHoldInRow, AgreeHoldInRow, RunsMayCompact};
@@ -36,6 +37,15 @@ pub fn runs()
     ensures restored { RestoredMayOpen }
     ensures read { ReadMayOpen }
     ensures two { TwoRunsFollowOn }
+{}
+
+/// What a journal begins with. The record of a realm begins as one, and no record of a history does; among those it is none of
+/// them. A run may open with what is restored from the journal of others behind the heading of its realm, whether that is
+/// its record or nothing.
+pub fn headings()
+    ensures apart { HeadingsAreApart }
+    ensures none { HeadingsAreNoRecords }
+    ensures opens { WholeMayOpen }
 {}
 
 /// About a compact journal (`compact_journal`), made for a state that is within the limits and holds keys in a row, over an

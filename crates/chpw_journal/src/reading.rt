@@ -50,8 +50,8 @@ pub fn next_record<R: Read>(
     read_body(alloc, reader, length, reads)
 }
 
-// The length in two bytes, high byte first.
-fn length_in(header: &[u8]) -> usize
+/// The length in two bytes, high byte first.
+pub(crate) fn length_in(header: &[u8]) -> usize
     requires two { length header.now ≡ 2 }
     ensures value { result ≡ from_be_bytes w16 header.now }
     ensures header { header.now ≡ to_be_bytes w16 result }

@@ -30,8 +30,8 @@ pub fn remove_unfinished<R: Files>(rt: &R, alloc: Global, path: &str) -> Result<
     Ok(())
 }
 
-// The name under which a replacement is made.
-fn beside(alloc: Global, path: &str) -> Result<String, AllocError>
+/// The name under which a replacement of the file at a path is made.
+pub fn beside(alloc: Global, path: &str) -> Result<String, AllocError>
     ensures value { IfOk result (λ name. string_bytes name ≡ beside path.now) }
 {
     let mut name = String::from_str(alloc, path)?;
@@ -63,7 +63,7 @@ pub fn replace_journal<R: Files<File = File>>(
 /// error if something is at the path; after another error nothing is left there.
 pub fn write_new<R: Files<File = File>>(rt: &R, path: &str, text: &[u8]) -> io::Result<File> {
     let mut how = OpenOptions::new();
-    how.append(true).create_new(true).mode(0o600);
+    how.read(true).append(true).create_new(true).mode(0o600);
     let mut file = how.open(rt, path)?;
     let is_locked = file.try_lock().is_ok();
     match put(&mut file, text) {

@@ -42,6 +42,7 @@ pub fn restore<R: Read>(
 ) -> Result<Restored, RestoreFault>
     ensures restored { IfOk result (λ r. IsRestored table (R.remaining reader.old) (R.remaining reader.new) r) }
     ensures first { IfErr result (λ fault. IsRefused table (R.remaining reader.old) (R.remaining reader.new) fault) }
+    ensures short { IfOk result (λ r. r.kept ≤ 1092 * 2 ^ 32) }
 {
     let mut restored = Restored {
         table,
@@ -65,8 +66,8 @@ pub fn restore<R: Read>(
 }
 
 impl Restored {
-    // Replays a record and counts it; `body` is the record's text after its length.
-    fn take_record(&mut self, alloc: Global, body: &[u8]) -> Result<(), RestoreFault>
+    /// Replays a record and counts it; `body` is the record's text after its length.
+    pub(crate) fn take_record(&mut self, alloc: Global, body: &[u8]) -> Result<(), RestoreFault>
         requires few { self.old.records < 2 ^ 32 }
         requires short { self.old.kept ≤ 1092 * self.old.records }
         requires length { length body.now ≤ 1090 }

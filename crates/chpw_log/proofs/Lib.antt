@@ -1,2 +1,3 @@
 pub mod MomentLemmas
 pub mod LineLemmas
+pub mod AddressLemmas

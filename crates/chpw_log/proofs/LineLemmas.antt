@@ -11,15 +11,15 @@ use Rattle.chpw_log.specs.declared.kind.HeldKind.TheVariants.{Unopened, Skewed, 
 use Rattle.chpw_log.specs.Summaries.{kind_words}
 use Rattle.chpw_printing.specs.Quoting.{are_graphic, are_printed, is_field}
 use Rattle.chpw_printing.proofs.QuotingLemmas.{decimal_graphic, field_of, graphic_printed}
-use Rattle.chpw_log.specs.Lines.{IsRecord, Outcome, address_text, are_fields, outcome_fields}
+use Rattle.chpw_log.specs.Lines.{IsRecord, Outcome, dotted, are_fields, outcome_fields}
 
-pub address_field : (address : List ℕ) → length address ≡ 4 → are_graphic (address_text address) ≡ true → is_field (address_text address) ≡ true
+pub address_field : (address : List ℕ) → length address ≡ 4 → are_graphic (dotted address) ≡ true → is_field (dotted address) ≡ true
 address_field [] h g = absurd (cc)
 address_field (a ∷ []) h g = absurd (cc)
 address_field (a ∷ b ∷ rest) h g =
     let some : 0 < length (decimal a ++ 46 ∷ join_with_byte 46 (map decimal (b ∷ rest))) =
     omega (arith, length-append (decimal a) (46 ∷ join_with_byte 46 (map decimal (b ∷ rest)))) in
-    field_of (address_text (a ∷ b ∷ rest)) some g
+    field_of (dotted (a ∷ b ∷ rest)) some g
 
 -- fields make a printed text
 pub fields_printed : (fields : List (List ℕ)) → are_fields fields ≡ true → are_printed (join_with_byte 32 fields) ≡ true
@@ -75,8 +75,8 @@ mark_joined old a = simp append_assoc refl
 -- ---- the words of what was held back
 
 pub words_joined : (old a kind b c : List ℕ)
-    → old ++ a ++ kind ++ b ++ codes " from 127.0.0.0/8, " ++ c ++ codes " from elsewhere"
-    ≡ old ++ (a ++ kind ++ b ++ codes " from 127.0.0.0/8, " ++ c ++ codes " from elsewhere")
+    → old ++ a ++ kind ++ b ++ codes " from 127.0.0.0/8 or ::1, " ++ c ++ codes " from elsewhere"
+    ≡ old ++ (a ++ kind ++ b ++ codes " from 127.0.0.0/8 or ::1, " ++ c ++ codes " from elsewhere")
 words_joined old a kind b c = simp append_assoc refl
 
 pub both_printed : (front back : List ℕ) → are_printed front ≡ true → are_printed back ≡ true → are_printed (front ++ back) ≡ true
@@ -89,9 +89,9 @@ kind_printed Skewed = refl
 kind_printed Replayed = refl
 
 pub words_printed : (a one b c : List ℕ) → are_printed a ≡ true → are_printed one ≡ true → are_printed b ≡ true → are_printed c ≡ true
-    → are_printed (a ++ one ++ b ++ codes " from 127.0.0.0/8, " ++ c ++ codes " from elsewhere") ≡ true
+    → are_printed (a ++ one ++ b ++ codes " from 127.0.0.0/8 or ::1, " ++ c ++ codes " from elsewhere") ≡ true
 words_printed a one b c h o k l =
-    let two = codes " from 127.0.0.0/8, " in
+    let two = codes " from 127.0.0.0/8 or ::1, " in
     let three = codes " from elsewhere" in
     let p : are_printed (a ++ one) ≡ true = both_printed a one h o in
     let q : are_printed (a ++ one ++ b) ≡ true = both_printed (a ++ one) b p k in

@@ -1,13 +1,12 @@
 -- The lines of the service's own events: the moment, `service`, and words and numbers with a space between any two. The
 -- line of a message has `worker` in place of `service`.
-use Rattle.std.specs.Prelude.{ℕ, ◌<◌, List, ◌++◌, codes, Option}
+use Rattle.std.specs.Prelude.{ℕ, ◌<◌, List, ◌++◌, codes, Option, Some, None}
 use Rattle.std.specs.Option.{ForSome}
 use Rattle.std.specs.Fmt.{decimal}
 use Rattle.chpw_table.specs.declared.times.Moment.{Moment}
 use Rattle.chpw_table.specs.Times.{IsMoment}
 use Rattle.chpw_log.specs.declared.event.ServiceEvent.{ServiceEvent}
 use Rattle.chpw_log.specs.declared.event.ServiceEvent.TheVariants.{Started, Reloaded, Raised, RolledOver, JournalFailed, LogReopened, Ended}
-use Rattle.chpw_log.specs.Lines.{or_dash}
 use Rattle.chpw_log.specs.Moments.{moment_text}
 
 -- a moment that can be printed
@@ -26,11 +25,18 @@ IsQuietTold (Ended entries changes) = Unit {0}
 abbrev pub both_words : List ℕ → ℕ → List ℕ → ℕ → List ℕ
 both_words words number further other = words ++ decimal number ++ further ++ decimal other
 
--- `-` without a quiet time
+-- `-` without a quiet time; else until when it lasts, and that it is no fault of the clients' clocks
+abbrev pub quiet_text : List ℕ
+quiet_text = codes " text requests are refused after a start; the clients' clocks are not at fault"
+
+abbrev pub quiet_words : Option Moment → List ℕ
+quiet_words None = codes "-"
+quiet_words (Some until) = moment_text until ++ quiet_text
+
 abbrev pub start_words : ℕ → ℕ → Option Moment → List ℕ
 start_words principals iterations quiet_until =
     both_words (codes "started principals ") principals (codes " iterations ") iterations
-    ++ codes " quiet-until " ++ or_dash moment_text quiet_until
+    ++ codes " quiet-until " ++ quiet_words quiet_until
 
 abbrev pub event_words : ServiceEvent → List ℕ
 event_words (Started principals iterations quiet_until) = start_words principals iterations quiet_until

@@ -1,5 +1,6 @@
 -- The limits of the kinds of messages that anybody can send without end, each by itself.
 use Rattle.std.specs.Prelude.{◌≡◌, ℕ, ◌+◌, ◌<◌, ◌≤◌, List, Bool, true, false, IfSome}
+use Rattle.std.specs.declared.net.ip_addr.IpAddr.{IpAddr}
 use Rattle.chpw_log.specs.declared.held.Held.{Held}
 use Rattle.chpw_log.specs.declared.kind.HeldKind.{HeldKind}
 use Rattle.chpw_log.specs.declared.kind.HeldKind.TheVariants.{Unopened, Skewed, Replayed}
@@ -52,7 +53,7 @@ abbrev pub IsLeft : ℕ → LineLimit → LineLimit → Type 0
 IsLeft now before after = (after.lines ≡ before.lines) × (after.held ≡ left_at now before.held)
 
 -- a limit after a message, which is of its kind or isn't
-abbrev pub IsAfter : Bool → ℕ → List ℕ → LineLimit → LineLimit → Type 0
+abbrev pub IsAfter : Bool → ℕ → IpAddr → LineLimit → LineLimit → Type 0
 IsAfter true now peer before after =
     (after.lines ≡ lines_after now before.lines) × (after.held ≡ held_after now peer before.lines before.held)
 IsAfter false now peer before after = IsLeft now before after

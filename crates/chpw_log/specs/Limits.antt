@@ -1,6 +1,10 @@
 -- Which messages of one kind have a line of their own: ten in any one second. The others are counted.
 -- Times are microseconds.
-use Rattle.std.specs.Prelude.{ℕ, ◌+◌, ◌-◌, nat_le, List, [], ◌∷◌, Bool, true, false, not, ◌==◌, ◌&&◌, ◌||◌, if◌then◌else◌, Option, Some, None, take}
+use Rattle.std.specs.Prelude.{ℕ, ◌+◌, ◌-◌, nat_le, List, [], ◌∷◌, Bool, true, false, not, ◌==◌, ◌&&◌, ◌||◌, if◌then◌else◌, Option}
+use Rattle.std.specs.Prelude.{Some, None, take, slice_index, bytes_eq}
+use Rattle.std.specs.Net.Addr.{ipv4_octets, ipv6_segments}
+use Rattle.std.specs.declared.net.ip_addr.IpAddr.{IpAddr}
+use Rattle.std.specs.declared.net.ip_addr.IpAddr.TheVariants.{V4, V6}
 use Rattle.chpw_log.specs.declared.held.Held.{Held}
 
 -- a second or more lies between two times
@@ -37,15 +41,15 @@ none_held = record { loopback = 0; other = 0; since = 0 }
 abbrev pub is_none_held : Held → Bool
 is_none_held h = (h.loopback == 0) && (h.other == 0)
 
--- 127.0.0.0/8
-abbrev pub is_loopback : List ℕ → Bool
-is_loopback [] = false
-is_loopback (first ∷ more) = first == 127
+-- 127.0.0.0/8, or ::1
+abbrev pub is_loopback : IpAddr → Bool
+is_loopback (V4 ip) = slice_index (ipv4_octets ip) 0 == 127
+is_loopback (V6 ip) = bytes_eq (ipv6_segments ip) (0 ∷ 0 ∷ 0 ∷ 0 ∷ 0 ∷ 0 ∷ 0 ∷ 1 ∷ [])
 
 abbrev pub first_of : ℕ → Held → ℕ
 first_of now h = if is_none_held h then now else h.since
 
-abbrev pub one_more : ℕ → List ℕ → Held → Held
+abbrev pub one_more : ℕ → IpAddr → Held → Held
 one_more now peer h =
     if is_loopback peer
     then record { loopback = h.loopback + 1; other = h.other; since = first_of now h }
@@ -66,9 +70,9 @@ abbrev pub left_at : ℕ → Held → Held
 left_at now h = if is_due now h then none_held else h
 
 -- the others with a message that came at this time from this peer, if it has no line
-abbrev pub counted_after : ℕ → List ℕ → List (Option ℕ) → Held → Held
+abbrev pub counted_after : ℕ → IpAddr → List (Option ℕ) → Held → Held
 counted_after now peer lines h = if is_free now lines then h else one_more now peer h
 
 -- the same, where a summary was due before it
-abbrev pub held_after : ℕ → List ℕ → List (Option ℕ) → Held → Held
+abbrev pub held_after : ℕ → IpAddr → List (Option ℕ) → Held → Held
 held_after now peer lines h = counted_after now peer lines (left_at now h)

@@ -4,7 +4,11 @@ use Rattle.std.specs.Prelude.{◌≡◌, ℕ, ℤ, Bool, true, false, ◌&&◌, 
 use Rattle.std.specs.List.{join_with_byte}
 use Rattle.std.specs.Option.{option_map, option_map_or}
 use Rattle.std.specs.Fmt.{decimal, signed_decimal}
-use Rattle.chpw_printing.specs.Quoting.{are_printed, is_field, principal_text, words_text}
+use Rattle.std.specs.Net.Addr.{ipv4_octets, ipv6_segments}
+use Rattle.std.specs.Net.Text.{ipv6_text}
+use Rattle.std.specs.declared.net.ip_addr.IpAddr.{IpAddr}
+use Rattle.std.specs.declared.net.ip_addr.IpAddr.TheVariants.{V4, V6}
+use Rattle.chpw_printing.specs.Quoting.{are_printed, is_field, principal_text, quoted, words_text}
 use Rattle.chpw_table.specs.declared.request.Body.{Body}
 use Rattle.chpw_table.specs.declared.request.Body.TheVariants.{Ask, BadPrivate, BadData}
 use Rattle.chpw_table.specs.declared.request.Opened.{Opened}
@@ -80,8 +84,13 @@ abbrev pub party_text : Target → List ℕ
 party_text p = principal_text p.realm p.name
 
 -- four decimal numbers with `.` between them
-abbrev pub address_text : List ℕ → List ℕ
-address_text address = join_with_byte 46 (map decimal address)
+abbrev pub dotted : List ℕ → List ℕ
+dotted octets = join_with_byte 46 (map decimal octets)
+
+-- an IPv6 address has the text of RFC 5952, of which nothing is quoted
+abbrev pub address_text : IpAddr → List ℕ
+address_text (V4 ip) = dotted (ipv4_octets ip)
+address_text (V6 ip) = quoted (ipv6_text (ipv6_segments ip))
 
 abbrev pub outcome_fields : Outcome → List (List ℕ)
 outcome_fields o =
@@ -93,14 +102,14 @@ outcome_fields o =
     ∷ codes "text" ∷ words_text o.text ∷ []
 
 -- of a message that this worker answered, from this peer and at this moment
-abbrev pub fields_with : Moment → ℕ → List ℕ → Outcome → List (List ℕ)
+abbrev pub fields_with : Moment → ℕ → IpAddr → Outcome → List (List ℕ)
 fields_with moment worker peer outcome =
     moment_text moment
     ∷ codes "worker" ∷ decimal worker
     ∷ codes "peer" ∷ address_text peer
     ∷ outcome_fields outcome
 
-abbrev pub line_with : Moment → ℕ → List ℕ → Outcome → List ℕ
+abbrev pub line_with : Moment → ℕ → IpAddr → Outcome → List ℕ
 line_with moment worker peer outcome = join_with_byte 32 (fields_with moment worker peer outcome) ++ codes "\n"
 
 abbrev pub fields_of : Line → List (List ℕ)

@@ -17,7 +17,7 @@ kind_words Replayed = codes " more were replayed: "
 abbrev pub held_words : HeldKind → Held → List ℕ
 held_words kind h =
     decimal (h.loopback + h.other) ++ kind_words kind
-    ++ decimal h.loopback ++ codes " from 127.0.0.0/8, "
+    ++ decimal h.loopback ++ codes " from 127.0.0.0/8 or ::1, "
     ++ decimal h.other ++ codes " from elsewhere"
 
 -- it has no worker, no peer and no reply

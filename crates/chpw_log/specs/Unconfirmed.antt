@@ -2,6 +2,7 @@
 use Rattle.std.specs.Prelude.{ℕ, List, [], ◌∷◌, ◌++◌, codes}
 use Rattle.std.specs.List.{join_with_byte}
 use Rattle.std.specs.Fmt.{decimal}
+use Rattle.std.specs.declared.net.ip_addr.IpAddr.{IpAddr}
 use Rattle.chpw_table.specs.declared.times.Moment.{Moment}
 use Rattle.chpw_log.specs.Lines.{address_text}
 use Rattle.chpw_log.specs.Moments.{moment_text}
@@ -11,7 +12,7 @@ abbrev pub unconfirmed_words : ℕ → List ℕ
 unconfirmed_words ticket = codes "not confirmed by the KDC: change " ++ decimal ticket
 
 -- the peer whose reply it was; the change itself has a line of its own before it
-abbrev pub unconfirmed_fields : Moment → List ℕ → ℕ → List (List ℕ)
+abbrev pub unconfirmed_fields : Moment → IpAddr → ℕ → List (List ℕ)
 unconfirmed_fields moment peer ticket =
     moment_text moment
     ∷ codes "worker" ∷ codes "-"
@@ -23,5 +24,5 @@ unconfirmed_fields moment peer ticket =
     ∷ codes "kvno" ∷ codes "-"
     ∷ codes "text" ∷ unconfirmed_words ticket ∷ []
 
-abbrev pub unconfirmed_line : Moment → List ℕ → ℕ → List ℕ
+abbrev pub unconfirmed_line : Moment → IpAddr → ℕ → List ℕ
 unconfirmed_line moment peer ticket = join_with_byte 32 (unconfirmed_fields moment peer ticket) ++ codes "\n"

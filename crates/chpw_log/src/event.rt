@@ -4,8 +4,8 @@ ghost use Rattle.std.specs.Fmt.{decimal};
 ghost use Rattle.std.specs.Option.{ForSome};
 ghost use Rattle.chpw_printing.specs.Quoting.{are_printed};
 ghost use Rattle.chpw_table.specs.Times.{IsMoment};
-ghost use Rattle.chpw_log.specs.Events.{IsQuietTold, IsWholeMoment, both_words, event_line, event_words, start_words};
-ghost use Rattle.chpw_log.specs.Lines.{IsRecord, or_dash};
+ghost use Rattle.chpw_log.specs.Events.{IsQuietTold, IsWholeMoment, both_words, event_line, event_words, quiet_text, quiet_words, start_words};
+ghost use Rattle.chpw_log.specs.Lines.{IsRecord};
 ghost use Rattle.chpw_log.specs.Moments.{moment_text};
 
 use crate::moment::put_moment;
@@ -142,16 +142,27 @@ fn put_start(
     put_quiet(text, quiet_until)
 }
 
-// Adds a moment, or `-`.
+// Adds until when requests are refused, and that it is no fault of the clients' clocks; or `-`.
 fn put_quiet(text: &mut Vec<u8>, moment: Option<Moment>) -> Result<(), AllocError>
     requires quiet { ForSome moment IsWholeMoment }
-    ensures value { OnOk result (text.new.items ≡ text.old.items ++ or_dash moment_text moment) }
-    ensures printed { OnOk result (are_printed (or_dash moment_text moment) ≡ true) }
+    ensures value { OnOk result (text.new.items ≡ text.old.items ++ quiet_words moment) }
+    ensures printed { OnOk result (are_printed (quiet_words moment) ≡ true) }
 {
     match moment {
-        Some(moment) => put_moment(text, moment),
+        Some(until) => put_until(text, until),
         None => text.extend_from_slice(b"-"),
     }
+}
+
+fn put_until(text: &mut Vec<u8>, until: Moment) -> Result<(), AllocError>
+    requires until { IsWholeMoment until }
+    ensures value { OnOk result (text.new.items ≡ text.old.items ++ (moment_text until ++ quiet_text)) }
+    ensures printed { OnOk result (are_printed (moment_text until ++ quiet_text) ≡ true) }
+{
+    put_moment(text, until)?;
+    text.extend_from_slice(
+        b" text requests are refused after a start; the clients' clocks are not at fault",
+    )
 }
 
 // Adds words and a number.

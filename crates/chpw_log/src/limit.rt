@@ -1,9 +1,10 @@
 //! Which messages of one kind have a line of their own: so few that no flood of them fills a disk.
 ghost use Rattle.std.specs.Prelude.{◌≡◌, ◌+◌, ◌<◌, ◌≤◌, IfSome};
-ghost use Rattle.chpw_log.specs.Limits.{counted_after, is_apart, is_due, is_free, is_gone, is_none_held, left_at};
+ghost use Rattle.chpw_log.specs.Limits.{counted_after, is_apart, is_due, is_free, is_gone, is_loopback, is_none_held, left_at};
 ghost use Rattle.chpw_log.specs.Limits.{lines_after, no_lines, none_held, one_more, rest_of, told_at};
 
 use crate::held::Held;
+use std::net::IpAddr;
 
 /// A second, in microseconds.
 const SECOND: u64 = 1_000_000;
@@ -47,12 +48,12 @@ impl Held {
     }
 
     // These and one more from this peer.
-    fn with(self, now: u64, peer: [u8; 4]) -> Held
+    fn with(self, now: u64, peer: IpAddr) -> Held
         requires room { self.loopback + self.other < 1000000 }
         ensures value { result ≡ one_more now peer self }
     {
         let since = if self.is_none() { now } else { self.since };
-        if peer[0] == 127 {
+        if is_loopback(peer) {
             Held {
                 loopback: self.loopback + 1,
                 other: self.other,
@@ -65,6 +66,16 @@ impl Held {
                 since,
             }
         }
+    }
+}
+
+// Whether an address is of this host, whatever its name.
+fn is_loopback(peer: IpAddr) -> bool
+    ensures value { result ≡ is_loopback peer }
+{
+    match peer {
+        IpAddr::V4(ip) => ip.octets()[0] == 127,
+        IpAddr::V6(ip) => ip.segments().as_slice() == [0, 0, 0, 0, 0, 0, 0, 1].as_slice(),
     }
 }
 
@@ -82,7 +93,7 @@ impl LineLimit {
 
     /// Whether a message of the kind has a line of its own, at this time in microseconds. If it has none it is counted,
     /// as one from this peer.
-    pub fn take(&mut self, now: u64, peer: [u8; 4]) -> bool
+    pub fn take(&mut self, now: u64, peer: IpAddr) -> bool
         requires room { self.old.held.loopback + self.old.held.other < 1000000 }
         ensures line { result ≡ is_free now self.old.lines }
         ensures lines { self.new.lines ≡ lines_after now self.old.lines }

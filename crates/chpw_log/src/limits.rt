@@ -6,6 +6,7 @@ ghost use Rattle.chpw_log.specs.Kinds.{AreFew, HaveRoom, IsAfter, IsLeft, IsNone
 use crate::held::Held;
 use crate::kind::HeldKind;
 use crate::limit::LineLimit;
+use std::net::IpAddr;
 
 /// The summaries that are due, by what they count.
 #[derive(Clone, Copy, Drop)]
@@ -49,7 +50,7 @@ impl LineLimits {
 
     /// What is to be written for a message of this kind from this peer, at this time in microseconds. If it has no line
     /// of its own it is counted among its kind.
-    pub fn ask(&mut self, kind: HeldKind, now: u64, peer: [u8; 4]) -> LinePermit
+    pub fn ask(&mut self, kind: HeldKind, now: u64, peer: IpAddr) -> LinePermit
         ensures told { IsTold now self.old result.told }
         ensures few { AreFew result.told }
         ensures line { result.line ≡ is_line now kind self.old }

@@ -5,6 +5,7 @@ ghost use Rattle.chpw_log.specs.Moments.{IsInMicros};
 
 use crate::message_event::MessageEvent;
 use chpw_table::Moment;
+use std::net::IpAddr;
 
 /// The contents of a line about one message.
 #[derive(Clone, Copy, Drop)]
@@ -13,8 +14,8 @@ pub struct Line<'a> {
     pub moment: Moment,
     /// The worker that answers it.
     pub worker: u8,
-    /// The client's IPv4 address, high byte first.
-    pub peer: [u8; 4],
+    /// The address that it came from.
+    pub peer: IpAddr,
     pub news: MessageEvent<'a>,
     ghost range: { IsMoment moment × (moment.micros < 1000000) },
 }

@@ -52,11 +52,11 @@ fn put_words(text: &mut Vec<u8>, kind: HeldKind, held: &Held) -> Result<(), Allo
 fn put_counts(text: &mut Vec<u8>, kind: HeldKind, held: &Held) -> Result<(), AllocError>
     ensures value { OnOk result (text.new.items ≡ text.old.items
         ++ kind_words kind ++ decimal held.now.loopback
-        ++ codes " from 127.0.0.0/8, " ++ decimal held.now.other) }
+        ++ codes " from 127.0.0.0/8 or ::1, " ++ decimal held.now.other) }
 {
     text.extend_from_slice(words_of(kind))?;
     put_number(text, u64::from(held.loopback))?;
-    text.extend_from_slice(b" from 127.0.0.0/8, ")?;
+    text.extend_from_slice(b" from 127.0.0.0/8 or ::1, ")?;
     put_number(text, u64::from(held.other))
 }
 

@@ -12,6 +12,7 @@ use crate::writing::put_address;
 use chpw_printing::put_number;
 use chpw_table::Moment;
 use std::alloc::{AllocError, Global};
+use std::net::IpAddr;
 
 /// The line that says that the reply to a change was sent to this peer before the KDC had confirmed it, the `ticket`-th
 /// since the service started; with its newline. It has the fields of every line, with `-` for all
@@ -19,7 +20,7 @@ use std::alloc::{AllocError, Global};
 pub fn write_unconfirmed(
     alloc: Global,
     moment: Moment,
-    peer: [u8; 4],
+    peer: IpAddr,
     ticket: u64,
 ) -> Result<Vec<u8>, AllocError>
     requires moment { IsMoment moment }
@@ -37,7 +38,7 @@ pub fn write_unconfirmed(
 }
 
 // Adds the moment and the peer.
-fn put_start(text: &mut Vec<u8>, moment: Moment, peer: [u8; 4]) -> Result<(), AllocError>
+fn put_start(text: &mut Vec<u8>, moment: Moment, peer: IpAddr) -> Result<(), AllocError>
     requires moment { IsMoment moment }
     requires micros { moment.micros < 1000000 }
     ensures value { OnOk result (text.new.items ≡ text.old.items ++ moment_text moment

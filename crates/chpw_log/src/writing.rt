@@ -3,16 +3,18 @@ ghost use Rattle.std.specs.Prelude.{◌≡◌, ◌++◌, ◌∷◌, [], true, co
 ghost use Rattle.std.specs.Option.{option_map};
 ghost use Rattle.std.specs.List.{join_with_byte};
 ghost use Rattle.std.specs.Fmt.{decimal, signed_decimal};
-ghost use Rattle.chpw_printing.specs.Quoting.{are_printed, is_field, words_text};
-ghost use Rattle.chpw_log.specs.Lines.{IsRecord, address_text, are_fields, fields_of, line_of, named, or_dash, outcome_fields, party_text};
+ghost use Rattle.std.specs.Net.Text.{ipv6_text};
+ghost use Rattle.chpw_printing.specs.Quoting.{are_printed, is_field, quoted, words_text};
+ghost use Rattle.chpw_log.specs.Lines.{IsRecord, address_text, are_fields, dotted, fields_of, line_of, named, or_dash, outcome_fields, party_text};
 ghost use Rattle.chpw_log.specs.Moments.{moment_text};
 ghost use Rattle.chpw_log.specs.Tellings.{said};
 
 use crate::line::Line;
 use crate::message_event::{LogFields, Party};
 use crate::moment::put_moment;
-use chpw_printing::{put_number, put_principal, put_signed, put_words};
+use chpw_printing::{put_number, put_principal, put_quoted, put_signed, put_words};
 use std::alloc::{AllocError, Global};
+use std::net::{IpAddr, Ipv6Addr};
 
 /// A line with its newline: its fields in their order, a space between any two.
 pub fn write_line(alloc: Global, line: &Line<'_>) -> Result<Vec<u8>, AllocError>
@@ -135,10 +137,21 @@ fn put_dash(text: &mut Vec<u8>) -> Result<(), AllocError>
     Ok(())
 }
 
-// Adds an address: its numbers with `.` between them.
-pub(crate) fn put_address(text: &mut Vec<u8>, address: [u8; 4]) -> Result<(), AllocError>
+// Adds an address: of IPv4 its numbers with `.` between them, of IPv6 the text of RFC 5952.
+pub(crate) fn put_address(text: &mut Vec<u8>, address: IpAddr) -> Result<(), AllocError>
     ensures value { OnOk result (text.new.items ≡ text.old.items ++ address_text address) }
     ensures field { OnOk result (is_field (address_text address) ≡ true) }
+{
+    match address {
+        IpAddr::V4(ip) => put_ipv4(text, ip.octets()),
+        IpAddr::V6(ip) => put_ipv6(text, ip.segments()),
+    }
+}
+
+// Adds four numbers with `.` between them.
+fn put_ipv4(text: &mut Vec<u8>, address: [u8; 4]) -> Result<(), AllocError>
+    ensures value { OnOk result (text.new.items ≡ text.old.items ++ dotted address) }
+    ensures field { OnOk result (is_field (dotted address) ≡ true) }
 {
     let mut numbers: &[u8] = &address;
     while let [number, rest @ ..] = numbers {
@@ -148,5 +161,15 @@ pub(crate) fn put_address(text: &mut Vec<u8>, address: [u8; 4]) -> Result<(), Al
         }
         numbers = rest;
     }
+    Ok(())
+}
+
+// Adds an IPv6 address.
+fn put_ipv6(text: &mut Vec<u8>, segments: [u16; 8]) -> Result<(), AllocError>
+    ensures value { OnOk result (text.new.items ≡ text.old.items ++ quoted (ipv6_text segments)) }
+    ensures field { OnOk result (is_field (quoted (ipv6_text segments)) ≡ true) }
+{
+    let groups = Ipv6Addr::from_segments(segments).to_string(*text.allocator())?;
+    put_quoted(text, groups.as_bytes())?;
     Ok(())
 }

@@ -1,3 +1,4 @@
 pub mod Facts
+pub mod Names
 pub mod Notices
 pub mod Noting

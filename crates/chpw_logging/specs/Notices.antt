@@ -4,12 +4,14 @@ use Rattle.std.specs.Fmt.{decimal}
 use Rattle.chpw_logging.specs.declared.notices.Notice.{Notice}
 use Rattle.chpw_logging.specs.declared.notices.Notice.TheVariants.{LogLost, JournalFailed, OutputLost, Expired, Unconfirmed}
 use Rattle.chpw_logging.specs.declared.notices.Notice.TheVariants.{KdcDown, KdcMisspoken, KdcRefused, KdcFailed, KdcLacks, KdcTableFull, KdcLost}
-use Rattle.chpw_logging.specs.declared.notices.Notice.TheVariants.{Shared, ManagerNotTold, Lacked, TailCut}
+use Rattle.chpw_logging.specs.declared.notices.Notice.TheVariants.{Shared, ManagerNotTold, Lacked, TailCut, SetAside, NotKept, Quiet}
+use Rattle.chpw_journal.specs.Causes.{cause_text}
+use Rattle.chpw_start.specs.Resuming.{reason_words}
 
 abbrev pub notice_line : Notice → List ℕ
 notice_line (LogLost log) = log.now ++ codes ": a line of the log was lost; further losses are not reported"
-notice_line (JournalFailed journal) =
-    journal.now ++ codes ": journal failed: no change is accepted until a restart"
+notice_line (JournalFailed journal why) =
+    journal.now ++ (codes ": journal failed: " ++ (cause_text why ++ codes ": no change is accepted until a restart"))
 notice_line OutputLost = codes "standard output: a line was lost; further losses are not reported"
 notice_line (Expired count) = codes "messages dropped after waiting 5 seconds for a worker: " ++ decimal count
 notice_line (Unconfirmed socket) =
@@ -28,3 +30,8 @@ notice_line ManagerNotTold = codes "NOTIFY_SOCKET: the service manager could not
 notice_line (Lacked count) = codes "principals missing from the configuration: "
     ++ (decimal count ++ codes "; the service cannot start once one of them changes its password")
 notice_line (TailCut journal kept) = journal.now ++ (codes ": a torn tail was cut off after " ++ (decimal kept ++ codes " bytes"))
+notice_line (SetAside file why) = file.now ++ (codes ": set aside, since " ++ reason_words why)
+notice_line (NotKept file) = codes "cannot write " ++ (file.now ++ codes ": the next start will be quiet for 300 seconds")
+notice_line (Quiet time) =
+    codes "quiet until " ++ (time.now ++ codes
+    ": requests are refused as clock skew until then, since some may have been answered before this start; the clients' clocks are not at fault")

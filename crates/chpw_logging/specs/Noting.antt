@@ -1,5 +1,6 @@
 -- What the log notes of what it hears.
 use Rattle.std.specs.Prelude.{ℕ, List, [], ◌∷◌, ◌++◌, Option, Some, None}
+use Rattle.std.specs.declared.net.ip_addr.IpAddr.{IpAddr}
 use Rattle.chpw_table.specs.declared.times.Moment.{Moment}
 use Rattle.chpw_table.specs.declared.request.Opened.{Opened}
 use Rattle.chpw_table.specs.declared.request.Target.{Target}
@@ -20,7 +21,7 @@ use Rattle.chpw_log.specs.Lines.{Outcome, target_asked, line_with}
 -- back, with its moment and peer; that the journal did not take a change, at this moment; or what came of an update from the KDC
 pub data Noted : Type 0 where
   opened : Moment → List ℕ → Noted
-  limited : HeldKind → Moment → List ℕ → List ℕ → Noted
+  limited : HeldKind → Moment → IpAddr → List ℕ → Noted
   journal_failed : Moment → Noted
   updated : Moment → KdcUpdate → UpdateVerdict → Noted
 
@@ -31,7 +32,7 @@ kind_of Replay = Some Replayed
 kind_of v = None
 
 -- a line, of a limited kind or of none
-abbrev pub noted_line : Option HeldKind → Moment → List ℕ → List ℕ → Noted
+abbrev pub noted_line : Option HeldKind → Moment → IpAddr → List ℕ → Noted
 noted_line None now peer line = opened now line
 noted_line (Some kind) now peer line = limited kind now peer line
 
@@ -46,16 +47,16 @@ outcome_with client target a kvno = record {
   text = a.text;
 }
 
-abbrev pub decided_line : ℕ → List ℕ → Moment → Opened → Verdict → Option ℕ → List ℕ
+abbrev pub decided_line : ℕ → IpAddr → Moment → Opened → Verdict → Option ℕ → List ℕ
 decided_line worker peer now o v kvno =
     line_with now worker peer (outcome_with (Some (client_of o)) (target_asked o) (answer_of v) kvno)
 
 -- the line of a request that was refused undecided
-abbrev pub refused_line : ℕ → List ℕ → Moment → Opened → Answer → List ℕ
+abbrev pub refused_line : ℕ → IpAddr → Moment → Opened → Answer → List ℕ
 refused_line worker peer now o a = line_with now worker peer (outcome_with (Some (client_of o)) (target_asked o) a None)
 
 -- the line of a message that didn't open
-abbrev pub unopened_line : ℕ → List ℕ → Moment → Answer → List ℕ
+abbrev pub unopened_line : ℕ → IpAddr → Moment → Answer → List ℕ
 unopened_line worker peer now a = line_with now worker peer (outcome_with None None a None)
 
 abbrev pub failed_under : Moment → Verdict → List Noted
@@ -63,7 +64,7 @@ failed_under now Broken = journal_failed now ∷ []
 failed_under now v = []
 
 -- for a decision: its line, and before it that the journal failed, if it did; a raise and an update belong to no message
-abbrev pub noted_event : ℕ → List ℕ → Moment → Event → Option ℕ → List Noted
+abbrev pub noted_event : ℕ → IpAddr → Moment → Event → Option ℕ → List Noted
 noted_event worker peer now (Ask o v) kvno =
     failed_under now v ++ noted_line (kind_of v) now peer (decided_line worker peer now o v kvno) ∷ []
 noted_event worker peer now (Raise count v) kvno = []

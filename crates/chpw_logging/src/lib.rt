@@ -4,6 +4,7 @@
 
 mod facts;
 mod logging;
+mod names;
 mod notices;
 mod observers;
 

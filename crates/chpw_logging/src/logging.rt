@@ -8,9 +8,12 @@ ghost use Rattle.chpw_start.specs.Faults.{IsOfClash, IsOfLog, IsUnlogged};
 ghost use Rattle.chpw_start.specs.declared.fault.ServeFault.TheVariants.{Memory};
 
 use crate::facts::Facts;
+use crate::names::name_state;
 use crate::notices::{Appended, Losses, Notice, is_first};
 use crate::observers::Lines;
+use chpw_control::NameState;
 use chpw_invocation::ServeOptions;
+use chpw_journal::{FileNumber, JournalMarks, SinkCause};
 use chpw_log::{
     Held, HeldCounts, HeldKind, Line, LineLimits, ServiceEvent, micros_of, write_event, write_held,
     write_line, write_unconfirmed, write_update,
@@ -20,7 +23,7 @@ use chpw_table::{KdcUpdate, Moment, Table, UpdateVerdict};
 use std::alloc::{AllocError, Global};
 use std::fs::{File, Files};
 use std::io::{self, ErrorKind};
-use std::net::Net;
+use std::net::{IpAddr, Net};
 use std::sync::{Mutex, Wait};
 
 /// The reports of a running service: in its log, if there is one, a line for each message, but of those that anybody can
@@ -37,6 +40,8 @@ pub struct Log<'l, R> {
     journal: &'l str,
     /// Whether it was reported that the journal failed.
     failed: Mutex<bool>,
+    /// What is read of the journal that is open, once it is.
+    marks: Mutex<Option<JournalMarks>>,
     facts: Mutex<Facts>,
     book: Option<Book<'l>>,
 }
@@ -45,6 +50,8 @@ pub struct Log<'l, R> {
 #[derive(Drop)]
 struct Book<'l> {
     path: &'l str,
+    // Which file it is, if it is one.
+    number: Mutex<Option<FileNumber>>,
     end: Mutex<End>,
 }
 
@@ -74,6 +81,7 @@ pub fn log_of<'l, 'a: 'l, R: Files<File = File> + Net>(
         alloc,
         journal: options.journal,
         failed: Mutex::new(false),
+        marks: Mutex::new(None),
         facts: Mutex::new(Facts::default()),
         book,
     })
@@ -91,6 +99,7 @@ fn book_at<'l, 'a: 'l, R: Files<File = File> + Net>(
         Some(path) => match LineOutput::at(rt, alloc, path) {
             Ok(sheet) => Ok(Some(Book {
                 path,
+                number: Mutex::new(sheet.number()),
                 end: Mutex::new(End {
                     sheet,
                     limits: LineLimits::new(),
@@ -187,9 +196,41 @@ impl<R: Wait + Eprint> Log<'_, R> {
         self.put_event(now, &event);
     }
 
+    /// From now on these are the marks of the journal that is open.
+    pub fn watch(&self, marks: JournalMarks) {
+        *self.marks.lock(self.rt) = Some(marks);
+    }
+
     /// Whether it was reported that the journal failed.
     pub fn has_failed(&self) -> bool {
         *self.failed.lock(self.rt)
+    }
+
+    /// Why the journal failed, if it was reported that it did.
+    pub fn failure(&self) -> Option<SinkCause> {
+        if self.has_failed() {
+            Some(self.cause())
+        } else {
+            None
+        }
+    }
+
+    // Why an append failed, as far as the journal's marks show it.
+    fn cause(&self) -> SinkCause {
+        let marks = self.marks.lock(self.rt);
+        match &*marks {
+            Some(marks) => marks.cause().unwrap_or(SinkCause::Unknown),
+            None => SinkCause::Unknown,
+        }
+    }
+
+    // Which file the journal is that is open.
+    fn journal_number(&self) -> Option<FileNumber> {
+        let marks = self.marks.lock(self.rt);
+        match &*marks {
+            Some(marks) => Some(marks.file()),
+            None => None,
+        }
     }
 
     /// Appends the line of an event of the service.
@@ -226,7 +267,7 @@ impl<R: Wait + Eprint> Log<'_, R> {
 
     /// Appends the line of a change that was answered, to this peer, before the KDC had confirmed it: the `ticket`-th since the
     /// service started.
-    pub fn put_unconfirmed(&self, now: Moment, peer: [u8; 4], ticket: u64)
+    pub fn put_unconfirmed(&self, now: Moment, peer: IpAddr, ticket: u64)
         requires moment { IsMoment now }
         requires micros { now.micros < 1000000 }
     {
@@ -279,7 +320,7 @@ impl<R: Wait + Eprint> Log<'_, R> {
         let first = is_first(&mut *self.failed.lock(self.rt));
         if first {
             self.put_event(now, &ServiceEvent::JournalFailed);
-            self.tell(Notice::JournalFailed(self.journal));
+            self.tell(Notice::JournalFailed(self.journal, self.cause()));
         }
     }
 
@@ -303,6 +344,24 @@ impl<R: Wait + Eprint> Log<'_, R> {
     }
 }
 
+impl<R: Files + Wait + Eprint> Log<'_, R> {
+    /// Whether the journal's name leads to the journal that is open.
+    pub fn journal_name(&self) -> NameState {
+        match self.journal_number() {
+            Some(open) => name_state(open, FileNumber::at(self.rt, self.journal)),
+            None => NameState::Absent,
+        }
+    }
+
+    /// Whether the log's name leads to the log; none has one if there is no log, or it is no file.
+    pub fn log_name(&self) -> NameState {
+        match &self.book {
+            Some(book) => book.name_state(self.rt),
+            None => NameState::Absent,
+        }
+    }
+}
+
 impl<R: Files<File = File> + Net + Wait + Eprint> Log<'_, R> {
     /// Reopens the log's file, and goes on there with a line that says so. If it can't be opened the log goes on as
     /// before. A service without a log has nothing to reopen.
@@ -316,7 +375,7 @@ impl<R: Files<File = File> + Net + Wait + Eprint> Log<'_, R> {
         };
         keep_apart(self.rt, options)?;
         match LineOutput::at(self.rt, self.alloc, path) {
-            Ok(sheet) => book.end.lock(self.rt).sheet = sheet,
+            Ok(sheet) => book.go_on_in(self.rt, sheet),
             Err(error) => return Err(unlogged_fault(path, error)),
         }
         self.put_event(now, &ServiceEvent::LogReopened);
@@ -325,6 +384,21 @@ impl<R: Files<File = File> + Net + Wait + Eprint> Log<'_, R> {
 }
 
 impl Book<'_> {
+    // The lines go there from now on.
+    fn go_on_in<R: Wait>(&self, rt: &R, sheet: LineOutput) {
+        *self.number.lock(rt) = sheet.number();
+        self.end.lock(rt).sheet = sheet;
+    }
+
+    // Whether its name leads to it.
+    fn name_state<R: Files + Wait>(&self, rt: &R) -> NameState {
+        let number = *self.number.lock(rt);
+        match number {
+            Some(open) => name_state(open, FileNumber::at(rt, self.path)),
+            None => NameState::Absent,
+        }
+    }
+
     // Appends this line.
     fn append<R: Wait + Eprint>(&self, rt: &R, line: Result<Vec<u8>, AllocError>) -> Appended {
         let mut end = self.end.lock(rt);

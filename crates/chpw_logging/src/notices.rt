@@ -1,6 +1,8 @@
 //! Notices on standard error of a service that goes on, each once.
 ghost use Rattle.std.specs.Prelude.{◌≡◌, ◌-◌, ◌&&◌, ◌||◌, max, not, true};
 
+use chpw_journal::SinkCause;
+use chpw_start::SetAside;
 use std::fmt;
 
 /// What went wrong, displayed as its line.
@@ -8,8 +10,8 @@ use std::fmt;
 pub enum Notice<'a> {
     /// A line of the log at this path is lost.
     LogLost(&'a str),
-    /// The journal at this path failed.
-    JournalFailed(&'a str),
+    /// The journal at this path failed, for this reason.
+    JournalFailed(&'a str, SinkCause),
     /// A line on standard output is lost.
     OutputLost,
     /// This many more messages had waited too long for their worker.
@@ -38,6 +40,12 @@ pub enum Notice<'a> {
     Lacked(u64),
     /// Of the journal at this path this many bytes are kept, and a torn tail after them was cut off.
     TailCut(&'a str, u64),
+    /// The resume file at this path is set aside.
+    SetAside(&'a str, SetAside),
+    /// The resume file at this path couldn't be written at the end.
+    NotKept(&'a str),
+    /// The table is quiet until this time.
+    Quiet(&'a str),
 }
 
 impl fmt::Display for Notice<'_> {
@@ -52,10 +60,10 @@ impl fmt::Display for Notice<'_> {
                 f,
                 "{log}: a line of the log was lost; further losses are not reported"
             ),
-            Notice::JournalFailed(journal) => {
+            Notice::JournalFailed(journal, why) => {
                 write!(
                     f,
-                    "{journal}: journal failed: no change is accepted until a restart"
+                    "{journal}: journal failed: {why}: no change is accepted until a restart"
                 )
             }
             Notice::OutputLost => {
@@ -121,6 +129,20 @@ impl fmt::Display for Notice<'_> {
             }
             Notice::TailCut(journal, kept) => {
                 write!(f, "{journal}: a torn tail was cut off after {kept} bytes")
+            }
+            Notice::SetAside(file, why) => write!(f, "{file}: set aside, since {why}"),
+            Notice::NotKept(file) => {
+                write!(
+                    f,
+                    "cannot write {file}: the next start will be quiet for 300 seconds"
+                )
+            }
+            Notice::Quiet(time) => {
+                write!(
+                    f,
+                    "quiet until {time}: requests are refused as clock skew until then, since some may have been answered before this \
+                    start; the clients' clocks are not at fault"
+                )
             }
         }
     }

@@ -11,6 +11,7 @@ use chpw_log::{Asked, HeldKind, Line, MessageEvent};
 use chpw_serve::{Gate, Observer, Spot, UpdateObserver};
 use chpw_table::{Event, KdcUpdate, Moment, Opened, Receipt, UpdateVerdict, Verdict};
 use krb_protocol::Refusal;
+use std::net::IpAddr;
 
 /// Where the lines of a log go.
 pub trait Lines {
@@ -83,7 +84,7 @@ impl<L: Lines> Observer for Logging<L> {
     ghost hears = { λ a h b. (b.worker ≡ a.worker) × InTurn L.takes a.lines (noted a.worker h) b.lines };
 
     // A raise and an update from the KDC belong to no message.
-    fn decided(&mut self, peer: [u8; 4], now: Moment, receipt: &Receipt, kvno: Option<u32>) {
+    fn decided(&mut self, peer: IpAddr, now: Moment, receipt: &Receipt, kvno: Option<u32>) {
         if let Event::Ask { opened, verdict } = &receipt.entry.event {
             tell_failed(&mut self.lines, now, *verdict);
             put_decided(
@@ -98,7 +99,7 @@ impl<L: Lines> Observer for Logging<L> {
         }
     }
 
-    fn refused(&mut self, peer: [u8; 4], now: Moment, opened: Option<&Opened>, refusal: &Refusal) {
+    fn refused(&mut self, peer: IpAddr, now: Moment, opened: Option<&Opened>, refusal: &Refusal) {
         match opened {
             Some(opened) => put_full(&mut self.lines, self.worker, peer, now, opened, refusal),
             None => self.lines.put_limited(
@@ -129,7 +130,7 @@ fn tell_failed<L: Lines>(lines: &mut L, now: Moment, verdict: Verdict)
 fn put_decided<L: Lines>(
     lines: &mut L,
     worker: u8,
-    peer: [u8; 4],
+    peer: IpAddr,
     now: Moment,
     opened: &Opened,
     verdict: Verdict,
@@ -172,7 +173,7 @@ fn kind_of(verdict: Verdict) -> Option<HeldKind>
 fn put_full<L: Lines>(
     lines: &mut L,
     worker: u8,
-    peer: [u8; 4],
+    peer: IpAddr,
     now: Moment,
     opened: &Opened,
     refusal: &Refusal,

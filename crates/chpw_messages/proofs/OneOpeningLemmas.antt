@@ -1,6 +1,7 @@
 -- A message opens to one answer.
 use Rattle.std.proofs.Common.{◌≡◌, ℕ, List, Bool, true, Option, Some, None, option_map, Result, Ok, Err, refl, sym, ◌∙◌, ap, subst, false}
 use Rattle.std.specs.Prelude.{◌==◌}
+use Rattle.std.specs.declared.net.ip_addr.IpAddr.{IpAddr}
 use Rattle.krb_keys.specs.Keys.{IsProtocolKey}
 use Rattle.krb_codec.proofs.CompleteLemmas.{one_value}
 use Rattle.krb_der.specs.Types.{change_passwd_data}
@@ -14,6 +15,7 @@ use Rattle.krb_msgs.specs.declared.private_message.Private.{Private}
 use Rattle.krb_msgs.specs.declared.fault.ApFault.{ApFault}
 use Rattle.krb_msgs.specs.declared.fault.PrivFault.{PrivFault}
 use Rattle.krb_msgs.proofs.OneAnswerLemmas.{ap_reqs_open_once, privs_open_once, subkey_is_key}
+use Rattle.chpw_endpoints.specs.declared.endpoints.Endpoints.{Endpoints}
 use Rattle.chpw_frame.specs.declared.change_data.ChangeData.{ChangeData}
 use Rattle.chpw_frame.specs.declared.fault.FrameFault.{FrameFault}
 use Rattle.chpw_frame.specs.Asked.{asks}
@@ -67,36 +69,36 @@ abbrev HasKey : Result ApOpened ApFault → Type 0
 HasKey (Ok a) = IsProtocolKey a.subkey
 HasKey (Err fault) = Unit {0}
 
-has_key : (realm : List ℕ) (keys : List ServiceKey) (bytes peer : List ℕ) (a : Result ApOpened ApFault)
+has_key : (realm : List ℕ) (keys : List ServiceKey) (bytes : List ℕ) (peer : IpAddr) (a : Result ApOpened ApFault)
     → OpensAp realm keys bytes peer a → HasKey a
 has_key realm keys bytes peer (Ok a) h = subkey_is_key realm keys bytes peer a h
 has_key realm keys bytes peer (Err fault) h = tt
 
-one_request : (strictness : Strictness) (realm : List ℕ) (version : ℕ) (tail : List ℕ) (a : Result ApOpened ApFault) → HasKey a
-    → IsOne (OpensAs strictness realm version tail a)
-one_request strictness realm version tail (Err fault) is_key one other h k = h ∙ sym k
-one_request strictness realm version tail (Ok a) is_key one other h k =
-    let private : h.0 ≡ k.0 = privs_open_once strictness a.subkey a.seq_number tail is_key h.0 k.0 h.1 k.1 in
+one_request : (strictness : Strictness) (local : IpAddr) (realm : List ℕ) (version : ℕ) (tail : List ℕ) (a : Result ApOpened ApFault) → HasKey a
+    → IsOne (OpensAs strictness local realm version tail a)
+one_request strictness local realm version tail (Err fault) is_key one other h k = h ∙ sym k
+one_request strictness local realm version tail (Ok a) is_key one other h k =
+    let private : h.0 ≡ k.0 = privs_open_once strictness local a.subkey a.seq_number tail is_key h.0 k.0 h.1 k.1 in
     let same_content : h.2.0 ≡ k.2.0 = one_content realm version k.0 h.2.0 k.2.0
     (subst (λ (p : Result Private PrivFault). IsContent realm version p h.2.0) private h.2.1) k.2.1 in
     h.2.2
-    ∙ (ap (λ (p : Result Private PrivFault). opened (request_of a (stamp_in p) h.2.0)) private
-    ∙ (ap (λ (content : Content). opened (request_of a (stamp_in k.0) content)) same_content
+    ∙ (ap (λ (p : Result Private PrivFault). opened (request_of local a (stamp_in p) h.2.0)) private
+    ∙ (ap (λ (content : Content). opened (request_of local a (stamp_in k.0) content)) same_content
     ∙ sym k.2.2))
 
-one_parts : (strictness : Strictness) (realm : List ℕ) (keys : List ServiceKey) (peer : List ℕ) (version : ℕ) (ap_req tail : List ℕ)
-    → AreProtocolKeys keys → IsOne (OpensParts strictness realm keys peer version ap_req tail)
-one_parts strictness realm keys peer version ap_req tail are one other h k =
-    let same : h.0 ≡ k.0 = ap_reqs_open_once realm keys ap_req peer are h.0 k.0 h.1 k.1 in
-    one_request strictness realm version tail k.0 (has_key realm keys ap_req peer k.0 k.1) one other
-    (subst (λ (a : Result ApOpened ApFault). OpensAs strictness realm version tail a one) same h.2) k.2
+one_parts : (strictness : Strictness) (realm : List ℕ) (keys : List ServiceKey) (ends : Endpoints) (version : ℕ) (ap_req tail : List ℕ)
+    → AreProtocolKeys keys → IsOne (OpensParts strictness realm keys ends version ap_req tail)
+one_parts strictness realm keys ends version ap_req tail are one other h k =
+    let same : h.0 ≡ k.0 = ap_reqs_open_once realm keys ap_req ends.peer are h.0 k.0 h.1 k.1 in
+    one_request strictness ends.local realm version tail k.0 (has_key realm keys ap_req ends.peer k.0 k.1) one other
+    (subst (λ (a : Result ApOpened ApFault). OpensAs strictness ends.local realm version tail a one) same h.2) k.2
 
-one_framed : (strictness : Strictness) (realm : List ℕ) (keys : List ServiceKey) (peer bytes : List ℕ) (fault : Option FrameFault)
-    → AreProtocolKeys keys → IsOne (OpensFramed strictness realm keys peer bytes fault)
-one_framed strictness realm keys peer bytes (Some fault) are one other h k = h ∙ sym k
-one_framed strictness realm keys peer bytes None are one other h k =
-    one_parts strictness realm keys peer (version_of bytes) (ap_of bytes) (tail_of bytes) are one other h k
+one_framed : (strictness : Strictness) (realm : List ℕ) (keys : List ServiceKey) (ends : Endpoints) (bytes : List ℕ) (fault : Option FrameFault)
+    → AreProtocolKeys keys → IsOne (OpensFramed strictness realm keys ends bytes fault)
+one_framed strictness realm keys ends bytes (Some fault) are one other h k = h ∙ sym k
+one_framed strictness realm keys ends bytes None are one other h k =
+    one_parts strictness realm keys ends (version_of bytes) (ap_of bytes) (tail_of bytes) are one other h k
 
 pub messages_open_once : MessagesOpenOnce
-messages_open_once strictness realm keys peer bytes are =
-    one_framed strictness realm keys peer bytes (first_fault request_versions false bytes) are
+messages_open_once strictness realm keys ends bytes are =
+    one_framed strictness realm keys ends bytes (first_fault request_versions false bytes) are

@@ -2,6 +2,7 @@
 use Rattle.std.proofs.Common.{◌≡◌, ◌<◌, ℕ, ℤ, pos, negsuc, ◌≤ℤ◌, true, not, List, Ok, arith, inl, inr}
 use Rattle.std.specs.Prelude.{int_lt}
 use Rattle.std.proofs.lemmas.Int.{ints}
+use Rattle.std.specs.declared.net.ip_addr.IpAddr.{IpAddr}
 use Rattle.krb_codec.specs.Shapes.{kerberos_time, microseconds}
 use Rattle.krb_codec.specs.Texts.{is_in_range}
 use Rattle.krb_codec.specs.Times.{is_writable, time_of}
@@ -38,9 +39,9 @@ micros_below n h =
     let le = not_less (pos 999999) (pos n) both.1 in
     omega (arith, ints)
 
-pub reply_times : (realm : List ℕ) (keys : List ServiceKey) (bytes peer : List ℕ) (a : ApOpened)
-    → OpensAp realm keys bytes peer (Ok a) → IsReplyTime (seal_of a)
-reply_times realm keys bytes peer a h =
+pub reply_times : (local : IpAddr) (realm : List ℕ) (keys : List ServiceKey) (bytes : List ℕ) (peer : IpAddr) (a : ApOpened)
+    → OpensAp realm keys bytes peer (Ok a) → IsReplyTime (seal_of local a)
+reply_times local realm keys bytes peer a h =
     let fit = opened_times_fit realm keys bytes peer a h in
     let years = time_in_years a.ctime.0 fit.0 in
     (years.0, years.1, micros_below a.cusec.0 fit.1)

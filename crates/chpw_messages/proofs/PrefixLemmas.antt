@@ -7,6 +7,7 @@ use Rattle.std.specs.List.{list_any}
 use Rattle.std.proofs.lemmas.List.{drop-take, length-drop, length-take, length-take-le, take-append-drop, take-take}
 use Rattle.std.proofs.lemmas.Bool.{ltb-true}
 use Rattle.std.proofs.lemmas.Nat.{from_be_bytes-to_be_bytes_2}
+use Rattle.std.specs.declared.net.ip_addr.IpAddr.{IpAddr}
 use Rattle.krb_codec.specs.Grammar.{Spells}
 use Rattle.krb_codec.proofs.CompleteLemmas.{no_prefix, same_or_not}
 use Rattle.krb_der.specs.Types.{krb_priv}
@@ -25,6 +26,7 @@ use Rattle.krb_msgs.specs.declared.private_message.Private.{Private}
 use Rattle.krb_msgs.specs.declared.fault.PrivFault.{PrivFault}
 use Rattle.krb_msgs.specs.declared.fault.PrivFault.TheVariants as priv
 use Rattle.krb_msgs.proofs.AnswerLemmas.{err_is, ok_err}
+use Rattle.chpw_endpoints.specs.declared.endpoints.Endpoints.{Endpoints}
 use Rattle.chpw_frame.specs.declared.fault.FrameFault.{FrameFault}
 use Rattle.chpw_frame.specs.declared.fault.FrameFault.TheVariants.{BadLength, BadParts}
 use Rattle.chpw_frame.specs.Framing.{ap_length_of, ap_of, first_fault, is_past_end, is_whole, number_at, request_versions, tail_of, version_of}
@@ -38,11 +40,11 @@ use Rattle.chpw_frame.proofs.FramingLemmas.{cleared, neither}
 -- ---- the KRB-PRIV
 
 -- one that is cut short is none
-none_left : (strictness : Strictness) (subkey : Key) (seq_number : Option SeqNumber) (tail : List ℕ) (k : ℕ) (m : KrbPriv)
+none_left : (strictness : Strictness) (local : IpAddr) (subkey : Key) (seq_number : Option SeqNumber) (tail : List ℕ) (k : ℕ) (m : KrbPriv)
     → Spells krb_priv tail (krb_priv_value m) → k < length tail
-    → OpensPriv strictness subkey seq_number (take k tail) (Err priv.Malformed)
+    → OpensPriv strictness local subkey seq_number (take k tail) (Err priv.Malformed)
 unfolding OpensPriv
-none_left strictness subkey seq_number tail k m h lt =
+none_left strictness local subkey seq_number tail k m h lt =
     stops priv.Malformed
     (of_none (λ (x : KrbPriv) spelled.
     let whole : Spells krb_priv (take k tail ++ drop k tail) (krb_priv_value m) =
@@ -58,34 +60,34 @@ pub request_is : (q r : Request) → opened q ≡ opened r → q ≡ r
 request_is q r h = cc
 
 -- the same AP-REQ with less of a KRB-PRIV behind it
-less_opens : (strictness : Strictness) (realm : List ℕ) (version : ℕ) (tail : List ℕ) (k : ℕ) (m : KrbPriv) (a : Result ApOpened ApFault) (q : Request)
-    → Spells krb_priv tail (krb_priv_value m) → k < length tail
-    → OpensAs strictness realm version tail a (opened q) → OpensAs strictness realm version (take k tail) a (opened (without_content q))
-less_opens strictness realm version tail k m (Err fault) q spelled lt h = absurd cc
-less_opens strictness realm version tail k m (Ok a) q spelled lt h = (
+less_opens : (strictness : Strictness) (local : IpAddr) (realm : List ℕ) (version : ℕ) (tail : List ℕ) (k : ℕ) (m : KrbPriv)
+    (a : Result ApOpened ApFault) (q : Request) → Spells krb_priv tail (krb_priv_value m) → k < length tail
+    → OpensAs strictness local realm version tail a (opened q) → OpensAs strictness local realm version (take k tail) a (opened (without_content q))
+less_opens strictness local realm version tail k m (Err fault) q spelled lt h = absurd cc
+less_opens strictness local realm version tail k m (Ok a) q spelled lt h = (
   Err priv.Malformed,
-  none_left strictness a.subkey a.seq_number tail k m spelled lt,
-  (bad_data, refl, ap (λ (r : Request). opened (without_content r)) (request_is q (request_of a (stamp_in h.0) h.2.0) h.2.2)),
+  none_left strictness local a.subkey a.seq_number tail k m spelled lt,
+  (bad_data, refl, ap (λ (r : Request). opened (without_content r)) (request_is q (request_of local a (stamp_in h.0) h.2.0) h.2.2)),
 )
 
 -- what is refused as anything but malformed is one
-is_krb_priv : (strictness : Strictness) (subkey : Key) (seq_number : Option SeqNumber) (tail : List ℕ) (private : Result Private PrivFault)
-    → OpensPriv strictness subkey seq_number tail private → (private ≡ Err priv.Malformed → ⊥)
+is_krb_priv : (strictness : Strictness) (local : IpAddr) (subkey : Key) (seq_number : Option SeqNumber) (tail : List ℕ) (private : Result Private PrivFault)
+    → OpensPriv strictness local subkey seq_number tail private → (private ≡ Err priv.Malformed → ⊥)
     → (m : KrbPriv) × Spells krb_priv tail (krb_priv_value m)
 unfolding OpensPriv
-is_krb_priv strictness subkey seq_number tail private (goes_on m (of_one x h e) rest) other = (x, h)
-is_krb_priv strictness subkey seq_number tail private (goes_on m (of_none h e) rest) other = absurd (ok_err e)
-is_krb_priv strictness subkey seq_number tail private (stops f (of_one x h e) is) other = absurd (ok_err (sym e))
-is_krb_priv strictness subkey seq_number tail private (stops f (of_none h e) is) other =
+is_krb_priv strictness local subkey seq_number tail private (goes_on m (of_one x h e) rest) other = (x, h)
+is_krb_priv strictness local subkey seq_number tail private (goes_on m (of_none h e) rest) other = absurd (ok_err e)
+is_krb_priv strictness local subkey seq_number tail private (stops f (of_one x h e) is) other = absurd (ok_err (sym e))
+is_krb_priv strictness local subkey seq_number tail private (stops f (of_none h e) is) other =
     absurd (other (is ∙ ap (λ (g : PrivFault). Err g) (err_is f priv.Malformed e)))
 
-follows : (strictness : Strictness) (realm : List ℕ) (version : ℕ) (tail : List ℕ) (a : Result ApOpened ApFault) (q : Request)
-    → OpensAs strictness realm version tail a (opened q) → (q.content ≡ bad_data → ⊥)
+follows : (strictness : Strictness) (local : IpAddr) (realm : List ℕ) (version : ℕ) (tail : List ℕ) (a : Result ApOpened ApFault) (q : Request)
+    → OpensAs strictness local realm version tail a (opened q) → (q.content ≡ bad_data → ⊥)
     → (m : KrbPriv) × Spells krb_priv tail (krb_priv_value m)
-follows strictness realm version tail (Err fault) q h other = absurd cc
-follows strictness realm version tail (Ok a) q h other =
-    let same : q.content ≡ h.2.0 = ap (λ (r : Request). r.content) (request_is q (request_of a (stamp_in h.0) h.2.0) h.2.2) in
-    is_krb_priv strictness a.subkey a.seq_number tail h.0 h.1
+follows strictness local realm version tail (Err fault) q h other = absurd cc
+follows strictness local realm version tail (Ok a) q h other =
+    let same : q.content ≡ h.2.0 = ap (λ (r : Request). r.content) (request_is q (request_of local a (stamp_in h.0) h.2.0) h.2.2) in
+    is_krb_priv strictness local a.subkey a.seq_number tail h.0 h.1
     (λ bad. other (same ∙ subst (λ (p : Result Private PrivFault). IsContent realm version p h.2.0) bad h.2.1))
 
 -- ---- the frame, and the message
@@ -97,21 +99,22 @@ no_header n bytes lt =
     let short : nat_lt (length (shortened n bytes)) 6 ≡ true = is_below _ _ (omega (arith, size, lt)) in
     rw short refl
 
-pub opens_so : (strictness : Strictness) (realm : List ℕ) (keys : List ServiceKey) (peer bytes : List ℕ) (o : Opens) (f : Option FrameFault)
-    → first_fault request_versions false bytes ≡ f → OpensFramed strictness realm keys peer bytes f o → OpensTo strictness realm keys peer bytes o
-opens_so strictness realm keys peer bytes o f is h = subst (λ (g : Option FrameFault). OpensFramed strictness realm keys peer bytes g o) (sym is) h
+pub opens_so : (strictness : Strictness) (realm : List ℕ) (keys : List ServiceKey) (ends : Endpoints) (bytes : List ℕ) (o : Opens) (f : Option FrameFault)
+    → first_fault request_versions false bytes ≡ f → OpensFramed strictness realm keys ends bytes f o → OpensTo strictness realm keys ends bytes o
+opens_so strictness realm keys ends bytes o f is h = subst (λ (g : Option FrameFault). OpensFramed strictness realm keys ends bytes g o) (sym is) h
 
 -- a request has no fault
-pub opened_has_none : (strictness : Strictness) (realm : List ℕ) (keys : List ServiceKey) (peer bytes : List ℕ) (q : Request) (f : Option FrameFault)
-    → first_fault request_versions false bytes ≡ f → OpensFramed strictness realm keys peer bytes f (opened q)
-    → (first_fault request_versions false bytes ≡ None) × OpensParts strictness realm keys peer (version_of bytes) (ap_of bytes) (tail_of bytes) (opened q)
-opened_has_none strictness realm keys peer bytes q (Some fault) is h = absurd cc
-opened_has_none strictness realm keys peer bytes q None is h = (is, h)
+pub opened_has_none : (strictness : Strictness) (realm : List ℕ) (keys : List ServiceKey) (ends : Endpoints) (bytes : List ℕ) (q : Request)
+    (f : Option FrameFault)
+    → first_fault request_versions false bytes ≡ f → OpensFramed strictness realm keys ends bytes f (opened q)
+    → (first_fault request_versions false bytes ≡ None) × OpensParts strictness realm keys ends (version_of bytes) (ap_of bytes) (tail_of bytes) (opened q)
+opened_has_none strictness realm keys ends bytes q (Some fault) is h = absurd cc
+opened_has_none strictness realm keys ends bytes q None is h = (is, h)
 
 pub krb_privs_follow : KrbPrivsFollow
-krb_privs_follow strictness realm keys peer bytes q h other =
-    let parts = (opened_has_none strictness realm keys peer bytes q _ refl h).1 in
-    follows strictness realm (version_of bytes) (tail_of bytes) parts.0 q parts.2 other
+krb_privs_follow strictness realm keys ends bytes q h other =
+    let parts = (opened_has_none strictness realm keys ends bytes q _ refl h).1 in
+    follows strictness ends.local realm (version_of bytes) (tail_of bytes) parts.0 q parts.2 other
 
 -- so many more than a header
 abbrev six : ℕ → ℕ
@@ -149,48 +152,49 @@ module _ (hi lo c d e f : ℕ) (rest : List ℕ) (m : ℕ) (le : m ≤ length re
       ∙ drop-take (ap_length_of whole) (m - ap_length_of whole) rest
 
   -- it opens to what is cut short
-  left_opens : (strictness : Strictness) (realm : List ℕ) (keys : List ServiceKey) (peer : List ℕ) (q : Request) (k : KrbPriv)
+  left_opens : (strictness : Strictness) (realm : List ℕ) (keys : List ServiceKey) (ends : Endpoints) (q : Request) (k : KrbPriv)
       → m < length rest → six m ≤ longest
-      → OpensTo strictness realm keys peer whole (opened q) → Spells krb_priv (tail_of whole) (krb_priv_value k)
-      → OpensTo strictness realm keys peer left (cut_short (six m) whole q)
-  left_opens strictness realm keys peer q k lt fit h spelled =
-      let is = opened_has_none strictness realm keys peer whole q _ refl h in
+      → OpensTo strictness realm keys ends whole (opened q) → Spells krb_priv (tail_of whole) (krb_priv_value k)
+      → OpensTo strictness realm keys ends left (cut_short (six m) whole q)
+  left_opens strictness realm keys ends q k lt fit h spelled =
+      let is = opened_has_none strictness realm keys ends whole q _ refl h in
       let fault = fault_of_left fit is.0 in
       let header : nat_lt (six m) 6 ≡ false = not_below (six m) 6 (omega arith) in
       elim (same_or_not (nat_lt (six m) (6 + ap_length_of whole))) [
-        | inl cut ↦ opens_so strictness realm keys peer left _ (Some BadParts) (fault ∙ rw cut refl) (rw (header, cut) refl)
+        | inl cut ↦ opens_so strictness realm keys ends left _ (Some BadParts) (fault ∙ rw cut refl) (rw (header, cut) refl)
         | inr enough ↦
             let ap_le : ap_length_of whole ≤ m = (let n = not_below_is _ _ enough in omega (arith, n)) in
             let behind = length-drop (ap_length_of whole) rest in
             let parts = is.1 in
-            let less = less_opens strictness realm (version_of whole) (tail_of whole)
+            let less = less_opens strictness ends.local realm (version_of whole) (tail_of whole)
             (m - ap_length_of whole) k parts.0 q spelled (omega (arith, behind, ap_le, lt)) parts.2 in
-            let opens : OpensParts strictness realm keys peer (version_of whole) (ap_of left) (tail_of left) (opened (without_content q)) = (
+            let opens : OpensParts strictness realm keys ends (version_of whole) (ap_of left) (tail_of left) (opened (without_content q)) = (
               parts.0,
-              subst (λ (b : List ℕ). OpensAp realm keys b peer parts.0) (sym (same_ap ap_le)) parts.1,
-              subst (λ (b : List ℕ). OpensAs strictness realm (version_of whole) b parts.0 (opened (without_content q))) (sym (less_tail ap_le)) less,
+              subst (λ (b : List ℕ). OpensAp realm keys b ends.peer parts.0) (sym (same_ap ap_le)) parts.1,
+              subst (λ (b : List ℕ). OpensAs strictness ends.local realm (version_of whole) b parts.0 (opened (without_content q)))
+                  (sym (less_tail ap_le)) less,
             ) in
-            opens_so strictness realm keys peer left _ None (fault ∙ rw enough refl) (rw (header, enough) opens)
+            opens_so strictness realm keys ends left _ None (fault ∙ rw enough refl) (rw (header, enough) opens)
       ]
 
 -- at least a header
-more_than_header : (strictness : Strictness) (realm : List ℕ) (keys : List ServiceKey) (peer bytes : List ℕ) (q : Request) (m : KrbPriv) (k : ℕ)
-    → OpensTo strictness realm keys peer bytes (opened q) → Spells krb_priv (tail_of bytes) (krb_priv_value m)
+more_than_header : (strictness : Strictness) (realm : List ℕ) (keys : List ServiceKey) (ends : Endpoints) (bytes : List ℕ) (q : Request) (m : KrbPriv) (k : ℕ)
+    → OpensTo strictness realm keys ends bytes (opened q) → Spells krb_priv (tail_of bytes) (krb_priv_value m)
     → length bytes ≤ longest → six k < length bytes
-    → OpensTo strictness realm keys peer (shortened (six k) bytes) (cut_short (six k) bytes q)
-more_than_header strictness realm keys peer (hi ∷ lo ∷ c ∷ d ∷ e ∷ f ∷ rest) q m k h spelled fit lt =
-    left_opens hi lo c d e f rest k (omega (arith, lt)) strictness realm keys peer q m (omega (arith, lt)) (omega (arith, fit, lt)) h spelled
-more_than_header strictness realm keys peer bytes q m k h spelled fit lt = absurd (omega (arith, lt))
+    → OpensTo strictness realm keys ends (shortened (six k) bytes) (cut_short (six k) bytes q)
+more_than_header strictness realm keys ends (hi ∷ lo ∷ c ∷ d ∷ e ∷ f ∷ rest) q m k h spelled fit lt =
+    left_opens hi lo c d e f rest k (omega (arith, lt)) strictness realm keys ends q m (omega (arith, lt)) (omega (arith, fit, lt)) h spelled
+more_than_header strictness realm keys ends bytes q m k h spelled fit lt = absurd (omega (arith, lt))
 
 pub prefixes_open : PrefixesOpen
-prefixes_open strictness realm keys peer bytes q m n h spelled fit lt =
+prefixes_open strictness realm keys ends bytes q m n h spelled fit lt =
     elim (same_or_not (nat_lt n 6)) [
       | inl short ↦
           let below : n < 6 = (let b = ltb-true n 6 short in b) in
-          opens_so strictness realm keys peer (shortened n bytes) _ (Some BadLength) (no_header n bytes below) (rw short refl)
+          opens_so strictness realm keys ends (shortened n bytes) _ (Some BadLength) (no_header n bytes below) (rw short refl)
       | inr long ↦
           let le = not_below_is n 6 long in
           let same : six (n - 6) ≡ n = omega (arith, le) in
-          subst (λ (k : ℕ). OpensTo strictness realm keys peer (shortened k bytes) (cut_short k bytes q)) same
-          (more_than_header strictness realm keys peer bytes q m (n - 6) h spelled fit (omega (arith, lt, le)))
+          subst (λ (k : ℕ). OpensTo strictness realm keys ends (shortened k bytes) (cut_short k bytes q)) same
+          (more_than_header strictness realm keys ends bytes q m (n - 6) h spelled fit (omega (arith, lt, le)))
     ]

@@ -43,33 +43,30 @@ error_frames_open session subkey ctime cusec realm code error words now is_realm
     (errors_open session subkey ctime cusec m code words
     (error_fits realm code error words now is_realm moment micros range le) (refl, refl) lt refl)
 
-loopback_bytes : All (λ b. b < 256) (127 ∷ 0 ∷ 0 ∷ 1 ∷ [])
-loopback_bytes = each_is (127 ∷ 0 ∷ 0 ∷ 1 ∷ []) (lit< tt, (lit< tt, (lit< tt, (lit< tt, tt))))
-
 pub private_frames_open : PrivateFramesOpen
-private_frames_open seal code words drawn times lt le are nine =
+private_frames_open seal code words drawn times few plain_address lt le are nine =
     let a = by_private code words in
     let first = word_bytes (take 4 drawn) in
     let last = word_bytes (drop 5 drawn) in
     let first16 : length first ≡ 16 = (let four = length-take-le 4 drawn (omega (arith, nine)) in omega (arith, length-word_bytes (take 4 drawn), four)) in
     let last16 : length last ≡ 16 = (let four = length-drop 5 drawn in omega (arith, length-word_bytes (drop 5 drawn), four, nine)) in
     let part = ap_rep_part seal drawn in
-    let private = priv_part a drawn in
+    let private = priv_part seal.address a drawn in
     let fit = ap_rep_part_fits seal drawn times in
-    let private_fit = priv_part_fits a drawn le in
+    let private_fit = priv_part_fits seal.address a drawn le few in
     let plain = text_bytes enc_ap_rep_part (enc_ap_rep_part_value part) refl (tt, (tt, (tt, (tt, tt)))) in
     let said = both_are (to_be_bytes w16 code) words (two_bytes code) are in
     let private_plain = text_bytes enc_krb_priv_part (enc_krb_priv_part_value private) refl
-    (said, (tt, (tt, (tt, ((tt, (loopback_bytes, tt)), (tt, tt)))))) in
+    (said, (tt, (tt, (tt, ((tt, (plain_address, tt)), (tt, tt)))))) in
     let short = ap_rep_short seal drawn first first16 in
-    let private_short = priv_short seal a drawn last le last16 in
+    let private_short = priv_short seal a drawn last le few last16 in
     tells seal.session seal.subkey (record { 0 = seal.ctime }) (record { 0 = seal.cusec }) (ap_rep_text seal drawn) (priv_text seal a drawn) a
     (omega (arith, short, private_short))
     (replies_open seal.session seal.subkey (ap_rep_of part seal.session first) part (priv_of private seal.subkey last) private code words
     (ap_rep_fits seal drawn first times first16) (refl, refl)
     (first, None, first16, words_are (take 4 drawn), fit.0, plain, refl)
     (record {
-      fit = priv_fits seal a drawn last le last16;
+      fit = priv_fits seal a drawn last le few last16;
       private = (refl, refl);
       sealed = (last, None, last16, words_are (drop 5 drawn), private_fit.0, private_plain, refl);
     })

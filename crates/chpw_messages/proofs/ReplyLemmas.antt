@@ -2,12 +2,14 @@
 use Rattle.std.proofs.Common.{◌≡◌, ℕ, ◌≤◌, ◌<◌, ◌^◌, true, List, ◌++◌, length, length-append, sym, ◌∙◌, subst, ap, arith, refl, ℤ, pos, negsuc, ◌≤ℤ◌}
 use Rattle.std.specs.Int.{to_be_bytes, w16}
 use Rattle.std.proofs.lemmas.Int.{ints}
+use Rattle.std.specs.declared.net.ip_addr.IpAddr.{IpAddr}
 use Rattle.krb_keys.specs.KeyUsages.{usage_ap_rep_enc_part, usage_krb_priv}
 use Rattle.krb_codec.specs.Shapes.{int32}
 use Rattle.krb_codec.specs.Texts.{fits, is_in_range, text}
 use Rattle.krb_der.specs.Types.{ap_rep, enc_ap_rep_part, enc_krb_priv_part, krb_error, krb_priv}
 use Rattle.krb_der.specs.Values.{ap_rep_value, enc_ap_rep_part_value, enc_krb_priv_part_value, krb_error_value, krb_priv_value}
 use Rattle.krb_der.specs.declared.krb_error.KrbError.{KrbError}
+use Rattle.krb_msgs.specs.Addresses.{octets_of}
 use Rattle.krb_msgs.specs.Making.{ap_rep_of, priv_of}
 use Rattle.krb_msgs.specs.ReplyFitting.{IsShort}
 use Rattle.krb_msgs.proofs.LengthLemmas.{between, micros_range, texts_are_short, time_range}
@@ -76,21 +78,21 @@ ap_rep_short seal words c c16 =
 
 -- ---- a KRB-PRIV
 
-pub priv_part_fits : (a : Answer) (words : List ℕ) → length a.text ≤ 100
-    → IsShort enc_krb_priv_part (enc_krb_priv_part_value (priv_part a words))
-priv_part_fits a words le =
-    priv_parts_fit (to_be_bytes w16 a.code ++ a.text) (seq_number_of words) (seq_range words)
-    (omega (arith, length-append (to_be_bytes w16 a.code) a.text, le))
+pub priv_part_fits : (from : IpAddr) (a : Answer) (words : List ℕ) → length a.text ≤ 100 → length (octets_of from) ≤ 16
+    → IsShort enc_krb_priv_part (enc_krb_priv_part_value (priv_part from a words))
+priv_part_fits from a words le few =
+    priv_parts_fit from (to_be_bytes w16 a.code ++ a.text) (seq_number_of words) (seq_range words)
+    (omega (arith, length-append (to_be_bytes w16 a.code) a.text, le)) few
 
-pub priv_fits : (seal : Seal) (a : Answer) (words c : List ℕ) → length a.text ≤ 100 → length c ≡ 16
-    → fits krb_priv (krb_priv_value (priv_of (priv_part a words) seal.subkey c)) ≡ true
-priv_fits seal a words c le c16 = privs_fit (priv_part a words) seal.subkey c c16 (priv_part_fits a words le).1
+pub priv_fits : (seal : Seal) (a : Answer) (words c : List ℕ) → length a.text ≤ 100 → length (octets_of seal.address) ≤ 16 → length c ≡ 16
+    → fits krb_priv (krb_priv_value (priv_of (priv_part seal.address a words) seal.subkey c)) ≡ true
+priv_fits seal a words c le few c16 = privs_fit (priv_part seal.address a words) seal.subkey c c16 (priv_part_fits seal.address a words le few).1
 
-pub priv_short : (seal : Seal) (a : Answer) (words c : List ℕ) → length a.text ≤ 100 → length c ≡ 16
-    → length (text krb_priv (krb_priv_value (priv_of (priv_part a words) seal.subkey c))) ≤ 1000
-priv_short seal a words c le c16 =
-    let v = enc_krb_priv_part_value (priv_part a words) in
+pub priv_short : (seal : Seal) (a : Answer) (words c : List ℕ) → length a.text ≤ 100 → length (octets_of seal.address) ≤ 16 → length c ≡ 16
+    → length (text krb_priv (krb_priv_value (priv_of (priv_part seal.address a words) seal.subkey c))) ≤ 1000
+priv_short seal a words c le few c16 =
+    let v = enc_krb_priv_part_value (priv_part seal.address a words) in
     let len = sealed_length seal.subkey usage_krb_priv c enc_krb_priv_part v c16 refl in
     let part = texts_are_short enc_krb_priv_part v in
-    let short = texts_are_short krb_priv (krb_priv_value (priv_of (priv_part a words) seal.subkey c)) in
-    omega (arith, len, part, short, length-append (to_be_bytes w16 a.code) a.text, le)
+    let short = texts_are_short krb_priv (krb_priv_value (priv_of (priv_part seal.address a words) seal.subkey c)) in
+    omega (arith, len, part, short, length-append (to_be_bytes w16 a.code) a.text, le, few)

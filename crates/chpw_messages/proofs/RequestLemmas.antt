@@ -24,12 +24,12 @@ change_said realm false bytes change says =
     (change, subst (λ (b : List ℕ). IsChange b change) (sym says.1) spelled, refl, refl)
 
 pub parts_open : PartsOpen
-parts_open strictness version realm keys peer request ticket a session subkey m part change first second = (
+parts_open strictness version realm keys ends request ticket a session subkey m part change first second = (
   Ok (opened_of ticket session a subkey),
-  ap_reqs_open realm keys peer request ticket a session subkey first,
+  ap_reqs_open realm keys ends.peer request ticket a session subkey first,
   (
     Ok (private_of part),
-    privs_open strictness subkey a.seq_number m part second.private second.follows second.strict,
+    privs_open strictness ends.local subkey a.seq_number m part second.private second.follows second.strict,
     (
       new_password (option_map (target_in realm) change.target) change.password,
       change_said realm (version == old_request_version) part.user_data change second.user_data,
@@ -39,10 +39,10 @@ parts_open strictness version realm keys peer request ticket a session subkey m 
 )
 
 pub frames_open : FramesOpen
-frames_open strictness version realm keys peer front tail o taken below some le h =
+frames_open strictness version realm keys ends front tail o taken below some le h =
     let bytes : List ℕ = framed version front tail in
     let whole = framed_is_whole request_versions false version front tail taken below (λ _. some) le in
-    subst (λ (f : Option FrameFault). OpensFramed strictness realm keys peer bytes f o) (sym whole.0)
-    (subst (λ (v : ℕ). OpensParts strictness realm keys peer v (ap_of bytes) (tail_of bytes) o) (sym whole.1)
-    (subst (λ (b : List ℕ). OpensParts strictness realm keys peer version b (tail_of bytes) o) (sym whole.2)
-    (subst (λ (b : List ℕ). OpensParts strictness realm keys peer version front b o) (sym whole.3) h)))
+    subst (λ (f : Option FrameFault). OpensFramed strictness realm keys ends bytes f o) (sym whole.0)
+    (subst (λ (v : ℕ). OpensParts strictness realm keys ends v (ap_of bytes) (tail_of bytes) o) (sym whole.1)
+    (subst (λ (b : List ℕ). OpensParts strictness realm keys ends version b (tail_of bytes) o) (sym whole.2)
+    (subst (λ (b : List ℕ). OpensParts strictness realm keys ends version front b o) (sym whole.3) h)))

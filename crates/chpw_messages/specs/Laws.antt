@@ -1,6 +1,7 @@
 -- What is made from a request opens to it, for any confounders, kvnos of authenticator and KRB-PRIV, and name-types.
 use Rattle.std.specs.Prelude.{◌≡◌, ◌≤◌, ◌<◌, ◌^◌, ℕ, ◌+◌, ◌==◌, Bool, true, false, List, length, None, option_map}
 use Rattle.std.specs.List.{list_any}
+use Rattle.std.specs.declared.net.ip_addr.IpAddr.{IpAddr}
 use Rattle.krb_keys.specs.declared.key.Key.{Key}
 use Rattle.krb_codec.specs.Texts.{text, fits}
 use Rattle.krb_der.specs.Types.{ap_req, krb_priv, change_passwd_data}
@@ -15,6 +16,7 @@ use Rattle.krb_msgs.specs.Accepted.{opened_of}
 use Rattle.krb_msgs.specs.PrivateMessages.{MayFollow, meets, private_of}
 use Rattle.krb_msgs.specs.declared.service_keys.ServiceKey.{ServiceKey}
 use Rattle.krb_msgs.specs.declared.private_message.Strictness.{Strictness}
+use Rattle.chpw_endpoints.specs.declared.endpoints.Endpoints.{Endpoints}
 use Rattle.chpw_frame.specs.declared.change_data.ChangeData.{ChangeData}
 use Rattle.chpw_frame.specs.Framing.{framed, header_length, old_request_version, request_versions}
 use Rattle.chpw_frame.specs.Stream.{longest}
@@ -31,34 +33,34 @@ SaysChange false bytes change =
     (fits change_passwd_data (change_value change) ≡ true) × (bytes ≡ text change_passwd_data (change_value change))
 
 -- a KRB-PRIV after this authenticator that asks for a change, in a request of this version
-pub record AsksChange (strictness : Strictness) (version : ℕ) (subkey : Key) (a : Authenticator) (m : KrbPriv) (part : EncKrbPrivPart)
+pub record AsksChange (strictness : Strictness) (local : IpAddr) (version : ℕ) (subkey : Key) (a : Authenticator) (m : KrbPriv) (part : EncKrbPrivPart)
     (change : ChangeData) : Type 0 where
   pub private : IsKrbPriv subkey m part
   pub follows : MayFollow a.seq_number part.seq_number
-  pub strict : meets strictness a.seq_number part ≡ true
+  pub strict : meets strictness local a.seq_number part ≡ true
   pub user_data : SaysChange (version == old_request_version) part.user_data change
 
 -- what they ask for
-abbrev pub asked_of : List ℕ → EncTicketPart → Key → Authenticator → Key → EncKrbPrivPart → ChangeData → Request
-asked_of realm ticket session a subkey part change =
-    request_of (opened_of ticket session a subkey) (private_of part).stamp
+abbrev pub asked_of : IpAddr → List ℕ → EncTicketPart → Key → Authenticator → Key → EncKrbPrivPart → ChangeData → Request
+asked_of local realm ticket session a subkey part change =
+    request_of local (opened_of ticket session a subkey) (private_of part).stamp
     (new_password (option_map (target_in realm) change.target) change.password)
 
 -- the two open to that
 abbrev pub PartsOpen : Type 0
-PartsOpen = (strictness : Strictness) (version : ℕ) (realm : List ℕ) (keys : List ServiceKey) (peer : List ℕ) (request : ApReq)
+PartsOpen = (strictness : Strictness) (version : ℕ) (realm : List ℕ) (keys : List ServiceKey) (ends : Endpoints) (request : ApReq)
     (ticket : EncTicketPart) (a : Authenticator) (session subkey : Key)
     (m : KrbPriv) (part : EncKrbPrivPart) (change : ChangeData)
-    → IsApReq realm keys peer request ticket a session subkey
-    → AsksChange strictness version subkey a m part change
-    → OpensParts strictness realm keys peer version
+    → IsApReq realm keys ends.peer request ticket a session subkey
+    → AsksChange strictness ends.local version subkey a m part change
+    → OpensParts strictness realm keys ends version
     (text ap_req (ap_req_value request)) (text krb_priv (krb_priv_value m))
-    (opened (asked_of realm ticket session a subkey part change))
+    (opened (asked_of ends.local realm ticket session a subkey part change))
 
 -- parts in a frame of an accepted version, as long as a frame may be, open as they do
 abbrev pub FramesOpen : Type 0
-FramesOpen = (strictness : Strictness) (version : ℕ) (realm : List ℕ) (keys : List ServiceKey) (peer ap tail : List ℕ) (o : Opens)
+FramesOpen = (strictness : Strictness) (version : ℕ) (realm : List ℕ) (keys : List ServiceKey) (ends : Endpoints) (ap tail : List ℕ) (o : Opens)
     → list_any (λ v. v == version) request_versions ≡ true → version < 2 ^ 16
     → 0 < length ap → header_length + length ap + length tail ≤ longest
-    → OpensParts strictness realm keys peer version ap tail o
-    → OpensTo strictness realm keys peer (framed version ap tail) o
+    → OpensParts strictness realm keys ends version ap tail o
+    → OpensTo strictness realm keys ends (framed version ap tail) o

@@ -2,6 +2,7 @@
 -- frame, the AP-REQ, the KRB-PRIV and its user-data in turn. The version of the frame says how user-data
 -- is read, and nothing else.
 use Rattle.std.specs.Prelude.{◌≡◌, ℕ, ℤ, List, Bool, true, false, ◌==◌, Option, Some, None, Result, Ok, Err, option_map, unwrap_or}
+use Rattle.std.specs.declared.net.ip_addr.IpAddr.{IpAddr}
 use Rattle.krb_codec.specs.BitStrings.{is_set}
 use Rattle.krb_protocol.specs.Numbers as protocol
 use Rattle.krb_protocol.specs.Refusals.{Refusal}
@@ -16,6 +17,7 @@ use Rattle.krb_msgs.specs.declared.fault.PrivFault.TheVariants as priv
 use Rattle.krb_msgs.specs.ApExchange.{OpensAp}
 use Rattle.krb_msgs.specs.PrivateMessages.{OpensPriv}
 use Rattle.krb_msgs.specs.Codes as ap
+use Rattle.chpw_endpoints.specs.declared.endpoints.Endpoints.{Endpoints}
 use Rattle.chpw_frame.specs.declared.change_data.ChangeData.{ChangeData}
 use Rattle.chpw_frame.specs.declared.change_data.ChangeTarget.{ChangeTarget}
 use Rattle.chpw_frame.specs.declared.fault.FrameFault.{FrameFault}
@@ -77,11 +79,11 @@ stamp_in (Err fault) = None
 -- ---- the AP-REQ
 
 -- the keys and times that the reply is made with
-abbrev pub seal_of : ApOpened → Seal
-seal_of a = record { session = a.session; subkey = a.subkey; ctime = a.ctime.0; cusec = a.cusec.0 }
+abbrev pub seal_of : IpAddr → ApOpened → Seal
+seal_of local a = record { session = a.session; subkey = a.subkey; ctime = a.ctime.0; cusec = a.cusec.0; address = local }
 
-abbrev pub request_of : ApOpened → Option ℤ → Content → Request
-request_of a stamp content = record {
+abbrev pub request_of : IpAddr → ApOpened → Option ℤ → Content → Request
+request_of local a stamp content = record {
   crealm = a.crealm;
   client = name_in a.cname;
   initial = is_set a.flags.0 protocol.ticket_initial;
@@ -91,7 +93,7 @@ request_of a stamp content = record {
   ctime = a.ctime.0;
   cusec = a.cusec.0;
   stamp = stamp;
-  seal = seal_of a;
+  seal = seal_of local a;
   content = content;
 }
 
@@ -99,25 +101,25 @@ request_of a stamp content = record {
 abbrev pub refused_by : Refusal → Opens
 refused_by r = refused (by_error r.code r.error r.text)
 
-abbrev pub OpensAs : Strictness → List ℕ → ℕ → List ℕ → Result ApOpened ApFault → Opens → Type 0
-OpensAs strictness realm version tail (Err fault) o = o ≡ refused_by (ap.refusal_of fault)
-OpensAs strictness realm version tail (Ok a) o =
-    (private : Result Private PrivFault) × OpensPriv strictness a.subkey a.seq_number tail private
-    × ((content : Content) × IsContent realm version private content × (o ≡ opened (request_of a (stamp_in private) content)))
+abbrev pub OpensAs : Strictness → IpAddr → List ℕ → ℕ → List ℕ → Result ApOpened ApFault → Opens → Type 0
+OpensAs strictness local realm version tail (Err fault) o = o ≡ refused_by (ap.refusal_of fault)
+OpensAs strictness local realm version tail (Ok a) o =
+    (private : Result Private PrivFault) × OpensPriv strictness local a.subkey a.seq_number tail private
+    × ((content : Content) × IsContent realm version private content × (o ≡ opened (request_of local a (stamp_in private) content)))
 
 -- ---- the message
 
-abbrev pub OpensParts : Strictness → List ℕ → List ServiceKey → List ℕ → ℕ → List ℕ → List ℕ → Opens → Type 0
-OpensParts strictness realm keys peer version ap_req tail o =
-    (a : Result ApOpened ApFault) × OpensAp realm keys ap_req peer a × OpensAs strictness realm version tail a o
+abbrev pub OpensParts : Strictness → List ℕ → List ServiceKey → Endpoints → ℕ → List ℕ → List ℕ → Opens → Type 0
+OpensParts strictness realm keys ends version ap_req tail o =
+    (a : Result ApOpened ApFault) × OpensAp realm keys ap_req ends.peer a × OpensAs strictness ends.local realm version tail a o
 
 -- what a message opens to whose frame has this first fault, or none
-abbrev pub OpensFramed : Strictness → List ℕ → List ServiceKey → List ℕ → List ℕ → Option FrameFault → Opens → Type 0
-OpensFramed strictness realm keys peer bytes (Some fault) o = o ≡ refused_by (frame.refusal_of fault)
-OpensFramed strictness realm keys peer bytes None o =
-    OpensParts strictness realm keys peer (version_of bytes) (ap_of bytes) (tail_of bytes) o
+abbrev pub OpensFramed : Strictness → List ℕ → List ServiceKey → Endpoints → List ℕ → Option FrameFault → Opens → Type 0
+OpensFramed strictness realm keys ends bytes (Some fault) o = o ≡ refused_by (frame.refusal_of fault)
+OpensFramed strictness realm keys ends bytes None o =
+    OpensParts strictness realm keys ends (version_of bytes) (ap_of bytes) (tail_of bytes) o
 
 -- arguments: whether messages are strict, the service's realm and keys, the peer's address, the message
-abbrev pub OpensTo : Strictness → List ℕ → List ServiceKey → List ℕ → List ℕ → Opens → Type 0
-OpensTo strictness realm keys peer bytes o =
-    OpensFramed strictness realm keys peer bytes (first_fault request_versions false bytes) o
+abbrev pub OpensTo : Strictness → List ℕ → List ServiceKey → Endpoints → List ℕ → Opens → Type 0
+OpensTo strictness realm keys ends bytes o =
+    OpensFramed strictness realm keys ends bytes (first_fault request_versions false bytes) o

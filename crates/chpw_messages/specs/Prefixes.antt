@@ -7,6 +7,7 @@ use Rattle.krb_der.specs.Values.{krb_priv_value}
 use Rattle.krb_der.specs.declared.krb_priv.KrbPriv.{KrbPriv}
 use Rattle.krb_msgs.specs.declared.service_keys.ServiceKey.{ServiceKey}
 use Rattle.krb_msgs.specs.declared.private_message.Strictness.{Strictness}
+use Rattle.chpw_endpoints.specs.declared.endpoints.Endpoints.{Endpoints}
 use Rattle.chpw_frame.specs.Faults.{refusal_of}
 use Rattle.chpw_frame.specs.Framing.{ap_length_of, header_length, tail_of}
 use Rattle.chpw_frame.specs.Stream.{longest}
@@ -28,13 +29,13 @@ cut_short n bytes q =
 
 -- of a request whose tail is a KRB-PRIV, whatever that opens to, each proper prefix
 abbrev pub PrefixesOpen : Type 0
-PrefixesOpen = (strictness : Strictness) (realm : List ℕ) (keys : List ServiceKey) (peer bytes : List ℕ) (q : Request) (m : KrbPriv) (n : ℕ)
-    → OpensTo strictness realm keys peer bytes (opened q) → Spells krb_priv (tail_of bytes) (krb_priv_value m)
+PrefixesOpen = (strictness : Strictness) (realm : List ℕ) (keys : List ServiceKey) (ends : Endpoints) (bytes : List ℕ) (q : Request) (m : KrbPriv) (n : ℕ)
+    → OpensTo strictness realm keys ends bytes (opened q) → Spells krb_priv (tail_of bytes) (krb_priv_value m)
     → length bytes ≤ longest → n < length bytes
-    → OpensTo strictness realm keys peer (shortened n bytes) (cut_short n bytes q)
+    → OpensTo strictness realm keys ends (shortened n bytes) (cut_short n bytes q)
 
 -- the tail of a request is a KRB-PRIV, unless the request is bad data
 abbrev pub KrbPrivsFollow : Type 0
-KrbPrivsFollow = (strictness : Strictness) (realm : List ℕ) (keys : List ServiceKey) (peer bytes : List ℕ) (q : Request)
-    → OpensTo strictness realm keys peer bytes (opened q) → (q.content ≡ bad_data → ⊥)
+KrbPrivsFollow = (strictness : Strictness) (realm : List ℕ) (keys : List ServiceKey) (ends : Endpoints) (bytes : List ℕ) (q : Request)
+    → OpensTo strictness realm keys ends bytes (opened q) → (q.content ≡ bad_data → ⊥)
     → (m : KrbPriv) × Spells krb_priv (tail_of bytes) (krb_priv_value m)

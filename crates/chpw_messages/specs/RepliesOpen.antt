@@ -6,6 +6,7 @@ use Rattle.krb_codec.specs.Shapes.{int32}
 use Rattle.krb_codec.specs.Texts.{is_in_range}
 use Rattle.krb_codec.specs.declared.kerberos_time.KerberosTime.{KerberosTime}
 use Rattle.krb_codec.specs.declared.numbers.Microseconds.{Microseconds}
+use Rattle.krb_msgs.specs.Addresses.{octets_of}
 use Rattle.krb_msgs.specs.Replies.{OpensReply}
 use Rattle.krb_msgs.specs.declared.reply.Reply.{Reply}
 use Rattle.chpw_frame.specs.Framing.{ap_of, first_fault, reply_versions, tail_of}
@@ -38,6 +39,7 @@ ErrorFramesOpen = (session subkey : Key) (ctime : KerberosTime) (cusec : Microse
 -- an AP-REP and a KRB-PRIV, made with nine random words, say theirs to the sender of what they answer
 abbrev pub PrivateFramesOpen : Type 0
 PrivateFramesOpen = (seal : Seal) (code : ℕ) (words drawn : List ℕ)
-    → IsReplyTime seal → code < 2 ^ 16 → length words ≤ 100 → All (λ b. b < 256) words → length drawn ≡ 9
+    → IsReplyTime seal → length (octets_of seal.address) ≤ 16 → All (λ b. b < 256) (octets_of seal.address)
+    → code < 2 ^ 16 → length words ≤ 100 → All (λ b. b < 256) words → length drawn ≡ 9
     → Tells seal.session seal.subkey (record { 0 = seal.ctime }) (record { 0 = seal.cusec })
     (private_frame seal (by_private code words) drawn) (by_private code words)

@@ -3,6 +3,7 @@
 use Rattle.std.specs.Prelude.{◌≡◌, ℕ, List, Bool, true, false, not, ◌&&◌, ◌==◌}
 use Rattle.krb_msgs.specs.declared.service_keys.ServiceKey.{ServiceKey}
 use Rattle.krb_msgs.specs.declared.private_message.Strictness.{Strictness}
+use Rattle.chpw_endpoints.specs.declared.endpoints.Endpoints.{Endpoints}
 use Rattle.chpw_frame.specs.declared.fault.FrameFault.TheVariants.{BadVersion}
 use Rattle.chpw_frame.specs.Faults as frame
 use Rattle.chpw_frame.specs.Framing.{is_whole, request_version, version_of}
@@ -25,11 +26,11 @@ refuses Rfc3244Only bytes = is_of_another bytes
 abbrev pub bad_version : Opens
 bad_version = refused_by (frame.refusal_of BadVersion)
 
-abbrev pub OpensUnless : Strictness → Bool → List ℕ → List ServiceKey → List ℕ → List ℕ → Opens → Type 0
-OpensUnless strictness true realm keys peer bytes o = o ≡ bad_version
-OpensUnless strictness false realm keys peer bytes o = OpensTo strictness realm keys peer bytes o
+abbrev pub OpensUnless : Strictness → Bool → List ℕ → List ServiceKey → Endpoints → List ℕ → Opens → Type 0
+OpensUnless strictness true realm keys ends bytes o = o ≡ bad_version
+OpensUnless strictness false realm keys ends bytes o = OpensTo strictness realm keys ends bytes o
 
 -- arguments: what the service accepts, its realm and keys, the peer's address, the message
-abbrev pub OpensUnder : Acceptance → List ℕ → List ServiceKey → List ℕ → List ℕ → Opens → Type 0
-OpensUnder accepts realm keys peer bytes o =
-    OpensUnless accepts.messages (refuses accepts.versions bytes) realm keys peer bytes o
+abbrev pub OpensUnder : Acceptance → List ℕ → List ServiceKey → Endpoints → List ℕ → Opens → Type 0
+OpensUnder accepts realm keys ends bytes o =
+    OpensUnless accepts.messages (refuses accepts.versions bytes) realm keys ends bytes o

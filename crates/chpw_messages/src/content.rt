@@ -14,6 +14,7 @@ use chpw_table::{Body, Counts, Digest};
 use krb_der::OctetString;
 use krb_msgs::{ApOpened, OpenError, PrivFault, Private, Strictness, open_priv};
 use std::alloc::{AllocError, Global};
+use std::net::IpAddr;
 
 /// The content of a KRB-PRIV, as it is judged; no keys are derived yet.
 #[derive(Drop)]
@@ -25,19 +26,20 @@ pub(crate) struct Content {
     pub stamp: Option<i64>,
 }
 
-/// The content of the KRB-PRIV after an AP-REQ, in a message of this version. A target without a realm is in this
+/// The content of the KRB-PRIV after an AP-REQ, in a message of this version that came to this address. A target without a realm is in this
 /// realm.
 pub(crate) fn open_content(
     alloc: Global,
     strictness: Strictness,
+    local: IpAddr,
     realm: &[u8],
     version: u16,
     opened: &ApOpened,
     tail: &[u8],
 ) -> Result<Content, AllocError>
-    ensures content { IfOk result (HoldsContent strictness realm.now version opened.now tail.now) }
+    ensures content { IfOk result (HoldsContent strictness local realm.now version opened.now tail.now) }
 {
-    match open_priv(alloc, strictness, opened, tail) {
+    match open_priv(alloc, strictness, local, opened, tail) {
         Ok(private) => read_content(alloc, realm, version, private),
         Err(OpenError::Memory) => Err(AllocError),
         Err(OpenError::Fault(fault)) => Ok(bare(alloc, body_despite(fault), None)),

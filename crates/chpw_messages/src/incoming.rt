@@ -13,17 +13,19 @@ use chpw_table::Opened;
 use krb_msgs::ApOpened;
 use krb_protocol::{TICKET_INITIAL, TICKET_INVALID};
 use std::alloc::{AllocError, Global};
+use std::net::IpAddr;
 
-/// The request of an AP-REQ and the KRB-PRIV after it.
+/// The request of an AP-REQ and the KRB-PRIV after it, which were sent to this address.
 pub(crate) fn incoming_of(
     alloc: Global,
+    local: IpAddr,
     opened: ApOpened,
     content: Content,
 ) -> Result<Incoming, AllocError>
     ensures value { IfOk result (λ i. (c : requests.Content) (stamp : Option ℤ)
-        → IsHeld c stamp content → IsIncoming (request_of opened stamp c) i) }
+        → IsHeld c stamp content → IsIncoming (request_of local opened stamp c) i) }
 {
-    let seal = seal_of(&opened);
+    let seal = seal_of(local, &opened);
     let Content {
         body,
         password,
@@ -48,14 +50,15 @@ pub(crate) fn incoming_of(
     })
 }
 
-/// The keys and times that the reply is made with.
-fn seal_of(opened: &ApOpened) -> Seal
-    ensures value { result ≡ seal_of opened.now }
+/// The keys, the times and the address that the reply is made with.
+fn seal_of(local: IpAddr, opened: &ApOpened) -> Seal
+    ensures value { result ≡ seal_of local opened.now }
 {
     Seal {
         session: opened.session,
         subkey: opened.subkey,
         ctime: opened.ctime.0,
         cusec: opened.cusec.0,
+        address: local,
     }
 }

@@ -1,5 +1,6 @@
 //! The reply of an AP-REP and a KRB-PRIV (RFC 3244 section 2), made with nine random words.
 ghost use Rattle.std.specs.Prelude.{◌≡◌, ◌≤◌, length, IfOk, take, drop};
+ghost use Rattle.krb_msgs.specs.Addresses.{octets_of};
 ghost use Rattle.krb_msgs.specs.Making.{word_bytes};
 ghost use Rattle.chpw_table.specs.Replies.{by_private};
 ghost use Rattle.chpw_serve.specs.Holding.{IsReplyTime};
@@ -11,6 +12,7 @@ use chpw_serve::Seal;
 use krb_der::{EncApRepPart, EncKrbPrivPart, KerberosTime, Microseconds, SeqNumber};
 use krb_msgs::{make_ap_rep, make_priv, priv_part, word_bytes};
 use std::alloc::{AllocError, Global};
+use std::net::IpAddr;
 
 /// The confounder made of the first four words.
 fn front_confounder(words: [u32; 9]) -> [u8; 16]
@@ -55,17 +57,19 @@ fn ap_rep(alloc: Global, seal: &Seal, words: [u32; 9]) -> Result<Vec<u8>, AllocE
     make_ap_rep(alloc, &part, &seal.session, front_confounder(words))
 }
 
-/// The sealed part of the KRB-PRIV.
+/// The sealed part of the KRB-PRIV, from this address.
 fn private_part(
     alloc: Global,
+    from: IpAddr,
     code: u16,
     text: &str,
     words: [u32; 9],
 ) -> Result<EncKrbPrivPart, AllocError>
-    ensures value { IfOk result (λ p. p ≡ priv_part_of (by_private code text.now) words) }
+    ensures value { IfOk result (λ p. p ≡ priv_part_of from (by_private code text.now) words) }
+    ensures address { IfOk result (λ p. length (octets_of from) ≤ 16) }
 {
     let user_data = user_data(alloc, code, text)?;
-    priv_part(alloc, user_data, seq_number(words))
+    priv_part(alloc, from, user_data, seq_number(words))
 }
 
 /// The KRB-PRIV, sealed under the subkey.
@@ -81,7 +85,7 @@ fn krb_priv(
         ≡ priv_text seal.now (by_private code text.now) words) }
     ensures short { IfOk result (λ v. length v.items ≤ 1000) }
 {
-    let part = private_part(alloc, code, text, words)?;
+    let part = private_part(alloc, seal.address, code, text, words)?;
     make_priv(alloc, &part, &seal.subkey, back_confounder(words))
 }
 

@@ -12,6 +12,7 @@ use crate::opening::open_under;
 use crate::private_reply::private_reply;
 use crate::replies::error_reply;
 use crate::versions::{Acceptance, Versions};
+use chpw_endpoints::Endpoints;
 use chpw_rules::{Config, Items, ServiceRow};
 use chpw_serve::{Messages, OpenResult, Seal};
 use chpw_table::Moment;
@@ -131,7 +132,7 @@ impl Messages for Service {
     ghost use Rattle.chpw_messages.specs.Versions.{OpensUnder};
     ghost use Rattle.chpw_messages.specs.Replies.{error_frame as krb_error_reply, private_frame as krb_priv_reply};
 
-    ghost opens = { λ s peer bytes o. OpensUnder s.accepts s.realm s.keys peer bytes o };
+    ghost opens = { λ s ends bytes o. OpensUnder s.accepts s.realm s.keys ends bytes o };
 
     ghost error_frame = { λ s a now. krb_error_reply s.realm a now };
 
@@ -143,13 +144,18 @@ impl Messages for Service {
         self.realm.as_slice()
     }
 
-    fn open(&self, alloc: Global, peer: [u8; 4], message: &[u8]) -> Result<OpenResult, AllocError> {
+    fn open(
+        &self,
+        alloc: Global,
+        ends: Endpoints,
+        message: &[u8],
+    ) -> Result<OpenResult, AllocError> {
         open_under(
             alloc,
             self.accepts,
             self.realm.as_slice(),
             &self.keys,
-            peer,
+            ends,
             message,
         )
     }

@@ -146,6 +146,23 @@ impl<K: Drop> KeyTree<K> {
         }
     }
 
+    /// The key at a place in their order, from 0; none from their number on.
+    pub fn get(&self, place: usize) -> Option<&K>
+        ensures value { option_copied result ≡ slice_get self.now place }
+    {
+        let Some(fork) = &self.root else {
+            return None;
+        };
+        let before = fork.left.len();
+        if place < before {
+            fork.left.get(place)
+        } else if place == before {
+            Some(&fork.key)
+        } else {
+            fork.right.get(place - before - 1)
+        }
+    }
+
     /// Takes the first key out.
     pub fn pop_first(&mut self) -> Option<K>
         requires few { length self.old < 2 ^ 32 }

@@ -1,10 +1,12 @@
 -- Answers to orders at the control socket: their lines.
-use Rattle.std.specs.Prelude.{◌≡◌, ◌⊎◌, ℕ, List, [], ◌∷◌, ◌++◌, map, codes, string_bytes, Result, Ok, Err}
+use Rattle.std.specs.Prelude.{◌≡◌, ◌⊎◌, ℕ, List, [], ◌∷◌, ◌++◌, map, codes, string_bytes, Option, Some, None, Result, Ok, Err}
 use Rattle.chpw_control.specs.Answers.{lines_text, ok_line, error_line}
 use Rattle.chpw_printing.specs.Quoting.{name_text}
 use Rattle.chpw_reload.specs.Reasons.{fault_text}
 use Rattle.chpw_rules.specs.declared.name.Name.{Name}
 use Rattle.chpw_start.specs.Faults.{line_of}
+use Rattle.chpw_warnings.specs.declared.warning.Warning.{Warning}
+use Rattle.chpw_warnings.specs.Lines.{warning_text}
 use Rattle.chpw_start.specs.Modes.{words_of}
 use Rattle.chpw_orders.specs.declared.compacting.CompactFault.{CompactFault}
 use Rattle.chpw_orders.specs.declared.compacting.CompactFault.TheVariants as compaction
@@ -25,19 +27,27 @@ done_lines = ok_line ∷ []
 abbrev pub refused_lines : List ℕ → List (List ℕ)
 refused_lines words = error_line words ∷ []
 
--- a reload: a line for each principal that the configuration lacks, and `ok`
+-- a reload: a line for each warning about the configuration and for each principal that it lacks, and `ok`
+abbrev pub warning_line : Warning → List ℕ
+warning_line warning = codes "warning: " ++ warning_text warning
+
 abbrev pub lacked_line : Name → List ℕ
 lacked_line name = codes "lacked " ++ name_text name
 
-abbrev pub reloaded_lines : List Name → List (List ℕ)
-reloaded_lines lacked = map lacked_line lacked ++ done_lines
+abbrev pub reloaded_lines : List Warning → List Name → List (List ℕ)
+reloaded_lines warnings lacked = map warning_line warnings ++ map lacked_line lacked ++ done_lines
+
+-- what a journal says at its fault, behind that
+abbrev pub told_text : Option (List ℕ) → List ℕ
+told_text None = []
+told_text (Some words) = codes ": " ++ words
 
 -- why a configuration can't be reloaded: a file's fault as the service prints it, the words of `check`, or a reload's
 -- fault
 abbrev pub prepare_words : PrepareFault → List ℕ
 prepare_words (reload.Start fault) = line_of fault
 prepare_words (reload.Config words) = string_bytes words
-prepare_words (reload.Reload fault) = fault_text fault
+prepare_words (reload.Reload fault told) = fault_text fault ++ told_text told
 
 abbrev pub unwritten : List ℕ → List ℕ
 unwritten path = codes "cannot write " ++ path
@@ -51,7 +61,7 @@ changed_words = codes "the configuration has changed: reload it first"
 
 -- why there is no compact journal: before the desk is closed, and after that, of the journal at this path
 abbrev pub compact_words : CompactFault → List ℕ
-compact_words (compaction.Unread fault) = line_of fault
+compact_words (compaction.Unread fault told) = line_of fault ++ told_text told
 compact_words compaction.Changed = changed_words
 compact_words (compaction.NoCopy copy) = unwritten copy
 

@@ -1,9 +1,10 @@
 //! Answers to orders.
-ghost use Rattle.std.specs.Prelude.{◌≡◌, ◌++◌, ◌∷◌, [], IfOk, IfErr, OnOk, OnErr};
+ghost use Rattle.std.specs.Prelude.{◌≡◌, ◌++◌, ◌∷◌, [], codes, map, IfOk, IfErr, OnOk, OnErr};
+ghost use Rattle.std.specs.Option.{option_copied};
 ghost use Rattle.chpw_control.specs.Answers.{lines_text};
 ghost use Rattle.chpw_reload.specs.Reasons.{fault_text};
 ghost use Rattle.chpw_orders.specs.Answers.{compact_words, done_lines, exposed_words, lacked_line, prepare_words};
-ghost use Rattle.chpw_orders.specs.Answers.{refused_lines, reloaded_lines, replaced_lines, unwritten};
+ghost use Rattle.chpw_orders.specs.Answers.{refused_lines, reloaded_lines, replaced_lines, told_text, unwritten, warning_line};
 ghost use Rattle.chpw_start.specs.Faults.{line_of};
 
 use crate::compacting::CompactFault;
@@ -12,8 +13,9 @@ use crate::rereading::PrepareFault;
 use chpw_control::put_ok;
 use chpw_printing::{put_name, put_words};
 use chpw_reload::{ReloadFault, put_fault};
-use chpw_rules::Name;
+use chpw_rules::{Items, Name};
 use chpw_start::{Exposure, ServeFault};
+use chpw_warnings::{Warning, put_warning};
 use std::alloc::{AllocError, Global};
 
 /// Why no compact journal is made while the configuration's file isn't the one in force.
@@ -26,7 +28,7 @@ pub fn prepare_refusal(alloc: Global, fault: &PrepareFault<'_>) -> Result<Vec<u8
     match fault {
         PrepareFault::Start(fault) => refusal(alloc, fault.to_string(alloc)?.as_str()),
         PrepareFault::Config(words) => refusal(alloc, words.as_str()),
-        PrepareFault::Reload(fault) => reload_refusal(alloc, fault),
+        PrepareFault::Reload(fault, told) => told_refusal(alloc, fault, told.as_ref()),
     }
 }
 
@@ -39,16 +41,101 @@ pub fn reload_refusal(alloc: Global, fault: &ReloadFault) -> Result<Vec<u8>, All
     refusal_in(alloc, words.as_slice())
 }
 
-/// The answer to a reload: a line for each principal that the configuration lacks, and `ok`.
-pub fn reload_answer(alloc: Global, lacked: &[Name]) -> Result<Vec<u8>, AllocError>
-    ensures value { IfOk result (λ text. text.items ≡ lines_text (reloaded_lines lacked.now)) }
+// The answer to a reload that was refused, with what the journal says there.
+fn told_refusal(
+    alloc: Global,
+    fault: &ReloadFault,
+    told: Option<&Items<u8>>,
+) -> Result<Vec<u8>, AllocError>
+    ensures value { IfOk result (λ text. text.items
+        ≡ lines_text (refused_lines (fault_text fault.now ++ told_text (option_copied told.entry)))) }
+{
+    let mut words = Vec::new(alloc);
+    put_fault(&mut words, fault)?;
+    put_told(&mut words, told)?;
+    refusal_in(alloc, words.as_slice())
+}
+
+// The answer where a file can't be read, or the journal has a fault, with what it says there.
+fn unread_refusal(
+    alloc: Global,
+    fault: &ServeFault<'_>,
+    told: Option<&Items<u8>>,
+) -> Result<Vec<u8>, AllocError>
+    ensures value { IfOk result (λ text. text.items
+        ≡ lines_text (refused_lines (line_of fault.now ++ told_text (option_copied told.entry)))) }
+{
+    let mut words = Vec::from_slice(alloc, fault.to_string(alloc)?.as_bytes())?;
+    put_told(&mut words, told)?;
+    refusal_in(alloc, words.as_slice())
+}
+
+// Adds what a journal says at its fault, behind that.
+fn put_told(text: &mut Vec<u8>, told: Option<&Items<u8>>) -> Result<(), AllocError>
+    ensures value { OnOk result (text.new.items ≡ text.old.items ++ told_text (option_copied told.entry)) }
+{
+    match told {
+        None => Ok(()),
+        Some(words) => put_behind(text, words.as_slice()),
+    }
+}
+
+fn put_behind(text: &mut Vec<u8>, words: &[u8]) -> Result<(), AllocError>
+    ensures value { OnOk result (text.new.items ≡ text.old.items ++ (codes ": " ++ words.now)) }
+{
+    text.extend_from_slice(b": ")?;
+    text.extend_from_slice(words)
+}
+
+/// The answer to a reload: a line for each warning about the configuration, one for each principal that it lacks, and
+/// `ok`.
+pub fn reload_answer(
+    alloc: Global,
+    warnings: &[Warning],
+    lacked: &[Name],
+) -> Result<Vec<u8>, AllocError>
+    ensures value { IfOk result (λ text. text.items ≡ lines_text (reloaded_lines warnings.now lacked.now)) }
 {
     let mut text = Vec::new(alloc);
-    for name in lacked {
-        put_lacked(&mut text, name)?;
-    }
+    put_warnings(&mut text, warnings)?;
+    put_all_lacked(&mut text, lacked)?;
     put_ok(&mut text)?;
     Ok(text)
+}
+
+// A line for each warning.
+fn put_warnings(text: &mut Vec<u8>, warnings: &[Warning]) -> Result<(), AllocError>
+    ensures value { OnOk result (text.new.items
+        ≡ text.old.items ++ lines_text (map warning_line warnings.now)) }
+{
+    let mut others = warnings;
+    while let [warning, rest @ ..] = others {
+        put_warning_line(text, warning)?;
+        others = rest;
+    }
+    Ok(())
+}
+
+// A line for each principal that is lacked.
+fn put_all_lacked(text: &mut Vec<u8>, lacked: &[Name]) -> Result<(), AllocError>
+    ensures value { OnOk result (text.new.items
+        ≡ text.old.items ++ lines_text (map lacked_line lacked.now)) }
+{
+    let mut others = lacked;
+    while let [name, rest @ ..] = others {
+        put_lacked(text, name)?;
+        others = rest;
+    }
+    Ok(())
+}
+
+fn put_warning_line(text: &mut Vec<u8>, warning: &Warning) -> Result<(), AllocError>
+    ensures value { OnOk result (text.new.items ≡ text.old.items ++ lines_text (warning_line warning.now ∷ [])) }
+{
+    text.extend_from_slice(b"warning: ")?;
+    put_warning(text, warning)?;
+    text.push(b'\n')?;
+    Ok(())
 }
 
 fn put_lacked(text: &mut Vec<u8>, name: &Name) -> Result<(), AllocError>
@@ -98,7 +185,7 @@ pub fn compact_refusal(alloc: Global, fault: &CompactFault<'_>) -> Result<Vec<u8
     ensures value { IfOk result (λ text. text.items ≡ lines_text (refused_lines (compact_words fault.now))) }
 {
     match fault {
-        CompactFault::Unread(fault) => refusal(alloc, fault.to_string(alloc)?.as_str()),
+        CompactFault::Unread(fault, told) => unread_refusal(alloc, fault, told.as_ref()),
         CompactFault::Changed => refusal(alloc, CHANGED),
         CompactFault::NoCopy(copy) => write_refusal(alloc, copy.as_str()),
     }

@@ -7,6 +7,7 @@ mod checked_reload;
 mod compacting;
 mod replacing;
 mod rereading;
+mod telling;
 
 pub use answers::{
     answer_or_empty, compact_answer, compact_refusal, exposed_refusal, prepare_refusal, refusal,

@@ -1,9 +1,9 @@
 //! What replaces a journal, and where the sink goes on then.
-ghost use Rattle.std.specs.Prelude.{◌≡◌, ◌≤◌, ◌<◌, List, ℕ, Ok, Err, OnOk, IfOk, IfErr, IfNone, IfSome};
+ghost use Rattle.std.specs.Prelude.{◌≡◌, ◌≤◌, ◌<◌, ◌++◌, List, ℕ, Ok, Err, OnOk, IfOk, IfErr, IfNone, IfSome};
 ghost use Rattle.std.specs.Prelude.{false, not, if◌then◌else◌, length};
 ghost use Rattle.chpw_journal.specs.Compact.{AreWholeRecords, compacted};
 ghost use Rattle.chpw_reload.specs.Compacting.{GoesWith};
-ghost use Rattle.chpw_orders.specs.Replacing.{IsNoText, compact_text};
+ghost use Rattle.chpw_orders.specs.Replacing.{IsNoText, text_behind};
 ghost use Rattle.chpw_orders.specs.declared.replacing.NotReplaced.TheVariants.{NoGain, Unsafe};
 
 use chpw_journal::{FileSink, Replacement, compact_journal, replace_journal};
@@ -55,24 +55,26 @@ impl<R: Files<File = File> + AllocGlobal> JournalPlace for JournalAt<'_, R> {
 }
 
 /// The text of the journal that replaces the present one of this many bytes: a compact one, unless an append to that has
-/// failed, the base doesn't go with the held table, or it would be no shorter.
+/// failed, the base doesn't go with the held table, or it would be no shorter. It begins with the heading that the present
+/// one has.
 pub fn text_to_write(
     alloc: Global,
     has_failed: bool,
     present: u64,
+    heading: &[u8],
     base: &Table,
     held: &Table,
 ) -> Result<Vec<u8>, NotReplaced>
-    ensures text { IfOk result (λ text. text.items ≡ compact_text base.now.state held.now.state) }
+    ensures text { IfOk result (λ text. text.items ≡ text_behind heading.now base.now.state held.now.state) }
     ensures goes_with { OnOk result (GoesWith base.now.state held.now.state) }
     ensures good { OnOk result (has_failed ≡ false) }
     ensures shorter { IfOk result (λ text. length text.items < present) }
-    ensures why { IfErr result (IsNoText has_failed present base.now.state held.now.state) }
+    ensures why { IfErr result (IsNoText has_failed present heading.now base.now.state held.now.state) }
 {
     if has_failed {
         return Err(NotReplaced::Failed);
     }
-    match compact_text(alloc, base, held) {
+    match compact_text(alloc, heading, base, held) {
         Ok(Some(text)) => shorter_text(text, present),
         Ok(None) => Err(NotReplaced::Changed),
         Err(_) => Err(NotReplaced::Memory),
@@ -111,15 +113,30 @@ pub fn go_on_in(
     }
 }
 
-// The text of a compact journal for the held table, if the base goes with it.
-fn compact_text(alloc: Global, base: &Table, held: &Table) -> Result<Option<Vec<u8>>, AllocError>
+// The text of a compact journal with this heading for the held table, if the base goes with it.
+fn compact_text(
+    alloc: Global,
+    heading: &[u8],
+    base: &Table,
+    held: &Table,
+) -> Result<Option<Vec<u8>>, AllocError>
     ensures text { IfOk result (λ found. IfSome found (λ text. GoesWith base.now.state held.now.state
-        × (text.items ≡ compact_text base.now.state held.now.state))) }
+        × (text.items ≡ text_behind heading.now base.now.state held.now.state))) }
     ensures whole { IfOk result (λ found. IfSome found (λ _. AreWholeRecords (compacted base.now.state held.now.state))) }
     ensures none { IfOk result (λ found. IfNone found (GoesWith base.now.state held.now.state → ⊥)) }
 {
     if !goes_with(base, held) {
         return Ok(None);
     }
-    Ok(Some(compact_journal(alloc, base, held)?))
+    let records = compact_journal(alloc, base, held)?;
+    Ok(Some(behind(alloc, heading, &records)?))
+}
+
+// A heading, and the text behind it.
+fn behind(alloc: Global, heading: &[u8], text: &[u8]) -> Result<Vec<u8>, AllocError>
+    ensures value { IfOk result (λ whole. whole.items ≡ heading.now ++ text.now) }
+{
+    let mut whole = Vec::from_slice(alloc, heading)?;
+    whole.extend_from_slice(text)?;
+    Ok(whole)
 }

@@ -1,18 +1,21 @@
 //! A configuration that is read anew while the service runs.
-ghost use Rattle.std.specs.Prelude.{◌≡◌, IfErr, IfOk, Ok, true};
+ghost use Rattle.std.specs.Prelude.{◌≡◌, IfErr, IfOk, IfSome, Ok, true};
 ghost use Rattle.chpw_rules.specs.Fitting.{config_fits};
 ghost use Rattle.chpw_start.specs.Faults.{IsUnread, Sets, SetsNames};
-ghost use Rattle.chpw_orders.specs.Rereading.{IsNotReadAnew, IsOfText, IsReadAnew, IsUnset};
+ghost use Rattle.chpw_orders.specs.Rereading.{IsNotReadAnew, IsOfText, IsReadAnew, IsToldOf, IsUnset, reload_warnings, settings_in};
 
 use crate::checked_reload::CheckedReload;
+use crate::telling::told_of;
 use chpw_config::explain;
 use chpw_invocation::ServeOptions;
-use chpw_reload::{ReloadFault, prepare};
-use chpw_rules::{Config, NamePatterns};
+use chpw_reload::{PreparedReload, ReloadFault, prepare};
+use chpw_rules::{Config, Items, Name, NamePatterns};
 use chpw_start::{
     Rules, ServeFault, configuration_text, kdc_names, open_file, rules_of, settings, unread_fault,
 };
-use std::alloc::Global;
+use chpw_table::Table;
+use chpw_warnings::{PrincipalNames, Warning, put_rule_warnings, setting_warnings};
+use std::alloc::{AllocError, Global};
 use std::fs::{File, Files};
 use std::io::{Seek, SeekFrom};
 use std::str;
@@ -25,6 +28,8 @@ pub struct PendingReload {
     pub rest: File,
     pub rules: Rules,
     pub names: NamePatterns,
+    /// What the configuration may not mean.
+    pub warnings: Vec<Warning>,
 }
 
 /// Why a configuration can't be reloaded.
@@ -34,8 +39,8 @@ pub enum PrepareFault<'a> {
     Start(ServeFault<'a>),
     /// The configuration has a fault, in the words of `check`.
     Config(String),
-    /// The journal can't be replayed over it.
-    Reload(ReloadFault),
+    /// The journal can't be replayed over it; and what the journal says there, if more can be told.
+    Reload(ReloadFault, Option<Items<u8>>),
 }
 
 /// The configuration read again, with the journal so far replayed. Refused if a file can't be read, the configuration has a
@@ -61,18 +66,87 @@ pub fn read_anew<'a, R: Files<File = File> + AllocGlobal>(
     };
     let renewal = match prepare(rt.alloc(), config, journal) {
         Ok(renewal) => renewal,
-        Err(fault) => return Err(PrepareFault::Reload(fault)),
+        Err(fault) => {
+            let told = told_at(rt, &rules.text, options.journal, &fault);
+            return Err(PrepareFault::Reload(fault, told));
+        }
     };
     let rest = match rest_of(rt, options.journal, renewal.kept) {
         Ok(rest) => rest,
         Err(fault) => return Err(PrepareFault::Start(fault)),
+    };
+    let Ok(warnings) = warnings_of(rt.alloc(), rules.text.as_slice(), &renewal) else {
+        return Err(PrepareFault::Start(ServeFault::Memory));
     };
     Ok(PendingReload {
         renewed: CheckedReload::of(renewal),
         rest,
         rules,
         names,
+        warnings,
     })
+}
+
+// What the journal at a path says where it can't be replayed over the configuration with this text, if more can be told.
+fn told_at<R: Files<File = File> + AllocGlobal>(
+    rt: &R,
+    text: &[u8],
+    journal: &str,
+    fault: &ReloadFault,
+) -> Option<Items<u8>>
+    ensures told { IfSome result (λ words. IsToldOf text.now fault.now words) }
+{
+    match fault {
+        ReloadFault::Journal(fault) => told_of(rt, text, journal, *fault),
+        _ => None,
+    }
+}
+
+// The warnings of a configuration with this text, where the principals are those of the configuration and the journal.
+fn warnings_of(
+    alloc: Global,
+    text: &[u8],
+    renewal: &PreparedReload,
+) -> Result<Vec<Warning>, AllocError>
+    ensures value { IfOk result (λ warnings. warnings.items
+        ≡ reload_warnings text.now renewal.now.settings renewal.now.table.state) }
+{
+    let mut warnings = settings_of(alloc, text)?;
+    let names = TableNames {
+        table: &renewal.table,
+    };
+    put_rule_warnings(
+        &mut warnings,
+        &names,
+        renewal.settings.rules.list.as_slice(),
+    )?;
+    Ok(warnings)
+}
+
+// The settings that nothing reads; bytes that aren't UTF-8 have none.
+fn settings_of(alloc: Global, text: &[u8]) -> Result<Vec<Warning>, AllocError>
+    ensures value { IfOk result (λ warnings. warnings.items ≡ settings_in text.now) }
+{
+    match str::from_utf8(text) {
+        Ok(text) => setting_warnings(alloc, text),
+        Err(_) => Ok(Vec::new(alloc)),
+    }
+}
+
+// The names of a table.
+#[derive(Clone, Copy, Drop)]
+struct TableNames<'t> {
+    table: &'t Table,
+}
+
+impl PrincipalNames for TableNames<'_> {
+    ghost use Rattle.chpw_orders.specs.Rereading.{is_held};
+
+    ghost has = { λ n. is_held n.table.now.state };
+
+    fn has(&self, name: &Name) -> bool {
+        self.table.number_of(name).is_some()
+    }
 }
 
 // The configuration of a text, and which of the KDC's names it says are the service's.

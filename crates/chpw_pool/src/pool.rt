@@ -19,7 +19,7 @@ use std::net::{Net, OpenListener, TcpListener, TcpStream};
 use std::os::fd::AsRawFd;
 use std::sync::Wait;
 use std::thread::{Scope, Threads};
-use std::{thread, time};
+use std::{slice, thread, time};
 
 /// A worker of a pool: its place at the engine, its gate, the machine's clock, and its words.
 type PoolWorker<'a, R, T, G> = Worker<Seat<'a, R>, G, MachineClock<'a, T>, WorkerWords>;
@@ -60,7 +60,8 @@ pub fn run_pool<
     ensures ends { Ends (limit.Of connections) result }
 {
     let terms = PoolOptions::usual(seed, connections);
-    run_pool_by(rt, alloc, rt, listener, service, desk, passes, terms)
+    let listeners = slice::from_ref(listener);
+    run_pool_by(rt, alloc, rt, listeners, service, desk, passes, terms)
 }
 
 /// `run_pool` with a gate for each worker, which is its observer too.
@@ -92,10 +93,10 @@ pub fn run_pool_with<
         desk,
     };
     let terms = PoolOptions::usual(seed, connections);
-    run_gated(rt, &shared, listener, passes, terms, gates)
+    run_gated(rt, &shared, slice::from_ref(listener), passes, terms, gates)
 }
 
-/// `run_pool` with any clock, listener and bounds.
+/// `run_pool` with any clock, listeners and bounds.
 pub fn run_pool_by<
     R: Threads + Wait + Net + time::Clock + Sync,
     T: time::Clock + Sync,
@@ -107,7 +108,7 @@ pub fn run_pool_by<
     rt: &R,
     alloc: Global,
     time: &T,
-    listener: &L,
+    listeners: &[L],
     service: &M,
     desk: &Desk<D, S>,
     passes: &mut [Pass<D>],
@@ -124,7 +125,7 @@ pub fn run_pool_by<
     };
     match no_gates(alloc, passes.len()) {
         Err(_) => failed_pool(PoolFault::Memory, terms.connections),
-        Ok(gates) => run_gated(rt, &shared, listener, passes, terms, gates),
+        Ok(gates) => run_gated(rt, &shared, listeners, passes, terms, gates),
     }
 }
 
@@ -162,7 +163,7 @@ fn run_gated<
 >(
     rt: &'a R,
     shared: &'a Shared<'a, T, M, D, S>,
-    listener: &'a L,
+    listeners: &'a [L],
     passes: &mut [Pass<D>],
     terms: PoolOptions,
     gates: Vec<G>,
@@ -182,7 +183,7 @@ fn run_gated<
     let reacting = Reacting {
         rt: &*rt,
         engine: &engine,
-        listener: &*listener,
+        listeners: &*listeners,
         connections,
     };
     let context = Context {
@@ -201,12 +202,12 @@ fn run_gated<
     }
 }
 
-// The reactor, for this many connections of a listener, without a KDC.
+// The reactor, for this many connections of its listeners, without a KDC.
 #[derive(Drop)]
 struct Reacting<'a, R, L> {
     rt: &'a R,
     engine: &'a Engine,
-    listener: &'a L,
+    listeners: &'a [L],
     connections: AcceptLimit,
 }
 
@@ -216,7 +217,7 @@ impl<R: Wait + Net + time::Clock, L: OpenListener<Stream = TcpStream> + AsRawFd>
 
     fn run(self) {
         self.engine
-            .react(self.rt, self.listener, self.connections, NoKdc);
+            .react(self.rt, self.listeners, self.connections, NoKdc);
     }
 }
 

@@ -9,11 +9,11 @@ use crate::client::ask;
 use crate::control::send_command;
 use crate::ending::Ending;
 use crate::new_password::unread_ending;
-use chpw_commands::{DrillFault, explain_check, run_check, run_drill};
+use chpw_commands::{DrillFault, explain_check, run_check, run_drill, warn_check};
 use chpw_import::{KeysFault, tell_kdc, tell_keytab, tell_password};
 use chpw_invocation::{Invocation, command_of};
 use chpw_service::serve;
-use chpw_start::{ServeFault, read_configuration, tell_table};
+use chpw_start::{ServeFault, make_journal, read_configuration, tell_table};
 use clap::Error;
 use clap::error::ErrorKind;
 use std::alloc::Global;
@@ -40,16 +40,18 @@ where
         + Eprint
         + AllocGlobal
         + Sync,
+    R::Dir: Send + Sync,
     ensures runs { IsRunBy R (map string_bytes words.entry.now) result }
 {
     match command_of(rt.alloc(), words) {
         Err(error) => explain_misuse(errors, error),
         Ok(Invocation::Drill) => drill(rt),
-        Ok(Invocation::Check { config }) => check(rt, config),
+        Ok(Invocation::Check { config }) => check(rt, errors, config),
         Ok(Invocation::Table(options)) => ending_of_service(tell_table(rt, options)),
         Ok(Invocation::Import(options)) => ending_of_keys(tell_keytab(rt, options)),
         Ok(Invocation::ImportKdc(options)) => ending_of_keys(tell_kdc(rt, options)),
         Ok(Invocation::Key(options)) => ending_of_keys(tell_password(rt, options)),
+        Ok(Invocation::NewJournal(options)) => ending_of_service(make_journal(rt, options)),
         Ok(Invocation::Serve(options)) => ending_of_service(serve(rt, options)),
         Ok(Invocation::Control(options)) => send_command(rt, options),
         Ok(Invocation::Client(options)) => ask(rt, errors, options),
@@ -68,7 +70,7 @@ pub fn explain_misuse<'a, W: Write>(errors: &mut W, error: Error) -> Ending<'a>
     Ending::Misused
 }
 
-// The ending of the service, or of the table.
+// The ending of the service, of the table, or of a new journal.
 fn ending_of_service(ended: Result<(), ServeFault<'_>>) -> Ending<'_>
     ensures value { result ≡ ending_served ended.entry }
 {
@@ -105,12 +107,45 @@ fn ending_of_drill<'a>(ended: Result<(), DrillFault>) -> Ending<'a>
 
 // The configuration in a file.
 #[tactic(auto, using(crate::proofs::CheckLemmas::has_checked, crate::proofs::CheckLemmas::has_unread))]
-fn check<'a>(rt: &(impl Files<File = File> + Print + AllocGlobal), file: &'a str) -> Ending<'a>
+fn check<'a, W: Write>(
+    rt: &(impl Files<File = File> + Print + AllocGlobal),
+    errors: &mut W,
+    file: &'a str,
+) -> Ending<'a>
     ensures checked { HasChecked file.now result }
 {
     match read_configuration(rt, file) {
-        Ok(text) => print_check(rt.alloc(), file, text.as_slice(), &mut io::writer(rt)),
+        Ok(text) => check_text(
+            rt.alloc(),
+            file,
+            text.as_slice(),
+            &mut io::writer(rt),
+            errors,
+        ),
         Err(error) => unread_ending(file, &error),
+    }
+}
+
+// Writes the line about the configuration with this text, and its warnings, which change no ending.
+fn check_text<'a, W: Write, E: Write>(
+    alloc: Global,
+    file: &'a str,
+    text: &[u8],
+    out: &mut W,
+    errors: &mut E,
+) -> Ending<'a>
+    ensures checked { IsChecked file.now text.now result }
+    ensures printed { PrintsCheck text.now result (W.contents out.old) (W.contents out.new) }
+{
+    let ending = print_check(alloc, file, text, out);
+    warn(alloc, file, text, errors);
+    ending
+}
+
+// Writes the warnings about the configuration with this text. If there is no memory for them a line says so.
+fn warn<E: Write>(alloc: Global, file: &str, text: &[u8], errors: &mut E) {
+    if let Err(DrillFault::Memory) = warn_check(alloc, file, text, errors) {
+        let _ = writeln!(errors, "{file}: memory: warnings are left out");
     }
 }
 

@@ -8,6 +8,7 @@ mod commands;
 mod control;
 mod descriptors;
 mod ending;
+mod journal_reason;
 mod new_password;
 mod patience;
 mod reasons;

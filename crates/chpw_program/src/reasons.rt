@@ -1,18 +1,19 @@
 //! Why a file can't be read, or a port not be listened at, as far as that can be seen: a second line after the fault's.
 ghost use Rattle.std.specs.Prelude.{◌≡◌, ◌≢◌, None, Some, if◌then◌else◌, nat_lt};
+ghost use Rattle.std.specs.Net.Socket.{socket_port};
 ghost use Rattle.chpw_program.specs.Reasons.{cause_of, is_privileged, named_by, of_type, of_unread};
 
 use crate::ending::Ending;
 use crate::new_password::STANDARD_INPUT;
 use chpw_commands::explain_check;
 use chpw_import::KeysFault;
-use chpw_invocation::{Invocation, command_of};
+use chpw_invocation::{Invocation, ListenAddresses, command_of};
 use chpw_start::{LONGEST_CONFIGURATION, ServeFault, read_configuration};
 use std::alloc::Global;
 use std::fmt;
 use std::fs::{self, File, Files};
 use std::io::ErrorKind;
-use std::net::{Ipv4Addr, Net, TcpListener, TcpStream};
+use std::net::{IpAddr, Net, SocketAddr, TcpListener, TcpStream, UdpSocket};
 
 /// How many bytes a seed has.
 const SEED: u64 = 32;
@@ -41,8 +42,10 @@ pub enum Reason<'a> {
     Held(&'a str),
     /// The configuration has this fault, in words.
     InWords(&'a str, String),
-    /// Another socket has the port.
-    InUse(u16),
+    /// Another socket has the port at this address.
+    InUse(SocketAddr),
+    /// The address is of no interface of this host.
+    NoAddress(SocketAddr),
     /// The port is one of those that require a privilege.
     Privileged(u16),
 }
@@ -64,7 +67,8 @@ impl fmt::Display for Reason<'_> {
             Reason::Long(file) => write!(f, "{file}: longer than 64 MiB"),
             Reason::Held(file) => write!(f, "{file}: in use by another process"),
             Reason::InWords(file, words) => write!(f, "{file}: {}", words.as_str()),
-            Reason::InUse(port) => write!(f, "port {port}: in use"),
+            Reason::InUse(place) => write!(f, "{place}: in use"),
+            Reason::NoAddress(place) => write!(f, "{place}: no such address on this host"),
             Reason::Privileged(port) => {
                 write!(f, "port {port}: ports below 1024 require a privilege")
             }
@@ -77,7 +81,9 @@ impl fmt::Display for Reason<'_> {
 struct Named<'a> {
     config: Option<&'a str>,
     seed: Option<&'a str>,
-    journal: Option<&'a str>,
+    // The file that the command locks, so that another process may hold it: the journal of `serve`.
+    locked: Option<&'a str>,
+    listen: Option<ListenAddresses>,
     port: u16,
 }
 
@@ -98,31 +104,43 @@ impl<'a> Named<'a> {
             Invocation::Serve(options) => Named {
                 config: Some(options.config),
                 seed: Some(options.seed),
-                journal: Some(options.journal),
+                locked: Some(options.journal),
+                listen: Some(options.listen),
                 port: options.port,
             },
             Invocation::Table(options) => Named {
                 config: Some(options.config),
                 seed: None,
-                journal: Some(options.journal),
+                locked: None,
+                listen: None,
+                port: 0,
+            },
+            Invocation::NewJournal(options) => Named {
+                config: Some(options.config),
+                seed: None,
+                locked: None,
+                listen: None,
                 port: 0,
             },
             Invocation::Client(options) => Named {
                 config: Some(options.config),
                 seed: Some(options.seed),
-                journal: None,
+                locked: None,
+                listen: None,
                 port: 0,
             },
             Invocation::Check { config } => Named {
                 config: Some(config),
                 seed: None,
-                journal: None,
+                locked: None,
+                listen: None,
                 port: 0,
             },
             _ => Named {
                 config: None,
                 seed: None,
-                journal: None,
+                locked: None,
+                listen: None,
                 port: 0,
             },
         }
@@ -138,8 +156,8 @@ enum Cause<'a> {
     Unwritten(&'a str),
     // The configuration in this file has a fault.
     BadConfig(&'a str),
-    // This port couldn't be listened at.
-    Unlistened(u16),
+    // These addresses couldn't be listened at, with this port.
+    Unlistened(ListenAddresses, u16),
 }
 
 /// Why a run with these words ended so, if that can be seen.
@@ -156,7 +174,7 @@ where
         Cause::Unread(file) => of_file(rt, file, &named),
         Cause::Unwritten(file) => unwritable(rt, file),
         Cause::BadConfig(file) => in_words(rt, file),
-        Cause::Unlistened(port) => of_port(rt, port),
+        Cause::Unlistened(listen, port) => of_places(rt, listen.as_slice(), port),
     }
 }
 
@@ -170,7 +188,9 @@ fn cause_of<'a>(ending: &Ending<'a>, named: &Named<'a>) -> Option<Cause<'a>>
         Ending::Unserved(ServeFault::CannotRead(file)) => Some(Cause::Unread(file)),
         Ending::Unserved(ServeFault::CannotWrite(file)) => Some(Cause::Unwritten(file)),
         Ending::Unserved(ServeFault::Config(_)) => Some(Cause::BadConfig(named.config?)),
-        Ending::Unserved(ServeFault::CannotListen) => Some(Cause::Unlistened(named.port)),
+        Ending::Unserved(ServeFault::CannotListen) => {
+            Some(Cause::Unlistened(named.listen?, named.port))
+        }
         _ => None,
     }
 }
@@ -222,7 +242,7 @@ fn of_file<'a, R: Files<File = File>>(
         return Some(Reason::Long(path));
     }
     match File::open(rt, path) {
-        Ok(file) if named.journal == Some(path) && file.try_lock().is_err() => {
+        Ok(file) if named.locked == Some(path) && file.try_lock().is_err() => {
             Some(Reason::Held(path))
         }
         Ok(_) => None,
@@ -293,27 +313,46 @@ fn in_words<'a, R: Files<File = File> + AllocGlobal>(rt: &R, path: &'a str) -> O
     Some(Reason::InWords(path, words))
 }
 
-// Why a port can't be listened at.
-fn of_port<'a, R: Net<Listener = TcpListener, Stream = TcpStream>>(
+// Why one of these addresses can't be listened at: the first that can't.
+fn of_places<'a, R: Net<Listener = TcpListener, Stream = TcpStream>>(
     rt: &R,
+    addresses: &[IpAddr],
     port: u16,
 ) -> Option<Reason<'a>> {
-    match TcpListener::bind(rt, (Ipv4Addr::LOCALHOST, port)) {
+    addresses
+        .iter()
+        .find_map(|address| of_place(rt, SocketAddr::new(*address, port)))
+}
+
+// Why an address can't be listened at, over TCP or UDP.
+fn of_place<'a, R: Net<Listener = TcpListener, Stream = TcpStream>>(
+    rt: &R,
+    place: SocketAddr,
+) -> Option<Reason<'a>> {
+    if let Err(error) = TcpListener::bind(rt, place) {
+        return of_bind(place, error.kind());
+    }
+    match UdpSocket::bind(rt, place) {
         Ok(_) => None,
-        Err(error) => of_bind(port, error.kind()),
+        Err(error) => of_bind(place, error.kind()),
     }
 }
 
 // The same, by the error's kind.
-fn of_bind<'a>(port: u16, kind: ErrorKind) -> Option<Reason<'a>>
-    ensures in_use { kind ≡ ErrorKind.AddrInUse → result ≡ Some (Reason.InUse port) }
+fn of_bind<'a>(place: SocketAddr, kind: ErrorKind) -> Option<Reason<'a>>
+    ensures in_use { kind ≡ ErrorKind.AddrInUse → result ≡ Some (Reason.InUse place) }
+    ensures elsewhere { kind ≡ ErrorKind.AddrNotAvailable → result ≡ Some (Reason.NoAddress place) }
     ensures forbidden { kind ≡ ErrorKind.PermissionDenied
-        → result ≡ (if is_privileged port then Some (Reason.Privileged port) else None) }
-    ensures none { kind ≢ ErrorKind.AddrInUse → kind ≢ ErrorKind.PermissionDenied → result ≡ None }
+        → result ≡ (if is_privileged (socket_port place) then Some (Reason.Privileged (socket_port place)) else None) }
+    ensures none { kind ≢ ErrorKind.AddrInUse → kind ≢ ErrorKind.AddrNotAvailable → kind ≢ ErrorKind.PermissionDenied
+        → result ≡ None }
 {
     match kind {
-        ErrorKind::AddrInUse => Some(Reason::InUse(port)),
-        ErrorKind::PermissionDenied if is_privileged(port) => Some(Reason::Privileged(port)),
+        ErrorKind::AddrInUse => Some(Reason::InUse(place)),
+        ErrorKind::AddrNotAvailable => Some(Reason::NoAddress(place)),
+        ErrorKind::PermissionDenied if is_privileged(place.port()) => {
+            Some(Reason::Privileged(place.port()))
+        }
         _ => None,
     }
 }

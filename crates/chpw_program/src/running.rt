@@ -10,6 +10,7 @@ use crate::command_line::words;
 use crate::commands::run;
 use crate::descriptors::{NOTHING, hold_standard};
 use crate::ending::{Ending, tell};
+use crate::journal_reason::journal_reason;
 use crate::reasons::{Reason, reason_of};
 use std::fs::{File, Files};
 use std::io::{self, Write};
@@ -35,6 +36,7 @@ where
         + Eprint
         + AllocGlobal
         + Sync,
+    R::Dir: Send + Sync,
     ensures few { result ≤ 2 }
     ensures runs { result ≡ 0 → (words : List (List ℕ)) × ((ending : Ending) × (status_of ending ≡ 0) × IsRunBy R words ending) }
 {
@@ -45,7 +47,10 @@ where
         Ok(words) => {
             let ending = run(rt, errors, words.as_slice());
             let status = end(errors, &ending);
-            let reason = reason_of(rt, words.as_slice(), &ending);
+            let reason = match journal_reason(rt, words.as_slice(), &ending) {
+                Some(reason) => Some(reason),
+                None => reason_of(rt, words.as_slice(), &ending),
+            };
             explain(errors, &reason, status)
         }
         Err(ending) => end(errors, &ending),

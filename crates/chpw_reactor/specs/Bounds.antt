@@ -8,6 +8,7 @@ use Rattle.chpw_reactor.specs.declared.options.PoolOptions.{PoolOptions}
 abbrev pub bounds_asked : PoolOptions → ConnectionLimits
 bounds_asked t = record {
   connections = t.clients;
+  per_peer = t.clients_per_peer;
   bytes = t.buffers * 1048576;
   idle = t.idle * 1000;
   grace = 1000;

@@ -11,7 +11,7 @@ use crate::outcome::{Pool, outcome_of};
 use crate::tasks::{next_task, note_update};
 use chpw_connections::ConnectionLimits;
 use chpw_control::TakenOrder;
-use chpw_sockets::{DatagramSocket, Hub, PoolFault, Selector};
+use chpw_sockets::{DatagramSockets, Hub, PoolFault, Selector};
 use chpw_transfers::{AcceptLimit, Control, KdcSide};
 use chpw_workers::{Task, WorkerTurn};
 use mio::Waker;
@@ -44,7 +44,7 @@ impl Engine {
         alloc: Global,
         bounds: ConnectionLimits,
         workers: usize,
-        datagrams: Option<DatagramSocket>,
+        datagrams: Option<DatagramSockets>,
         kdc: Option<KdcSide>,
     ) -> Result<Engine, PoolFault>
         requires workers { 0 < workers }

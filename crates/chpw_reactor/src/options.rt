@@ -15,6 +15,8 @@ pub struct PoolOptions {
     pub connections: AcceptLimit,
     /// How many connections are open at a time; at least 1.
     pub clients: u32,
+    /// How many of them may be one peer's; at least 1.
+    pub clients_per_peer: u32,
     /// How many MiB the messages and replies of all connections hold together.
     pub buffers: u16,
     /// For how many seconds a connection may be without a whole message, or its reply unread.
@@ -31,15 +33,16 @@ const GRACE: u64 = 1_000;
 const LINGER: u64 = 1_000;
 
 impl PoolOptions {
-    /// This many connections with the default bounds: 1,024 connections at a time, which hold 32 MiB and are ended
-    /// after 30 seconds.
+    /// This many connections with the default bounds: 1,024 connections at a time, of which 256 may be one peer's, which
+    /// hold 32 MiB and are ended after 30 seconds.
     pub fn usual(seed: [u8; 32], connections: u32) -> PoolOptions
-        ensures value { result ≡ record { seed = seed; connections = limit.Of connections; clients = 1024; buffers = 32; idle = 30 } }
+        ensures value { result ≡ record { seed = seed; connections = limit.Of connections; clients = 1024; clients_per_peer = 256; buffers = 32; idle = 30 } }
     {
         PoolOptions {
             seed,
             connections: AcceptLimit::Of(u64::from(connections)),
             clients: 1_024,
+            clients_per_peer: 256,
             buffers: 32,
             idle: 30,
         }
@@ -51,6 +54,7 @@ impl PoolOptions {
     {
         ConnectionLimits {
             connections: self.clients as usize,
+            per_peer: self.clients_per_peer as usize,
             bytes: usize::from(self.buffers) * 1_048_576,
             idle: u64::from(self.idle) * 1_000,
             grace: GRACE,

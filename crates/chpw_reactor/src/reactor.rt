@@ -1,7 +1,8 @@
-//! The reactor: one thread that has the listener and waits for all sockets, and never for one of them alone. The
+//! The reactor: one thread that has the listeners and waits for all sockets, and never for one of them alone. The
 //! sockets are under the lock that it shares with the workers.
 
-ghost use Rattle.std.specs.Prelude.{◌≡◌, ◌&&◌, ◌||◌, [], is_some, true, false, Some, None};
+ghost use Rattle.std.specs.Prelude.{◌≡◌, ◌&&◌, ◌||◌, [], IfOk, is_some, true, false, Some, None};
+ghost use Rattle.chpw_endpoints.specs.Peers.{IsShareOf};
 ghost use Rattle.chpw_transfers.specs.Accepting.{is_ready};
 ghost use Rattle.chpw_transfers.specs.Bounded.{allows_more};
 ghost use Rattle.chpw_reactor.specs.Reports.{is_control, is_datagrams, is_kdc, reported_at, source_of};
@@ -11,14 +12,16 @@ use crate::engine::{Engine, milliseconds};
 use crate::kdc::KdcTerms;
 use crate::status_reporter::StatusReporter;
 use crate::talking::KdcLink;
+use chpw_endpoints::Peer;
 use chpw_sockets::{STEPS, Selector};
 use chpw_transfers::{
-    AcceptLimit, Entrance, EventSource, LISTENER, Newcomer, Noting, Progress, Shortage,
+    AcceptLimit, Admission, Entrance, EventSource, LISTENER, Newcomer, Noting, Progress, Shortage,
     is_round_due, look_at_noted, slot_at_turn,
 };
 use mio::event::Event;
 use mio::unix::SourceFd;
 use mio::{Events, Interest, Registry};
+use std::io::{self, Error, ErrorKind};
 use std::net::{OpenListener, TcpStream};
 use std::os::fd::AsRawFd;
 use std::sync::{MutexGuard, Wait};
@@ -35,7 +38,10 @@ const BETWEEN: usize = 64;
 pub(crate) struct Reactor<'a, R, L, F> {
     pub rt: &'a R,
     pub engine: &'a Engine,
-    listener: &'a L,
+    listeners: &'a [L],
+    /// The listener that is asked first for the next connection: each in its turn, so that no crowd at one of them keeps
+    /// others out.
+    turn: usize,
     pub link: KdcLink<F>,
     /// How many there may be at a time: the slots are the numbers below.
     pub clients: usize,
@@ -52,7 +58,7 @@ pub(crate) struct Reactor<'a, R, L, F> {
 }
 
 impl Engine {
-    /// Accepts so many connections, or as many as the listener can; reads their messages and passes them to the
+    /// Accepts so many connections, or as many as the listeners can; reads their messages and passes them to the
     /// workers, connection i (from 0) to worker i modulo their number; and writes the replies. It returns once each
     /// connection has ended, or the engine is deserted. Then no message will come any more. Replies to changes wait until
     /// the agent at the KDC's database has confirmed them. It answers questions at the control socket itself; orders are for the
@@ -62,14 +68,15 @@ impl Engine {
         R: Wait + Clock,
         L: OpenListener<Stream = TcpStream> + AsRawFd,
         F: KdcTerms + StatusReporter + Drop,
-    >(&self, rt: &R, listener: &L, connections: AcceptLimit, mut terms: F) {
+    >(&self, rt: &R, listeners: &[L], connections: AcceptLimit, mut terms: F) {
         let clients = self.hub.lock(rt).sockets.by_slot.len();
         let mut selector = self.selector.lock(rt);
         let port = ControlPort::open(terms.listener(), selector.poll.registry());
         let mut reactor = Reactor {
             rt,
             engine: self,
-            listener,
+            listeners,
+            turn: 0,
             link: KdcLink::new(terms),
             clients,
             entrance: Entrance::new(connections),
@@ -92,15 +99,12 @@ impl<
     L: OpenListener<Stream = TcpStream> + AsRawFd,
     F: KdcTerms + StatusReporter + Drop,
 > Reactor<'a, R, L, F> {
-    // Registers the listener.
+    // Registers the listeners.
     fn listen(&mut self, registry: &Registry) {
-        let descriptor = self.listener.as_raw_fd();
-        let is_watched = self.listener.set_nonblocking(true).is_ok()
-            && registry
-                .register(&mut SourceFd(&descriptor), LISTENER, Interest::READABLE)
-                .is_ok();
-        if !is_watched {
-            self.entrance.fail();
+        for listener in self.listeners {
+            if !is_watched(listener, registry) {
+                self.entrance.fail();
+            }
         }
     }
 
@@ -288,41 +292,95 @@ impl<
         }
     }
 
-    // Takes the next connection of the listener, if one has come. If none has, the listener isn't asked again before it
+    // Takes the next connection of the listeners, if one has come. If none has, they aren't asked again before one of them
     // is reported or time has passed.
     fn next(&mut self)
         ensures came { is_some self.new.entrance.pending ≡ false → is_ready self.new.entrance.accepting ≡ false }
         ensures wanted { self.new.entrance.wanted ≡ self.old.entrance.wanted }
     {
-        match self.listener.accept() {
-            Ok((stream, address)) => self.entrance.keep(Newcomer { stream, address }),
+        let first = self.turn;
+        self.turn = slot_at_turn(first, self.listeners.len(), 1);
+        match accepted(self.listeners, first) {
+            Ok(newcomer) => self.entrance.keep(newcomer),
             Err(error) => self.entrance.stumble(&error, milliseconds(self.rt)),
         }
     }
 
-    // Admits a connection; whether there was room. If there are as many as allowed, in all or over TCP, the one that has waited longest for
-    // its client ends to make room; if none waits for its client, the new one is kept until there is room.
+    // Admits a connection, or refuses and closes it; whether the next one may come. If its peer has as many as it may, the
+    // one of that peer that has waited longest for its client ends to make room, and if none waits, the new one is refused:
+    // so a peer with a full share keeps nobody out. If there are as many as allowed, in all or over TCP, the one of all
+    // that has waited longest ends; if none waits, the new one is kept until there is room.
     fn admit(&mut self, newcomer: Newcomer) -> bool
         ensures kept { result ≡ false → self.new.entrance ≡ record self.old.entrance { pending = Some newcomer } }
         ensures admitted { result ≡ true → self.new.entrance ≡ self.old.entrance }
     {
-        if let Some(ended) = self.make_room() {
+        if let Some(ended) = self.make_room(newcomer.share) {
             self.drive(ended);
         }
         let now = milliseconds(self.rt);
-        let admitted = self.engine.hub.lock(self.rt).admit(newcomer, now);
-        match self.entrance.settle(admitted) {
-            None => false,
-            Some(slot) => {
+        let admission = self.engine.hub.lock(self.rt).admit(newcomer, now);
+        match admission {
+            Admission::Admitted(slot) => {
                 self.drive(slot);
                 true
+            }
+            Admission::Refused => true,
+            Admission::Waits(newcomer) => {
+                self.entrance.keep(newcomer);
+                false
             }
         }
     }
 
-    fn make_room(&self) -> Option<usize> {
-        self.engine.hub.lock(self.rt).make_room()
+    fn make_room(&self, share: Option<Peer>) -> Option<usize> {
+        self.engine.hub.lock(self.rt).make_room(share)
     }
+}
+
+// Whether a listener is watched, and doesn't block.
+fn is_watched<L: OpenListener<Stream = TcpStream> + AsRawFd>(
+    listener: &L,
+    registry: &Registry,
+) -> bool {
+    let descriptor = listener.as_raw_fd();
+    listener.set_nonblocking(true).is_ok()
+        && registry
+            .register(&mut SourceFd(&descriptor), LISTENER, Interest::READABLE)
+            .is_ok()
+}
+
+// The next connection of the first of these listeners, from this one on, to which one has come; otherwise what the last
+// one had to say.
+fn accepted<L: OpenListener<Stream = TcpStream>>(
+    listeners: &[L],
+    first: usize,
+) -> io::Result<Newcomer>
+    ensures share { IfOk result (λ newcomer. IsShareOf newcomer.ends newcomer.share) }
+{
+    let mut fault = Error::from(ErrorKind::WouldBlock);
+    for turn in 0..listeners.len() {
+        match accepted_by(listeners, slot_at_turn(first, listeners.len(), turn)) {
+            Ok(newcomer) => return Ok(newcomer),
+            Err(error) if error.kind() == ErrorKind::WouldBlock => {}
+            Err(error) => fault = error,
+        }
+    }
+    Err(fault)
+}
+
+// The next connection of one of these listeners, and its two addresses.
+fn accepted_by<L: OpenListener<Stream = TcpStream>>(
+    listeners: &[L],
+    index: usize,
+) -> io::Result<Newcomer>
+    ensures share { IfOk result (λ newcomer. IsShareOf newcomer.ends newcomer.share) }
+{
+    let Some(listener) = listeners.get(index) else {
+        return Err(Error::from(ErrorKind::WouldBlock));
+    };
+    let (stream, peer) = listener.accept()?;
+    let local = stream.local_addr()?;
+    Ok(Newcomer::of(stream, peer, local))
 }
 
 impl<

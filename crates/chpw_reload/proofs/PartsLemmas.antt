@@ -10,6 +10,7 @@ use Rattle.chpw_record.specs.declared.record.Record.{Record}
 use Rattle.chpw_record.specs.Records.{records_text}
 use Rattle.chpw_journal.specs.JournalText.{restored, whole, IsReading}
 use Rattle.chpw_journal.specs.Restoring.{IsRestored}
+use Rattle.chpw_journal.specs.declared.restoring.Restored.{Restored}
 use Rattle.chpw_record.proofs.RecordLemmas.{records_joined}
 use Rattle.chpw_journal.proofs.RecordsLemmas.{restored_joined, next_joined}
 use Rattle.chpw_report.specs.Held.{opening}
@@ -70,12 +71,14 @@ two_parts_are_one before front more new later first second a b =
 
 pub reloaded_is_reload : ReloadedIsReload
 reloaded_is_reload file journal rest renewal closed next left p r same =
-    let one : IsRestored p.before journal p.read.0 p.after = p.read.1 in
-    let two : IsRestored p.after.table rest r.read.0 r.renewed = subst (λ (t : Held). IsRestored t rest r.read.0 r.renewed) p.table r.read.1 in
+    let first_part : Restored = p.read.records in
+    let one : IsRestored p.before p.read.behind p.read.left first_part = p.read.read in
+    let same_table : renewal.table ≡ first_part.table = p.table ∙ ap (λ (x : Restored). x.table) p.read.whole in
+    let two : IsRestored first_part.table rest r.read.0 r.renewed = subst (λ (t : Held). IsRestored t rest r.read.0 r.renewed) same_table r.read.1 in
     let cs : List Record = one.whole_records in
     let ds : List Record = two.whole_records in
     let s : State = opening file in
-    let mid : Agrees p.after.table.state (restored s cs) = one.table s p.opens in
+    let mid : Agrees first_part.table.state (restored s cs) = one.table s p.opens in
     let first : IsReading s (records_text cs ++ one.rest) (whole cs one.rest) = one.reading s p.opens in
     let second : IsReading (restored s cs) (records_text ds ++ two.rest) (whole ds two.rest) = two.reading (restored s cs) mid in (
       cs ++ ds,

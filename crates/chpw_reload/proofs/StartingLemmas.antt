@@ -26,7 +26,7 @@ started_from r rest closed renewed (Err fault) realm read h = h
 refused_of : (r : PreparedReload) (rest : Option (List ℕ)) (closed : Held) (renewed : Restored) (fault : ReloadFault)
     → closed.state.fixed.realm ≡ r.settings.realm → IsReadFrom r.table rest renewed
     → IsRefusedOver r.settings closed.state renewed.table.state fault → IsRefused r rest closed fault
-refused_of r rest closed renewed Realm realm read h = absurd h
+refused_of r rest closed renewed (Realm held new) realm read h = absurd h
 refused_of r rest closed renewed (Journal fault) realm read h = absurd h
 refused_of r rest closed renewed (Keys name) realm read h = (realm, renewed, read, h)
 refused_of r rest closed renewed Limits realm read h = (realm, renewed, read, h.0, h.1)
@@ -45,6 +45,7 @@ refused_rest r rest closed (journal.BadRecord n) realm h = (realm, journal.BadRe
 refused_rest r rest closed (journal.WrongVersion n) realm h = (realm, journal.WrongVersion n, h, refl)
 refused_rest r rest closed (journal.UnknownPrincipal n) realm h = (realm, journal.UnknownPrincipal n, h, refl)
 refused_rest r rest closed (journal.TooMany n) realm h = (realm, journal.TooMany n, h, refl)
+refused_rest r rest closed journal.OtherRealm realm h = (realm, journal.OtherRealm, h, refl)
 refused_rest r rest closed journal.CannotRead realm h = (realm, journal.CannotRead, h, refl)
 refused_rest r rest closed journal.Memory realm h = tt
 

@@ -88,5 +88,5 @@ text_of_a_fault = refl
 pub text_of_a_name : fault_text (Keys (record { parts = codes "kadmin" ∷ codes "changepw" ∷ [] })) ≡ codes "other keys of kadmin/changepw"
 text_of_a_name = refl
 
-pub text_of_a_realm : fault_text Realm ≡ codes "another realm"
+pub text_of_a_realm : fault_text (Realm (codes "EXAMPLE.COM") (codes "OTHER")) ≡ codes "another realm: OTHER, not EXAMPLE.COM"
 text_of_a_realm = refl

@@ -1,7 +1,7 @@
 -- Why a reload is refused, and how that is printed.
 use Rattle.std.specs.Prelude.{ℕ, ◌+◌, min, List, ◌++◌, codes}
 use Rattle.chpw_rules.specs.declared.name.Name.{Name}
-use Rattle.chpw_printing.specs.Quoting.{name_text}
+use Rattle.chpw_printing.specs.Quoting.{name_text, quoted}
 use Rattle.chpw_journal.specs.declared.fault.RestoreFault.{RestoreFault}
 use Rattle.chpw_journal.specs.declared.fault.RestoreFault.TheVariants as journal
 use Rattle.chpw_journal.specs.Restoring as restoring
@@ -14,6 +14,7 @@ fault_of (journal.BadRecord n) = Journal (journal.BadRecord n)
 fault_of (journal.WrongVersion n) = Journal (journal.WrongVersion n)
 fault_of (journal.UnknownPrincipal n) = Journal (journal.UnknownPrincipal n)
 fault_of (journal.TooMany n) = Journal (journal.TooMany n)
+fault_of journal.OtherRealm = Journal journal.OtherRealm
 fault_of journal.CannotRead = Journal journal.CannotRead
 fault_of journal.Memory = Memory
 
@@ -27,15 +28,20 @@ fault_behind records (journal.BadRecord n) = journal.BadRecord (number_behind re
 fault_behind records (journal.WrongVersion n) = journal.WrongVersion (number_behind records n)
 fault_behind records (journal.UnknownPrincipal n) = journal.UnknownPrincipal (number_behind records n)
 fault_behind records (journal.TooMany n) = journal.TooMany (number_behind records n)
+fault_behind records journal.OtherRealm = journal.OtherRealm
 fault_behind records journal.CannotRead = journal.CannotRead
 fault_behind records journal.Memory = journal.Memory
+
+-- the realm of a configuration, and the one that is held
+abbrev pub realms_text : (held new : List ℕ) → List ℕ
+realms_text held new = codes "another realm: " ++ quoted new ++ codes ", not " ++ quoted held
 
 abbrev pub keys_text : Name → List ℕ
 keys_text name = codes "other keys of " ++ name_text name
 
 -- a fault as it is printed
 abbrev pub fault_text : ReloadFault → List ℕ
-fault_text Realm = codes "another realm"
+fault_text (Realm held new) = realms_text held new
 fault_text (Journal fault) = restoring.fault_text fault
 fault_text (Keys name) = keys_text name
 fault_text Limits = codes "too many principals"

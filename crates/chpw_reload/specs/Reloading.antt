@@ -7,6 +7,7 @@ use Rattle.chpw_rules.specs.Fitting.{config_fits}
 use Rattle.chpw_table.specs.Agreement.{Held, Agrees}
 use Rattle.chpw_journal.specs.declared.fault.RestoreFault.{RestoreFault}
 use Rattle.chpw_journal.specs.declared.restoring.Restored.{Restored}
+use Rattle.chpw_journal.specs.Headings.{IsWholeRestored, IsWholeRefused}
 use Rattle.chpw_journal.specs.JournalFile.{IsReadFrom, IsRefusedFrom}
 use Rattle.chpw_report.specs.Held.{opening}
 use Rattle.chpw_reload.specs.declared.fault.ReloadFault.{ReloadFault}
@@ -22,7 +23,7 @@ pub record IsPrepared (file : Config) (journal : Option (List ℕ)) (r : Prepare
   pub before : Held
   pub opens : Agrees before.state (opening file)
   pub after : Restored
-  pub read : IsReadFrom before journal after
+  pub read : IsWholeRestored before journal after
   pub table : r.table ≡ after.table
   pub records : r.records ≡ after.records
   pub kept : r.kept ≡ after.kept
@@ -33,7 +34,7 @@ abbrev pub IsUnprepared : Config → Option (List ℕ) → ReloadFault → Type 
 IsUnprepared file journal Memory = Unit {0}
 IsUnprepared file journal fault =
     (before : Held) × (found : RestoreFault) × Agrees before.state (opening file)
-    × IsRefusedFrom before journal found × (fault ≡ fault_of found)
+    × IsWholeRefused before journal found × (fault ≡ fault_of found)
 
 -- the rest of the journal is replayed, and the next table is made from that and the closed one
 pub record IsReloaded (r : PreparedReload) (rest : Option (List ℕ)) (closed : Held) (next : Reloaded) : Type 0 where
@@ -44,9 +45,16 @@ pub record IsReloaded (r : PreparedReload) (rest : Option (List ℕ)) (closed : 
   pub counts : (next.table.events ≡ 0) × (next.table.seen ≡ 0) × (next.table.max_entries ≡ r.settings.max_entries)
   pub lacked : next.lacked.items ≡ lacked closed.state renewed.table.state
 
+-- the realm that is held, and another one of a configuration; or memory ran out
+abbrev pub IsOfRealms : (held new : List ℕ) → ReloadFault → Type 0
+IsOfRealms held new (Realm a b) = (a ≡ held) × (b ≡ new)
+IsOfRealms held new Memory = Unit {0}
+IsOfRealms held new fault = ⊥
+
 -- the first reason: the realm; the journal's first fault, numbered in the whole of it; a name's keys; the limits
 abbrev pub IsRefused : PreparedReload → Option (List ℕ) → Held → ReloadFault → Type 0
-IsRefused r rest closed Realm = closed.state.fixed.realm ≢ r.settings.realm
+IsRefused r rest closed (Realm held new) = (closed.state.fixed.realm ≢ r.settings.realm)
+    × (held ≡ closed.state.fixed.realm) × (new ≡ r.settings.realm)
 IsRefused r rest closed (Journal fault) = (closed.state.fixed.realm ≡ r.settings.realm)
     × (found : RestoreFault) × IsRefusedFrom r.table rest found × (Journal fault ≡ fault_of (fault_behind r.records found))
 IsRefused r rest closed (Keys name) = (closed.state.fixed.realm ≡ r.settings.realm)

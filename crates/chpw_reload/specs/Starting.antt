@@ -36,5 +36,5 @@ IsRefusedOver settings closed renewed (Keys name) = HoldApart closed renewed nam
 IsRefusedOver settings closed renewed Limits = ((name : Name) → HoldAlike closed renewed name)
     × (config_fits (next_config settings closed renewed) ≡ false)
 IsRefusedOver settings closed renewed Memory = Unit {0}
-IsRefusedOver settings closed renewed Realm = ⊥
+IsRefusedOver settings closed renewed (Realm held new) = ⊥
 IsRefusedOver settings closed renewed (Journal fault) = ⊥

@@ -6,7 +6,7 @@ ghost use Rattle.chpw_reload.specs.Next.{settings_of};
 ghost use Rattle.chpw_reload.specs.Reloading.{IsPrepared, IsUnprepared};
 
 use crate::fault::ReloadFault;
-use chpw_journal::{RestoreFault, Restored, restore};
+use chpw_journal::{RestoreFault, Restored, restore, restore_file};
 use chpw_rules::{Config, Items};
 use chpw_table::Table;
 use std::alloc::{AllocError, Global};
@@ -20,7 +20,7 @@ pub struct PreparedReload {
     pub table: Table,
     /// How many complete records were read.
     pub records: u64,
-    /// Their bytes. The rest of the journal begins there.
+    /// Their bytes, and those of the record of the realm before them, if there is one. The rest of the journal begins there.
     pub kept: u64,
 }
 
@@ -42,8 +42,8 @@ pub fn prepare<F: Read + Drop>(
     let Ok(table) = Table::start(alloc, file, -1) else {
         return Err(ReloadFault::Memory);
     };
-    match read_on(alloc, table, journal) {
-        Ok(restored) => Ok(renewal_of(settings, restored)),
+    match restore_file(alloc, table, journal) {
+        Ok((restored, _)) => Ok(renewal_of(settings, restored)),
         Err(fault) => Err(ReloadFault::of(fault)),
     }
 }
@@ -82,7 +82,7 @@ fn settings(alloc: Global, file: &Config) -> Result<Config, AllocError>
     })
 }
 
-/// The table with the records of a journal replayed, from where its reader is.
+/// The table with the records of a journal replayed, from where its reader is, behind its heading.
 pub(crate) fn read_on<F: Read + Drop>(
     alloc: Global,
     table: Table,

@@ -5,7 +5,8 @@ ghost use Rattle.chpw_rules.specs.declared.name.Name.{Name as TheName};
 ghost use Rattle.chpw_reload.specs.Comparing.{HoldAlike};
 ghost use Rattle.chpw_reload.specs.Next.{lacked as lacked_names};
 ghost use Rattle.chpw_reload.specs.Reasons.{fault_behind as fault_after, number_behind as number_after};
-ghost use Rattle.chpw_reload.specs.Reloading.{IsRefused, IsReloaded};
+ghost use Rattle.chpw_reload.specs.Reloading.{IsOfRealms, IsRefused, IsReloaded};
+ghost use Rattle.chpw_reload.specs.declared.fault.ReloadFault.TheVariants.{Realm};
 ghost use Rattle.chpw_reload.specs.Starting.{IsRefusedOver, IsStarted, IsStartedFrom};
 
 use crate::comparing::first_apart;
@@ -15,9 +16,9 @@ use crate::lacking::missing_names;
 use crate::next::next_config;
 use crate::prepared_reload::{PreparedReload, read_on};
 use chpw_journal::RestoreFault;
-use chpw_rules::{Config, Name};
+use chpw_rules::{Config, Items, Name};
 use chpw_table::{MOST_CARRIED, Table};
-use std::alloc::Global;
+use std::alloc::{AllocError, Global};
 use std::io::Read;
 
 /// The table that the next desk opens with, and the principals in it that neither the new configuration nor the journal has.
@@ -71,7 +72,8 @@ fn start_table<F: Read + Drop>(
     ensures refused { IfErr result (IsRefused renewal (F.remaining rest) closed.now) }
 {
     if closed.realm() != renewal.settings.realm.as_slice() {
-        return Err(ReloadFault::Realm);
+        let held = closed.realm();
+        return Err(another_realm(alloc, held, renewal.settings.realm.as_slice()));
     }
     let PreparedReload {
         settings,
@@ -85,6 +87,25 @@ fn start_table<F: Read + Drop>(
     }
 }
 
+// The fault of a configuration of another realm than the one that is held.
+fn another_realm(alloc: Global, held: &[u8], new: &[u8]) -> ReloadFault
+    ensures value { IsOfRealms held.now new.now result }
+{
+    match realms(alloc, held, new) {
+        Ok(fault) => fault,
+        Err(_) => ReloadFault::Memory,
+    }
+}
+
+fn realms(alloc: Global, held: &[u8], new: &[u8]) -> Result<ReloadFault, AllocError>
+    ensures value { IfOk result (λ fault. fault ≡ Realm held.now new.now) }
+{
+    Ok(ReloadFault::Realm {
+        held: Items::of(Vec::from_slice(alloc, held)?),
+        new: Items::of(Vec::from_slice(alloc, new)?),
+    })
+}
+
 // A fault that was found after this many records.
 fn fault_behind(records: u64, fault: RestoreFault) -> RestoreFault
     ensures value { result ≡ fault_after records fault }
@@ -96,6 +117,7 @@ fn fault_behind(records: u64, fault: RestoreFault) -> RestoreFault
             RestoreFault::UnknownPrincipal(number_behind(records, n))
         }
         RestoreFault::TooMany(n) => RestoreFault::TooMany(number_behind(records, n)),
+        RestoreFault::OtherRealm => RestoreFault::OtherRealm,
         RestoreFault::CannotRead => RestoreFault::CannotRead,
         RestoreFault::Memory => RestoreFault::Memory,
     }

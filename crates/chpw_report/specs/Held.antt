@@ -6,7 +6,8 @@ use Rattle.chpw_table.specs.State.{State, opening_of}
 use Rattle.chpw_journal.specs.declared.fault.RestoreFault.{RestoreFault}
 use Rattle.chpw_journal.specs.declared.fault.RestoreFault.TheVariants.{Memory}
 use Rattle.chpw_journal.specs.declared.restoring.Restored.{Restored}
-use Rattle.chpw_journal.specs.JournalFile.{cut_of, IsReadFrom, IsRefusedFrom}
+use Rattle.chpw_journal.specs.Headings.{IsWholeRestored, IsWholeRefused}
+use Rattle.chpw_journal.specs.JournalFile.{cut_of}
 use Rattle.chpw_report.specs.declared.holding.HeldTable.{HeldTable}
 
 -- no request is refused for its time: quiet until the second -1
@@ -19,7 +20,7 @@ pub record IsHeld (config : Config) (journal : Option (List ℕ)) (h : HeldTable
   pub before : Held
   pub opens : Agrees before.state (opening config)
   pub after : Restored
-  pub read : IsReadFrom before journal after
+  pub read : IsWholeRestored before journal after
   pub table : h.table ≡ after.table
   pub changes : h.changes ≡ after.records
   pub torn : h.torn_behind ≡ cut_of after
@@ -28,4 +29,4 @@ pub record IsHeld (config : Config) (journal : Option (List ℕ)) (h : HeldTable
 abbrev pub IsHeldFault : Config → Option (List ℕ) → RestoreFault → Type 0
 IsHeldFault config journal Memory = Unit {0}
 IsHeldFault config journal fault =
-    (before : Held) × Agrees before.state (opening config) × IsRefusedFrom before journal fault
+    (before : Held) × Agrees before.state (opening config) × IsWholeRefused before journal fault

@@ -4,11 +4,11 @@ ghost use Rattle.chpw_rules.specs.Fitting.{config_fits};
 ghost use Rattle.chpw_journal.specs.JournalFile.{cut_of};
 ghost use Rattle.chpw_report.specs.Held.{IsHeld, IsHeldFault};
 
-use chpw_journal::{RestoreFault, Restored, restore};
+use chpw_journal::{RestoreFault, Restored, restore_file};
 use chpw_rules::Config;
 use chpw_table::Table;
 use std::alloc::Global;
-use std::io::{BufReader, Read};
+use std::io::Read;
 
 /// The table that is held.
 #[derive(Drop)]
@@ -21,7 +21,8 @@ pub struct HeldTable {
 }
 
 /// The configuration's table with a journal's records replayed, so with the principals that joined, and without those that
-/// were removed. The journal is read to its end; what follows its last complete record is reported.
+/// were removed. The journal is read to its end; what follows its last complete record is reported. The record of a realm
+/// before them isn't counted, and if it is another one the journal is refused.
 pub fn held_from<F: Read + Drop>(
     alloc: Global,
     config: Config,
@@ -34,11 +35,8 @@ pub fn held_from<F: Read + Drop>(
     let Ok(table) = Table::start(alloc, config, -1) else {
         return Err(RestoreFault::Memory);
     };
-    let Ok(mut reader) = BufReader::new(alloc, journal) else {
-        return Err(RestoreFault::Memory);
-    };
-    match restore(alloc, table, &mut reader) {
-        Ok(restored) => Ok(held_of(restored)),
+    match restore_file(alloc, table, journal) {
+        Ok((restored, _)) => Ok(held_of(restored)),
         Err(fault) => Err(fault),
     }
 }

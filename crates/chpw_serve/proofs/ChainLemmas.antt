@@ -4,6 +4,7 @@ use Rattle.std.specs.Prelude.{map}
 use Rattle.std.specs.List.{flat_map}
 use Rattle.std.proofs.lemmas.List.{append-nil}
 use Rattle.std.specs.Io.KnownBytes.{Appends}
+use Rattle.std.specs.declared.net.ip_addr.IpAddr.{IpAddr}
 use Rattle.chpw_frame.specs.Stream.{Piece, message, next_piece, after_piece, sent}
 use Rattle.chpw_frame.specs.Receiving.{TakesPiece}
 use Rattle.chpw_frame.proofs.StreamLemmas.{appends_none, appends_more}
@@ -44,7 +45,7 @@ words_of draws = flat_map (λ (d : Draw). d.words) draws
 
 module _ {C X G : Type 0} (error_frame : Answer → Moment → List ℕ) (private_frame : Seal → Answer → List ℕ → List ℕ)
     (opens : List ℕ → Opens → Type 0) (passes : G → Spot → G → Type 0) (hears : G → Heard → G → Type 0)
-    (peer : List ℕ) (moments : C → Moment → C → Type 0) (random : X → ℕ → X → Type 0) where
+    (peer : IpAddr) (moments : C → Moment → C → Type 0) (random : X → ℕ → X → Type 0) where
   abbrev pub refusal : Moment → List ℕ
   refusal now = error_frame message_too_long now
 

@@ -5,6 +5,7 @@ use Rattle.std.specs.Prelude.{Result, Ok, Err, OnErr, slice_get}
 use Rattle.std.proofs.lemmas.Option.{slice_get-get_or}
 use Rattle.std.proofs.Math.ListN.{get_or}
 use Rattle.std.proofs.Math.Seq.{get_or-append_seam}
+use Rattle.std.specs.declared.net.ip_addr.IpAddr.{IpAddr}
 use Rattle.krb_protocol.specs.declared.refusal.Refusal.{Refusal}
 use Rattle.chpw_table.specs.declared.times.Moment.{Moment}
 use Rattle.chpw_table.specs.declared.history.Event.{Event}
@@ -46,7 +47,7 @@ last_is {A} xs ys x r e h =
     some_is a b k = cc
 
 module _ {G : Type 0} (passes : G → Spot → G → Type 0) (hears : G → Heard → G → Type 0)
-    (peer : List ℕ) (now : Moment) (made : Option ℕ → Type 0) (old new : List Receipt) (gate later : G) where
+    (peer : IpAddr) (now : Moment) (made : Option ℕ → Type 0) (old new : List Receipt) (gate later : G) where
   -- of what was opened
   abbrev pub CallsFor : Opens → Type 0
   CallsFor o = (calls : List Call) × AreCallsFor peer now made old new o calls × InTurn (Does passes hears) gate calls later

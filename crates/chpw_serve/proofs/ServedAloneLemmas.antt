@@ -4,6 +4,7 @@ use Rattle.std.proofs.Common.{None, refl, sym, ◌∙◌, ap, subst, append_asso
 use Rattle.std.specs.Prelude.{IfSome, MatchBool}
 use Rattle.std.proofs.lemmas.List.{append-nil}
 use Rattle.std.specs.Io.KnownBytes.{Appends}
+use Rattle.std.specs.declared.net.ip_addr.IpAddr.{IpAddr}
 use Rattle.chpw_frame.specs.Stream.{Piece, message, ended, cut_off, too_long, next_piece, after_piece, sent}
 use Rattle.chpw_frame.specs.Receiving.{ConsumesSome, AppendsFront, TakesPiece, TakesLength}
 use Rattle.chpw_frame.proofs.StreamLemmas.{appends_more, put_after}
@@ -34,7 +35,7 @@ at_most false m n h = omega (arith, h)
 
 module _ {C X G : Type 0} (error_frame : Answer → Moment → List ℕ) (private_frame : Seal → Answer → List ℕ → List ℕ)
     (opens : List ℕ → Opens → Type 0) (passes : G → Spot → G → Type 0) (hears : G → Heard → G → Type 0)
-    (peer : List ℕ) (moments : C → Moment → C → Type 0) (random : X → ℕ → X → Type 0) where
+    (peer : IpAddr) (moments : C → Moment → C → Type 0) (random : X → ℕ → X → Type 0) where
   abbrev refused_by : Moment → List ℕ
   refused_by now = error_frame message_too_long now
 

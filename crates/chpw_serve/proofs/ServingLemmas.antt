@@ -1,5 +1,6 @@
 -- Serving, turn after turn.
 use Rattle.std.proofs.Common.{◌≡◌, ℕ, ◌+◌, ◌≤◌, ◌<◌, List, [], ◌∷◌, ◌++◌, Bool, length, inr, refl, sym, ◌∙◌, ap, arith, length-append}
+use Rattle.std.specs.declared.net.ip_addr.IpAddr.{IpAddr}
 use Rattle.chpw_frame.specs.Stream.{too_long}
 use Rattle.chpw_frame.specs.Receiving.{TakesPiece}
 use Rattle.chpw_table.specs.declared.times.Moment.{Moment}
@@ -14,7 +15,7 @@ use Rattle.chpw_serve.proofs.DrawLemmas.{drawn_on}
 module _ {C X D G : Type 0} (answers : List ℕ → List ℕ → Moment → D → D → G → G → List ℕ → Bool → Type 0)
     (adds : List ℕ → Moment → D → D → G → G → Type 0)
     (refusal : Moment → List ℕ) (moments : C → Moment → C → Type 0) (random : X → ℕ → X → Type 0)
-    (passes : G → Spot → G → Type 0) (hears : G → Heard → G → Type 0) (peer : List ℕ) where
+    (passes : G → Spot → G → Type 0) (hears : G → Heard → G → Type 0) (peer : IpAddr) where
   -- so many turns were served
   pub record SoFar (start now : StreamState C X D G) (n : ℕ) : Type 0 where
     pub turns : List Turn

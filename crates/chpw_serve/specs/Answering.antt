@@ -1,5 +1,6 @@
 -- A message answered: the bytes of the reply, who decides, and what observer and gate are called for.
 use Rattle.std.specs.Prelude.{◌≡◌, ◌≤◌, ℕ, List, length, Bool, Option}
+use Rattle.std.specs.declared.net.ip_addr.IpAddr.{IpAddr}
 use Rattle.chpw_table.specs.declared.times.Moment.{Moment}
 use Rattle.chpw_table.specs.declared.history.Receipt.{Receipt}
 use Rattle.chpw_table.specs.Replies.{Answer}
@@ -16,7 +17,7 @@ use Rattle.chpw_serve.specs.Hearing.{Heard, Call, Does, AreCallsFor, AreCallsUna
 pub record Answering {D G : Type 0} (error_frame : Answer → Moment → List ℕ)
     (private_frame : Seal → Answer → List ℕ → List ℕ) (full : D → List Receipt → Type 0) (gathered : D → List Receipt)
     (follows : D → D → Type 0) (made : D → Option ℕ → Type 0) (passes : G → Spot → G → Type 0)
-    (hears : G → Heard → G → Type 0) (opens : List ℕ → Opens → Type 0) (peer text words : List ℕ)
+    (hears : G → Heard → G → Type 0) (opens : List ℕ → Opens → Type 0) (peer : IpAddr) (text words : List ℕ)
     (now : Moment) (before after : D) (gate later : G) (bytes : List ℕ) (is_open : Bool) : Type 0 where
   pub reply : IsAnswer error_frame private_frame (full after (gathered after)) (opens text) words now (gathered before) (gathered after) bytes
   pub fits : length bytes ≤ 65535
@@ -31,7 +32,7 @@ pub record Answering {D G : Type 0} (error_frame : Answer → Moment → List �
 pub record Unanswered {D G : Type 0}
     (gathered : D → List Receipt) (follows : D → D → Type 0) (made : D → Option ℕ → Type 0)
     (passes : G → Spot → G → Type 0) (hears : G → Heard → G → Type 0) (opens : List ℕ → Opens → Type 0)
-    (peer text : List ℕ) (now : Moment) (before after : D) (gate later : G) : Type 0 where
+    (peer : IpAddr) (text : List ℕ) (now : Moment) (before after : D) (gate later : G) : Type 0 where
   pub goes_on : follows before after
   pub calls : List Call
   pub calls_are : AreCallsUnanswered peer now (made after) (gathered before) (gathered after) (opens text) calls

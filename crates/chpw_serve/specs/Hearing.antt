@@ -1,5 +1,6 @@
 -- What an observer hears of messages, and where a gate holds their worker.
 use Rattle.std.specs.Prelude.{◌≡◌, ℕ, List, [], ◌∷◌, Option, Some, None, ◌⊎◌}
+use Rattle.std.specs.declared.net.ip_addr.IpAddr.{IpAddr}
 use Rattle.chpw_table.specs.declared.times.Moment.{Moment}
 use Rattle.chpw_table.specs.declared.request.Opened.{Opened}
 use Rattle.chpw_table.specs.declared.history.Receipt.{Receipt}
@@ -15,8 +16,8 @@ use Rattle.chpw_serve.specs.Answers.{history_full}
 -- what an observer hears: the decision of a request from a peer at a moment, by its receipt, and the version of the
 -- new key after a change; or the refusal of a message, with its request where one was opened
 pub data Heard : Type 0 where
-  decision : List ℕ → Moment → Receipt → Option ℕ → Heard
-  refusal : List ℕ → Moment → Option Opened → Answer → Heard
+  decision : IpAddr → Moment → Receipt → Option ℕ → Heard
+  refusal : IpAddr → Moment → Option Opened → Answer → Heard
 
 -- a worker's call: of its gate at a spot, or of its observer
 pub data Call : Type 0 where
@@ -44,7 +45,7 @@ IsKvnoUnder made v kvno = kvno ≡ None
 -- the calls for a message that opens so, where the receipts became these: the observer hears its refusal; or the
 -- gate is passed, and the observer hears that the history is full, or the decision by the receipt that was added, which
 -- is of the message's request with some keys derived, judged at this moment
-module _ (peer : List ℕ) (now : Moment) (made : Option ℕ → Type 0) (old new : List Receipt) where
+module _ (peer : IpAddr) (now : Moment) (made : Option ℕ → Type 0) (old new : List Receipt) where
   abbrev pub AreCallsForRequest : (List ℕ → Opened) → List Call → Type 0
   AreCallsForRequest request calls =
       ((new ≡ old) × (counts : List ℕ)

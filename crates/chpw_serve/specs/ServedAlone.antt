@@ -3,6 +3,7 @@
 use Rattle.std.specs.Prelude.{◌≡◌, ℕ, ◌+◌, ◌≤◌, List, [], ◌∷◌, ◌++◌, Bool, true, false, length, map, Option, Some}
 use Rattle.std.specs.List.{flat_map}
 use Rattle.std.specs.Io.KnownBytes.{Appends}
+use Rattle.std.specs.declared.net.ip_addr.IpAddr.{IpAddr}
 use Rattle.chpw_frame.specs.Stream.{Piece, message, ended, cut_off, too_long, next_piece, after_piece}
 use Rattle.chpw_frame.specs.Receiving.{ConsumesSome, AppendsFront}
 use Rattle.chpw_table.specs.declared.times.Moment.{Moment}
@@ -25,7 +26,7 @@ use Rattle.chpw_serve.specs.StreamReplies.{Draw, Run, verdict_of, is_full, run_a
 
 -- the answer to a message by a table that one thread owns
 abbrev pub AnsweringAlone : {G : Type 0} → (G → Spot → G → Type 0) → (G → Heard → G → Type 0)
-    → (Answer → Moment → List ℕ) → (Seal → Answer → List ℕ → List ℕ) → (List ℕ → Opens → Type 0) → List ℕ
+    → (Answer → Moment → List ℕ) → (Seal → Answer → List ℕ → List ℕ) → (List ℕ → Opens → Type 0) → IpAddr
     → List ℕ → List ℕ → Moment → Kept → Kept → G → G → List ℕ → Bool → Type 0
 AnsweringAlone passes hears error_frame private_frame opens peer text words now before after gate later bytes is_open =
     Answering error_frame private_frame IsFullAt (λ (k : Kept).
@@ -33,7 +34,7 @@ AnsweringAlone passes hears error_frame private_frame opens peer text words now 
 
 -- a receipt was added, or none
 abbrev pub AddsOneAlone : {G : Type 0} → (G → Spot → G → Type 0)
-    → (G → Heard → G → Type 0) → (List ℕ → Opens → Type 0) → List ℕ → List ℕ → Moment → Kept → Kept → G → G → Type 0
+    → (G → Heard → G → Type 0) → (List ℕ → Opens → Type 0) → IpAddr → List ℕ → Moment → Kept → Kept → G → G → Type 0
 AddsOneAlone passes hears opens peer text now before after gate later =
     Unanswered (λ (k : Kept). k.receipts) IsOpenedLike Makes passes hears opens peer text now before after gate later
 

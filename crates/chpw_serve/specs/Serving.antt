@@ -1,6 +1,7 @@
 -- Serving a stream: message after message is taken, answered and written.
 use Rattle.std.specs.Prelude.{◌≡◌, ℕ, ◌<◌, List, length, Bool, true, false, ◌&&◌, Option, None, ◌⊎◌, codes}
 use Rattle.std.specs.Io.KnownBytes.{Appends}
+use Rattle.std.specs.declared.net.ip_addr.IpAddr.{IpAddr}
 use Rattle.krb_protocol.specs.declared.codes.TheConstants.{KRB5_KPASSWD_MALFORMED, KRB_ERR_FIELD_TOOLONG}
 use Rattle.chpw_frame.specs.Stream.{Piece, message, ended, cut_off, too_long, sent}
 use Rattle.chpw_frame.specs.Receiving.{TakesPiece, TakesLength, ConsumesSome, AppendsFront}
@@ -52,7 +53,7 @@ Passes passes true gate later = passes gate spot.Answered later
 Passes passes false gate later = later ≡ gate
 
 module _ {C X G : Type 0} (refusal : Moment → List ℕ) (moments : C → Moment → C → Type 0)
-    (random : X → ℕ → X → Type 0) (hears : G → Heard → G → Type 0) (peer : List ℕ) where
+    (random : X → ℕ → X → Type 0) (hears : G → Heard → G → Type 0) (peer : IpAddr) where
   -- the refusal of a too long message, which the observer hears
   pub record Refuses (before after : Around C X G) (bytes : List ℕ) : Type 0 where
     pub moment : Moment
@@ -72,7 +73,7 @@ module _ {C X G : Type 0} (refusal : Moment → List ℕ) (moments : C → Momen
 module _ {C X D G : Type 0} (answers : List ℕ → List ℕ → Moment → D → D → G → G → List ℕ → Bool → Type 0)
     (adds : List ℕ → Moment → D → D → G → G → Type 0)
     (refusal : Moment → List ℕ) (moments : C → Moment → C → Type 0) (random : X → ℕ → X → Type 0)
-    (passes : G → Spot → G → Type 0) (hears : G → Heard → G → Type 0) (peer : List ℕ) where
+    (passes : G → Spot → G → Type 0) (hears : G → Heard → G → Type 0) (peer : IpAddr) where
   -- the turn's reply answers its message; after one that was written the gate is passed once more
   pub record Answers (is_written : Bool) (before : StreamState C X D G) (t : Turn) (after : StreamState C X D G) : Type 0 where
     pub moment : moments before.around.clock t.moment after.around.clock

@@ -1,5 +1,6 @@
 -- For proofs alone: the result of a request, and of one try.
 use Rattle.std.specs.Prelude.{◌≡◌, ℕ, ◌-◌, List, length, slice_get, Option, Some, None}
+use Rattle.std.specs.declared.net.ip_addr.IpAddr.{IpAddr}
 use Rattle.chpw_table.specs.declared.times.Moment.{Moment}
 use Rattle.chpw_table.specs.declared.request.Opened.{Opened}
 use Rattle.chpw_table.specs.declared.history.Event.{Event}
@@ -35,13 +36,13 @@ IsKvnoOf made (Raise count v) kvno = kvno ≡ None
 IsKvnoOf made (Update u v) kvno = kvno ≡ None
 
 -- what the observer hears of a verdict: the last receipt; if the history is full, the request
-abbrev pub HearsLast : {G : Type 0} → (G → Heard → G → Type 0) → List ℕ → Moment → (Option ℕ → Type 0) → List Receipt → G → G → Type 0
+abbrev pub HearsLast : {G : Type 0} → (G → Heard → G → Type 0) → IpAddr → Moment → (Option ℕ → Type 0) → List Receipt → G → G → Type 0
 HearsLast hears peer now made receipts observer later =
     (r : Receipt) × (kvno : Option ℕ) × (slice_get receipts (length receipts - 1) ≡ Some r) × IsKvnoOf made r.entry.event kvno
     × hears observer (decided peer now r kvno) later
 
 abbrev pub HearsVerdict : {G : Type 0} → (G → Heard → G → Type 0)
-    → List ℕ → Moment → (Option ℕ → Type 0) → List Receipt → List ℕ → Opened → Option Verdict → G → G → Type 0
+    → IpAddr → Moment → (Option ℕ → Type 0) → List Receipt → List ℕ → Opened → Option Verdict → G → G → Type 0
 HearsVerdict hears peer now made receipts password before (Some v) observer later = HearsLast hears peer now made receipts observer later
 HearsVerdict hears peer now made receipts password before None observer later =
     (o : Opened) × IsCompletedFrom password before o × hears observer (refusal peer now (Some o) history_full) later

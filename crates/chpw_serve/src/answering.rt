@@ -12,6 +12,7 @@ use crate::hearing::decide_heard;
 use crate::messages::{Incoming, Messages, OpenResult, Seal};
 use crate::observer::Observer;
 use chpw_decider::Decider;
+use chpw_endpoints::Endpoints;
 use chpw_table::{Moment, Verdict};
 use krb_protocol::Refusal;
 use krb_protocol::codes::{KRB_ERR_GENERIC, KRB5_KPASSWD_HARDERROR};
@@ -24,14 +25,14 @@ pub struct Answered {
     pub opened: bool,
 }
 
-/// The reply to a message from this peer, an IPv4 address, high byte first. Its request is judged at
+/// The reply to a message between these two. Its request is judged at
 /// the moment `now`, whose seconds are 0 to `chpw_table::LAST_SECOND`, and microseconds below
 /// 1,000,000; the words make its confounders and its sequence number. The observer hears what came of it.
 /// After `AllocError` there may be a receipt more, of this message's request, of which the observer heard.
 pub fn answer<M: Messages, D: Decider, G: Gate + Observer>(
     alloc: Global,
     service: &M,
-    peer: [u8; 4],
+    ends: Endpoints,
     message: &[u8],
     decider: &mut D,
     gate: &mut G,
@@ -42,13 +43,13 @@ pub fn answer<M: Messages, D: Decider, G: Gate + Observer>(
     requires micros { now.micros < 1000000 }
     ensures answers { IfOk result (λ bytes. (is_open : Bool)
         × Answering (M.error_frame service.now) (M.private_frame service.now) D.may_be_full D.gathered
-        D.follows D.made G.passes G.hears (M.opens service.now peer) peer
+        D.follows D.made G.passes G.hears (M.opens service.now ends) ends.peer
         message.now words now decider.old decider.new gate.old gate.new bytes.items is_open) }
     ensures refused { OnErr result (Unanswered D.gathered D.follows D.made G.passes G.hears
-        (M.opens service.now peer) peer message.now now decider.old decider.new gate.old gate.new) }
+        (M.opens service.now ends) ends.peer message.now now decider.old decider.new gate.old gate.new) }
 {
     let drawn = Drawing { now, words };
-    let answer = answer_message(alloc, service, peer, message, decider, gate, drawn)?;
+    let answer = answer_message(alloc, service, ends, message, decider, gate, drawn)?;
     Ok(answer.bytes)
 }
 
@@ -56,7 +57,7 @@ pub fn answer<M: Messages, D: Decider, G: Gate + Observer>(
 pub fn answer_message<M: Messages, D: Decider, G: Gate + Observer>(
     alloc: Global,
     service: &M,
-    peer: [u8; 4],
+    ends: Endpoints,
     message: &[u8],
     decider: &mut D,
     gate: &mut G,
@@ -64,15 +65,15 @@ pub fn answer_message<M: Messages, D: Decider, G: Gate + Observer>(
 ) -> Result<Answered, AllocError>
     ensures answers { IfOk result (λ a.
         Answering (M.error_frame service.now) (M.private_frame service.now) D.may_be_full D.gathered
-        D.follows D.made G.passes G.hears (M.opens service.now peer) peer
+        D.follows D.made G.passes G.hears (M.opens service.now ends) ends.peer
         message.now drawn.words drawn.now decider.old decider.new gate.old gate.new a.bytes.items a.opened) }
     ensures refused { OnErr result (Unanswered D.gathered D.follows D.made G.passes G.hears
-        (M.opens service.now peer) peer message.now drawn.now decider.old decider.new gate.old gate.new) }
+        (M.opens service.now ends) ends.peer message.now drawn.now decider.old decider.new gate.old gate.new) }
 {
-    let incoming = match service.open(alloc, peer, message)? {
+    let incoming = match service.open(alloc, ends, message)? {
         OpenResult::Opened(incoming) => incoming,
         OpenResult::Refused(refusal) => {
-            gate.refused(peer, drawn.now, None, &refusal);
+            gate.refused(ends.peer, drawn.now, None, &refusal);
             let bytes = service.make_error(alloc, refusal, drawn.now)?;
             return Ok(Answered {
                 bytes,
@@ -93,7 +94,14 @@ pub fn answer_message<M: Messages, D: Decider, G: Gate + Observer>(
         password.as_slice(),
     )?;
     gate.at(Spot::Opened);
-    let verdict = decide_heard(decider, gate, peer, drawn.now, ready, password.as_slice())?;
+    let verdict = decide_heard(
+        decider,
+        gate,
+        ends.peer,
+        drawn.now,
+        ready,
+        password.as_slice(),
+    )?;
     let bytes = match verdict {
         None => service.make_error(alloc, history_full(), drawn.now)?,
         Some(verdict) => reply(alloc, service, &seal, verdict, drawn)?,

@@ -4,6 +4,7 @@ ghost use Rattle.chpw_serve.specs.declared.gate.Spot.{Spot};
 use crate::observer::{Observer, UpdateObserver};
 use chpw_table::{KdcUpdate, Moment, Opened, Receipt, UpdateVerdict};
 use krb_protocol::Refusal;
+use std::net::IpAddr;
 
 /// A place on a message's way.
 #[derive(Clone, Copy, Drop)]
@@ -41,11 +42,11 @@ impl Observer for NoGate {
 
     ghost hears = { NotesNothing };
 
-    fn decided(&mut self, _peer: [u8; 4], _now: Moment, _receipt: &Receipt, _kvno: Option<u32>) {}
+    fn decided(&mut self, _peer: IpAddr, _now: Moment, _receipt: &Receipt, _kvno: Option<u32>) {}
 
     fn refused(
         &mut self,
-        _peer: [u8; 4],
+        _peer: IpAddr,
         _now: Moment,
         _opened: Option<&Opened>,
         _refusal: &Refusal,

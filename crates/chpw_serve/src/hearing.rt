@@ -9,12 +9,13 @@ use crate::observer::Observer;
 use chpw_decider::Decider;
 use chpw_table::{Moment, Opened, Verdict};
 use std::alloc::AllocError;
+use std::net::IpAddr;
 
 /// Decides, and the observer hears what came of it. None where the history is full.
 pub(crate) fn decide_heard<D: Decider, O: Observer>(
     decider: &mut D,
     observer: &mut O,
-    peer: [u8; 4],
+    peer: IpAddr,
     now: Moment,
     opened: Opened,
     password: &[u8],
@@ -45,7 +46,7 @@ pub(crate) fn decide_heard<D: Decider, O: Observer>(
 fn hear_decided<D: Decider, O: Observer>(
     decider: &D,
     observer: &mut O,
-    peer: [u8; 4],
+    peer: IpAddr,
     now: Moment,
     verdict: Verdict,
 )

@@ -1,5 +1,6 @@
 //! Opening and making messages.
 ghost use Rattle.std.specs.Prelude.{◌≡◌, ◌≤◌, ◌<◌, ℕ, List, length, IfOk};
+ghost use Rattle.chpw_endpoints.specs.declared.endpoints.Endpoints.{Endpoints as endpoints_spec};
 ghost use Rattle.chpw_table.specs.declared.times.Moment.{Moment};
 ghost use Rattle.chpw_table.specs.Times.{IsMoment};
 ghost use Rattle.chpw_table.specs.Replies.{Answer, by_private};
@@ -7,13 +8,15 @@ ghost use Rattle.chpw_serve.specs.declared.messages.Seal.{Seal};
 ghost use Rattle.chpw_serve.specs.Requests.{Opens};
 ghost use Rattle.chpw_serve.specs.Holding.{IsInTime, IsOpenResult, IsReplyTime, answer_in};
 
+use chpw_endpoints::Endpoints;
 use chpw_rules::Items;
 use chpw_table::{Moment, Opened};
 use krb_keys::Key;
 use krb_protocol::Refusal;
 use std::alloc::{AllocError, Global};
+use std::net::IpAddr;
 
-/// The keys and times that the reply to an opened request is made with.
+/// The keys, the times and the address that the reply to an opened request is made with.
 #[derive(Drop)]
 pub struct Seal {
     /// The ticket's key, for the AP-REP.
@@ -24,6 +27,8 @@ pub struct Seal {
     /// of the years 0 to 9999, and 0 to 999999 microseconds.
     pub ctime: i64,
     pub cusec: u32,
+    /// The service's own address that the request was sent to: the s-address of the KRB-PRIV (RFC 4120 section 5.7.1).
+    pub address: IpAddr,
 }
 
 /// A request that opened, its digest with no keys yet.
@@ -44,8 +49,8 @@ pub enum OpenResult {
 
 /// The service's realm and keys, with which messages are opened and made.
 pub trait Messages {
-    /// A message from this peer opens to this.
-    ghost opens: { Self → List ℕ → List ℕ → Opens → Type 0 };
+    /// A message between these two opens to this.
+    ghost opens: { Self → endpoints_spec → List ℕ → Opens → Type 0 };
 
     /// The frame of a KRB-ERROR.
     ghost error_frame: { Self → Answer → Moment → List ℕ };
@@ -56,9 +61,9 @@ pub trait Messages {
     /// The service's realm.
     fn realm(&self) -> &[u8];
 
-    /// Opens a message from this peer, an IPv4 address, high byte first.
-    fn open(&self, alloc: Global, peer: [u8; 4], message: &[u8]) -> Result<OpenResult, AllocError>
-        ensures opening { IfOk result (λ found. (o : Opens) × opens self.now peer message.now o × IsOpenResult o found) }
+    /// Opens a message that came between these two.
+    fn open(&self, alloc: Global, ends: Endpoints, message: &[u8]) -> Result<OpenResult, AllocError>
+        ensures opening { IfOk result (λ found. (o : Opens) × opens self.now ends message.now o × IsOpenResult o found) }
         ensures times { IfOk result IsInTime };
 
     /// The reply that is a KRB-ERROR of this moment, whose microseconds are below 1,000,000.

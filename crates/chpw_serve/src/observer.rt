@@ -9,22 +9,23 @@ ghost use Rattle.chpw_table.specs.declared.updating.UpdateVerdict.{UpdateVerdict
 
 use chpw_table::{KdcUpdate, Moment, Opened, Receipt, UpdateVerdict};
 use krb_protocol::Refusal;
+use std::net::IpAddr;
 
-/// What hears what was decided or refused, as a log. `peer` is an IPv4 address, high byte first.
+/// What hears what was decided or refused, as a log. `peer` is the address that the message came from.
 pub trait Observer {
     /// Hearing this leads from the first state to the second.
     ghost hears: { Self → Heard → Self → Type 0 };
 
     /// A request from this peer was decided at this moment: this is its receipt. `kvno` is the version of the
     /// new key after a change, and none after another decision.
-    fn decided(&mut self, peer: [u8; 4], now: Moment, receipt: &Receipt, kvno: Option<u32>)
+    fn decided(&mut self, peer: IpAddr, now: Moment, receipt: &Receipt, kvno: Option<u32>)
         requires moment { IsMoment now }
         requires micros { now.micros < 1000000 }
         ensures heard { hears self.old (decision peer now receipt.now kvno) self.new };
 
     /// A message from this peer was not decided: it didn't open, was too long, or came to a full history, and is
     /// answered so at this moment. In the last case there is the request.
-    fn refused(&mut self, peer: [u8; 4], now: Moment, opened: Option<&Opened>, refusal: &Refusal)
+    fn refused(&mut self, peer: IpAddr, now: Moment, opened: Option<&Opened>, refusal: &Refusal)
         requires moment { IsMoment now }
         requires micros { now.micros < 1000000 }
         ensures heard { hears self.old

@@ -13,12 +13,14 @@ use crate::gate::{Gate, NoGate, Spot};
 use crate::messages::Messages;
 use crate::observer::Observer;
 use chpw_decider::{Alone, Decider};
+use chpw_endpoints::Endpoints;
 use chpw_frame::{Received, read_tcp, write_tcp};
 use chpw_table::JournalSink;
 use krb_protocol::Refusal;
 use krb_protocol::codes::{KRB_ERR_FIELD_TOOLONG, KRB5_KPASSWD_MALFORMED};
 use std::alloc::Global;
 use std::io::{Read, Write};
+use std::net::IpAddr;
 
 /// The most messages of one stream.
 pub const MAX_MESSAGES: u32 = 65_536;
@@ -43,7 +45,7 @@ pub enum Ended {
 }
 
 /// Answers the messages of a stream in order, and writes each reply before the next message is read. The moment and the
-/// nine words of a message are drawn after it was read. `peer` is an IPv4 address, high byte first.
+/// nine words of a message are drawn after it was read. `ends` are its two addresses.
 #[tactic(auto, using(crate::proofs::ServingLemmas::so_far_start, crate::proofs::ServingLemmas::so_far_counted))]
 pub fn serve_stream<
     R: Read,
@@ -56,7 +58,7 @@ pub fn serve_stream<
 >(
     alloc: Global,
     service: &M,
-    peer: [u8; 4],
+    ends: Endpoints,
     reader: &mut R,
     writer: &mut W,
     decider: &mut D,
@@ -65,9 +67,9 @@ pub fn serve_stream<
     words: &mut X,
 ) -> Ended
     ensures served { IsServed (Answering (M.error_frame service.now) (M.private_frame service.now) D.may_be_full
-        D.gathered D.follows D.made G.passes G.hears (M.opens service.now peer) peer)
-        (Unanswered D.gathered D.follows D.made G.passes G.hears (M.opens service.now peer) peer)
-        (λ now. M.error_frame service.now message_too_long now) C.gives X.gives G.passes G.hears peer result
+        D.gathered D.follows D.made G.passes G.hears (M.opens service.now ends) ends.peer)
+        (Unanswered D.gathered D.follows D.made G.passes G.hears (M.opens service.now ends) ends.peer)
+        (λ now. M.error_frame service.now message_too_long now) C.gives X.gives G.passes G.hears ends.peer result
         (stream_state (R.remaining reader.old) decider.old (W.contents writer.old) clock.old words.old gate.old)
         (stream_state (R.remaining reader.new) decider.new (W.contents writer.new) clock.new words.new gate.new) }
 {
@@ -79,12 +81,12 @@ pub fn serve_stream<
             Ok(Received::CutOff) => return Ended::CutOff,
             Ok(Received::ReadFault) => return Ended::ReadFault,
             Ok(Received::TooLong) => {
-                return refuse(alloc, service, peer, writer, gate, clock, words);
+                return refuse(alloc, service, ends.peer, writer, gate, clock, words);
             }
             Ok(Received::Message(message)) => message,
         };
         let drawn = draw(clock, words);
-        let answer = match answer_message(alloc, service, peer, &message, decider, gate, drawn) {
+        let answer = match answer_message(alloc, service, ends, &message, decider, gate, drawn) {
             Err(_) => return Ended::Memory,
             Ok(answer) => answer,
         };
@@ -110,7 +112,7 @@ fn pass_answered<G: Gate>(gate: &mut G, opened: bool)
 fn refuse<W: Write, M: Messages, O: Observer, C: Clock, X: Words>(
     alloc: Global,
     service: &M,
-    peer: [u8; 4],
+    peer: IpAddr,
     writer: &mut W,
     observer: &mut O,
     clock: &mut C,
@@ -148,7 +150,7 @@ fn too_long() -> Refusal
 pub fn serve_alone<R: Read, W: Write, M: Messages, S: JournalSink, C: Clock, X: Words>(
     alloc: Global,
     service: &M,
-    peer: [u8; 4],
+    ends: Endpoints,
     reader: &mut R,
     writer: &mut W,
     alone: &mut Alone<S>,
@@ -157,13 +159,13 @@ pub fn serve_alone<R: Read, W: Write, M: Messages, S: JournalSink, C: Clock, X: 
 ) -> Ended
     ensures served { (gate later : NoGate) × IsServed
         (AnsweringAlone HoldsNobody NotesNothing (M.error_frame service.now) (M.private_frame service.now)
-        (M.opens service.now peer) peer)
-        (AddsOneAlone HoldsNobody NotesNothing (M.opens service.now peer) peer)
-        (λ now. M.error_frame service.now message_too_long now) C.gives X.gives HoldsNobody NotesNothing peer result
+        (M.opens service.now ends) ends.peer)
+        (AddsOneAlone HoldsNobody NotesNothing (M.opens service.now ends) ends.peer)
+        (λ now. M.error_frame service.now message_too_long now) C.gives X.gives HoldsNobody NotesNothing ends.peer result
         (stream_state (R.remaining reader.old) alone.old (W.contents writer.old) clock.old words.old gate)
         (stream_state (R.remaining reader.new) alone.new (W.contents writer.new) clock.new words.new later) }
     ensures replies { IfSome (R.remaining reader.old) (λ stream. (gate later : NoGate) × IsServedAlone
-        (M.error_frame service.now) (M.private_frame service.now) (M.opens service.now peer)
+        (M.error_frame service.now) (M.private_frame service.now) (M.opens service.now ends)
         C.gives X.gives result stream
         (stream_state (R.remaining reader.old) alone.old (W.contents writer.old) clock.old words.old gate)
         (stream_state (R.remaining reader.new) alone.new (W.contents writer.new) clock.new words.new later)) }
@@ -171,7 +173,7 @@ pub fn serve_alone<R: Read, W: Write, M: Messages, S: JournalSink, C: Clock, X: 
     let ended = serve_stream(
         alloc,
         service,
-        peer,
+        ends,
         reader,
         writer,
         alone,

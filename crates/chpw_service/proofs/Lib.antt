@@ -1,3 +1,5 @@
+pub mod FaultLemmas
 pub mod RaisedLemmas
 pub mod RunningLemmas
+pub mod StatusLemmas
 pub mod WholeRunLemmas

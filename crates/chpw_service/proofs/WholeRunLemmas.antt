@@ -10,6 +10,8 @@ use Rattle.chpw_book.specs.Passes.{PassView}
 use Rattle.chpw_workers.specs.Clocks.{moment_after}
 use Rattle.chpw_invocation.specs.declared.invocation.ServeOptions.{ServeOptions}
 use Rattle.chpw_start.specs.Opening.{IsOpening}
+use Rattle.chpw_start.specs.Resuming.{IsTakenOver}
+use Rattle.chpw_table.specs.declared.table.resuming.Carried.{Carried}
 use Rattle.chpw_start.specs.Raised.{IsRaisedWhereAsked}
 use Rattle.chpw_desks.specs.ServiceRuns.{RunsTo, gives_moment, new_passes}
 use Rattle.chpw_start.specs.Rules.{AreRulesOf}
@@ -48,11 +50,11 @@ module _ {R L : Type 0} (options : ServeOptions) (key : List ℕ) (rules : Rules
       }
 
 -- and that is what its files say
-pub whole_run : {R L : Type 0} (options : ServeOptions) (config : Config) (rules : Rules) (given : Option (List ℕ)) (started since : Moment)
-    (found : Journal File) (seed : List ℕ) (table : Held) → AreRulesOf config options rules
-    → IsOpening gives_moment config given (moment_after 0) started found
-    → table ≡ found.table → IsServedFrom R L options (key_of seed) table rules since → IsWholeRun R L options
-whole_run {R} {L} options config rules given started since found seed table are opening tables served =
+pub whole_run : {R L : Type 0} (options : ServeOptions) (config : Config) (rules : Rules) (given : Option (List ℕ)) (started start since : Moment)
+    (found : Journal File) (left : Option Carried) (opened : Held) (seed : List ℕ) (table : Held) → AreRulesOf config options rules
+    → IsOpening gives_moment config given (moment_after 0) started found → IsTakenOver start.seconds found.table left opened
+    → table ≡ opened → IsServedFrom R L options (key_of seed) table rules since → IsWholeRun R L options
+whole_run {R} {L} options config rules given started start since found left opened seed table are opening taken tables served =
     record {
       config = config;
       rules = rules;
@@ -61,6 +63,10 @@ whole_run {R} {L} options config rules given started since found seed table are 
       given = given;
       found = found;
       opening = opening;
+      start = start;
+      left = left;
+      opened = opened;
+      taken = taken;
       seed = seed;
       since = since;
       served = subst (λ (t : Held). IsServedFrom R L options (key_of seed) t rules since) tables served;

@@ -9,6 +9,7 @@ use Rattle.chpw_start.specs.declared.fault.ServeFault.TheVariants.{CannotListen,
 use Rattle.chpw_start.specs.declared.fault.ServeFault.TheVariants.{CannotPrint, Memory, CannotClose}
 use Rattle.chpw_service.specs.declared.late_fault.LateFault.{LateFault}
 use Rattle.chpw_service.specs.declared.late_fault.LateFault.TheVariants as late
+use Rattle.chpw_start.specs.Resuming.{IsOfResume}
 use Rattle.chpw_start.specs.Faults.{IsLate, IsOfJournal, IsOfLog, IsOfModes, IsOfNames, IsOfSettings, IsUnread}
 
 -- the fault of the control socket, if there is one: the service can't listen at it
@@ -27,7 +28,7 @@ late_fault late.CannotClose = CannotClose
 -- a fault of a service with these files
 abbrev pub IsOfService : ServeOptions → ServeFault → Type 0
 IsOfService o fault = (IsOfSettings o.config.now fault ⊎ ((bytes : List ℕ) × IsOfNames bytes fault)) ⊎ (IsUnread o.seed.now fault ⊎ (IsOfModes o fault
-    ⊎ (IsOfLog o.log fault ⊎ (IsOfJournal o.journal.now fault ⊎ (IsOfControl o.control fault ⊎ IsLate fault)))))
+    ⊎ (IsOfLog o.log fault ⊎ (IsOfJournal o.journal.now fault ⊎ (IsOfResume o.resume fault ⊎ (IsOfControl o.control fault ⊎ IsLate fault))))))
 
 -- the fault of the service for a pool that ended early
 abbrev pub told_as : PoolFault → ServeFault

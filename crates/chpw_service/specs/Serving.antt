@@ -21,5 +21,6 @@ pub record IsAskedFor (options : ServeOptions) (seed : List ℕ) (terms : PoolOp
   pub seed_is : terms.seed ≡ seed
   pub connections : terms.connections ≡ limit_asked options.connections
   pub clients : terms.clients ≡ options.clients
+  pub clients_per_peer : terms.clients_per_peer ≡ options.clients_per_peer
   pub buffers : terms.buffers ≡ options.buffers
   pub idle : terms.idle ≡ options.idle

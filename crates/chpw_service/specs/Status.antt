@@ -16,13 +16,16 @@ use Rattle.chpw_kdc.specs.Dialogs.{State as Dialog}
 use Rattle.chpw_kdc.specs.declared.update.Refusal.{Refusal}
 use Rattle.chpw_kdc.specs.Spelling.{reason_word}
 use Rattle.chpw_printing.specs.Quoting.{name_text}
+use Rattle.chpw_journal.specs.Causes.{cause_text}
 use Rattle.chpw_logging.specs.Facts.{quiet_time}
 use Rattle.chpw_logging.specs.declared.facts.Facts.{Facts}
 use Rattle.chpw_service.specs.declared.readings.KdcReadings.{KdcReadings}
 use Rattle.chpw_service.specs.declared.readings.Readings.{Readings}
 
-abbrev pub journal_state : Bool → JournalState
-journal_state has_failed = if has_failed then Failed else Good
+-- why a journal failed, if it did
+abbrev pub reason_in : JournalState → Option (List ℕ)
+reason_in Good = None
+reason_in (Failed why) = Some why.now
 
 abbrev pub kdc_state : Option KdcReadings → KdcState
 kdc_state None = Absent
@@ -64,8 +67,10 @@ pub record IsStatusOf (version : List ℕ) (r : Readings) (f : Facts) (c : Conne
   pub busy : s.busy ≡ c.answering
   pub queue : s.queue ≡ c.waiting
   pub journal_bytes : s.journal_bytes ≡ r.journal_bytes
-  pub journal : s.journal ≡ journal_state r.has_failed
+  pub journal : reason_in s.journal ≡ option_map cause_text r.failure
+  pub journal_name : s.journal_name ≡ r.journal_name
   pub log_lost : s.log_lost ≡ f.lost
+  pub log_name : s.log_name ≡ r.log_name
   pub kdc : s.kdc ≡ kdc_state r.kdc
   pub kdc_since : s.kdc_since ≡ option_map (λ k. k.since) r.kdc
   pub kdc_behind : s.kdc_behind ≡ option_map_or (λ k. k.behind) r.kdc 0

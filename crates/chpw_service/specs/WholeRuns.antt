@@ -10,6 +10,8 @@ use Rattle.chpw_book.specs.Passes.{PassView}
 use Rattle.chpw_workers.specs.Clocks.{moment_after}
 use Rattle.chpw_invocation.specs.declared.invocation.ServeOptions.{ServeOptions}
 use Rattle.chpw_start.specs.Opening.{IsOpening}
+use Rattle.chpw_start.specs.Resuming.{IsTakenOver}
+use Rattle.chpw_table.specs.declared.table.resuming.Carried.{Carried}
 use Rattle.chpw_start.specs.Raised.{IsRaisedWhereAsked}
 use Rattle.chpw_desks.specs.ServiceRuns.{RunsTo, gives_moment, new_passes}
 use Rattle.chpw_start.specs.Rules.{AreRulesOf}
@@ -36,8 +38,8 @@ pub record IsServedFrom (R L : Type 0) (options : ServeOptions) (key : List ℕ)
   pub raised : IsRaisedWhereAsked gives_moment opening.state before after (new_passes options.workers) passes options.raise told
   pub served : IsServedByNewWorkers R L (is_some options.kdc) options key options.workers opening passes rules
 
--- there is a configuration that a text sets, by whose rules messages are answered, and with whose table, restored from what the
--- journal's file gave, the first desk opens
+-- there is a configuration that a text sets, by whose rules messages are answered. With its table, restored from what the journal's
+-- file gave, the first desk opens, or with that table once it has taken over what a resume file left that fits this start
 pub record IsWholeRun (R L : Type 0) (options : ServeOptions) : Type 0 where
   pub config : Config
   pub rules : Rules
@@ -46,6 +48,10 @@ pub record IsWholeRun (R L : Type 0) (options : ServeOptions) : Type 0 where
   pub given : Option (List ℕ)
   pub found : Journal File
   pub opening : IsOpening gives_moment config given (moment_after 0) started found
+  pub start : Moment
+  pub left : Option Carried
+  pub opened : Held
+  pub taken : IsTakenOver start.seconds found.table left opened
   pub seed : List ℕ
   pub since : Moment
-  pub served : IsServedFrom R L options (key_of seed) found.table rules since
+  pub served : IsServedFrom R L options (key_of seed) opened rules since

@@ -7,7 +7,7 @@ ghost use Rattle.chpw_printing.specs.Quoting.{name_text as printed_name};
 ghost use Rattle.chpw_service.specs.Status.{IsReadOf, IsStatusAnswer, refusal_words};
 
 use crate::readings::{KdcReadings, Readings};
-use crate::status::{answer_with, status_of};
+use crate::status::answer_of;
 use chpw_connections::Unconfirmed;
 use chpw_control::Time;
 use chpw_desks::{JournalLength, KdcPlace};
@@ -22,6 +22,7 @@ use chpw_transfers::ConnectionCounts;
 use chpw_workers::MachineClock;
 use mio::net::{UnixListener, UnixStream};
 use std::alloc::{AllocError, Global};
+use std::fs::Files;
 use std::net::{Net, TcpListener, TcpStream};
 use std::sync::Wait;
 use std::time::Clock;
@@ -171,8 +172,10 @@ impl<R: Net<Listener = TcpListener, Stream = TcpStream> + Wait + Eprint, T: Cloc
     }
 }
 
-impl<R: Net<Listener = TcpListener, Stream = TcpStream> + Wait + Eprint, T: Clock> StatusReporter
-    for SocketKdc<'_, R, T> {
+impl<
+    R: Files + Net<Listener = TcpListener, Stream = TcpStream> + Wait + Eprint,
+    T: Clock,
+> StatusReporter for SocketKdc<'_, R, T> {
     fn listener(&mut self) -> Option<UnixListener>
         ensures given { result ≡ self.old.listener }
         ensures none { self.new.listener ≡ None }
@@ -202,14 +205,13 @@ impl<R: Net<Listener = TcpListener, Stream = TcpStream> + Wait + Eprint, T: Cloc
             moment,
             workers: self.workers,
             journal_bytes: self.journal.bytes(),
-            has_failed: self.log.has_failed(),
+            failure: self.log.failure(),
+            journal_name: self.log.journal_name(),
+            log_name: self.log.log_name(),
             kdc: readings_of(kdc, self.changed),
         };
         let refused = refused.as_ref().map(|words| words.as_slice());
-        answer_with(
-            alloc,
-            &status_of(VERSION, &readings, &facts, standing, refused),
-        )
+        answer_of(alloc, VERSION, &readings, &facts, standing, refused)
     }
 }
 

@@ -1,6 +1,7 @@
-//! `serve`: the service on a port of this machine, from reading its files to closing its last desk.
+//! `serve`: the service at its addresses, from reading its files to closing its last desk.
 #![tactic(auto)]
 
+mod binding;
 mod control_socket;
 mod kdc;
 mod late_fault;

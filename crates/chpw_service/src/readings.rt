@@ -1,7 +1,8 @@
 //! What is read of a service for its status.
 ghost use Rattle.chpw_control.specs.Statuses.{IsTold};
 
-use chpw_control::Time;
+use chpw_control::{NameState, Time};
+use chpw_journal::SinkCause;
 use chpw_table::Moment;
 
 /// What is read of a service for its status, beside its counters and its connections.
@@ -13,8 +14,11 @@ pub(crate) struct Readings {
     pub moment: Moment,
     pub workers: u8,
     pub journal_bytes: u64,
-    /// Whether an append to the journal has failed.
-    pub has_failed: bool,
+    /// Why an append to the journal has failed, if one has.
+    pub failure: Option<SinkCause>,
+    /// Whether the names of journal and log lead to them.
+    pub journal_name: NameState,
+    pub log_name: NameState,
     /// What is read of the KDC, if there is one.
     pub kdc: Option<KdcReadings>,
 }

@@ -45,13 +45,15 @@ pub(crate) fn serve_from<
 >(
     rt: &'h R,
     time: &'h T,
-    listener: &TcpListener,
+    listeners: &[TcpListener],
     hall: &'h ServiceContext<'l, R>,
     control: ControlTerms,
     rules: Rules,
     first: Opened<D>,
     terms: PoolOptions,
 ) -> Result<(), ServeFault<'a>>
+where
+    R::Dir: Send + Sync,
     requires passes { length first.passes.items ≡ hall.now.workers }
     ensures served { OnOk result (IsServedByNewWorkers R (LogLines R) (is_some hall.now.kdc.socket) hall.now.options.now (key_of terms.seed)
         hall.now.workers (opening_table D.root) first.passes.items rules) }
@@ -59,7 +61,7 @@ pub(crate) fn serve_from<
 {
     let kdc = SocketKdc::of(rt, time, hall.log, &hall.journal, hall.kdc, control);
     let mut first = Some(first);
-    let ended = serve_with_staff(rt, time, listener, hall, kdc, rules, &mut first, terms);
+    let ended = serve_with_staff(rt, time, listeners, hall, kdc, rules, &mut first, terms);
     match first {
         None => {}
         Some(Opened { desk, passes }) => {
@@ -92,7 +94,7 @@ fn serve_with_staff<
 >(
     rt: &'h R,
     time: &'t T,
-    listener: &TcpListener,
+    listeners: &[TcpListener],
     hall: &'h ServiceContext<'l, R>,
     kdc: F,
     rules: Rules,
@@ -109,7 +111,7 @@ fn serve_with_staff<
         Ok(workers) => serve_all(
             rt,
             time,
-            listener,
+            listeners,
             hall,
             kdc,
             rules,
@@ -142,7 +144,7 @@ fn serve_all<
 >(
     rt: &'h R,
     time: &'t T,
-    listener: &TcpListener,
+    listeners: &[TcpListener],
     hall: &'h ServiceContext<'l, R>,
     kdc: F,
     rules: Rules,
@@ -166,7 +168,7 @@ fn serve_all<
         {
             let engine = &hall.engine;
             if scope
-                .spawn(move || engine.react(rt, listener, connections, kdc))
+                .spawn(move || engine.react(rt, listeners, connections, kdc))
                 .is_err()
             {
                 return Err(LateFault::Memory);

@@ -11,10 +11,10 @@ ghost use Rattle.chpw_start.specs.Raised.{IsRaisedWhereAsked};
 ghost use Rattle.chpw_service.specs.Serving.{IsAskedFor, limit_asked, reach_asked};
 ghost use Rattle.chpw_start.specs.declared.raising.RaiseReport.{RaiseReport};
 ghost use Rattle.chpw_service.specs.WholeRuns.{IsServedFrom, IsWholeRun};
-ghost use Rattle.chpw_start.specs.declared.fault.ServeFault.TheVariants.{CannotListen};
 ghost use Rattle.chpw_logging.specs.declared.logging.LogLines.{LogLines};
 ghost use Rattle.rand_chacha.specs.ChaCha.{key_of};
 
+use crate::binding::{BoundSockets, bind};
 use crate::control_socket::{control_socket, take_away};
 use crate::kdc::ControlTerms;
 use crate::running::{serve_fault_of, serve_from};
@@ -27,32 +27,37 @@ use chpw_desks::{
 use chpw_invocation::{ConnectionLimit, ServeOptions};
 use chpw_journal::{FileSink, Journal};
 use chpw_logging::{Log, Notice, log_of, time_of};
+use chpw_printing::put_time;
 use chpw_reactor::{Engine, PoolOptions, dialog_with};
 use chpw_rules::NamePatterns;
 use chpw_serve::{Clock as _, Messages as _};
-use chpw_sockets::DatagramSocket;
+use chpw_sockets::DatagramSockets;
 use chpw_start::{
-    Configuration, Rules, ServeFault, configuration_of, is_shared, kdc_names, open_table, own_ids,
-    raise_where_asked, read_seed, refuse_exposed, rules_of, standing_at,
+    Configuration, Resumption, Rules, ServeFault, SetAside, configuration_of, is_shared, kdc_names,
+    open_table, own_ids, raise_where_asked, read_seed, refuse_exposed, refuse_missing,
+    resume_where_asked, rules_of, standing_at,
 };
-use chpw_table::Table;
+use chpw_table::{LAST_SECOND, Moment, Table};
 use chpw_transfers::{AcceptLimit, KdcSide};
 use chpw_workers::MachineClock;
 use std::alloc::Global;
 use std::fs::{File, Files};
 use std::marker::Brand;
-use std::net::{Ipv4Addr, Net, TcpListener, TcpStream, UdpSocket};
+use std::net::{Net, SocketAddr, TcpListener, TcpStream};
 use std::rt::Env;
+use std::str;
 use std::sync::Wait;
 use std::thread::Threads;
 use std::time::Clock;
 
-/// Serves so many connections on 127.0.0.1, the messages of connection i (from 0) by worker i modulo their number,
+/// Serves so many connections at its addresses, the messages of connection i (from 0) by worker i modulo their number,
 /// one after the other. The configuration is read first, then the seed; with strict modes the start is refused then if
-/// others may read, write or replace its files; then the log is opened if there is one, and the journal is read; then the
-/// iteration count of new keys is raised if that is asked for, and the service listens at the port. A torn tail that
+/// others may read, write or replace its files, and where the journal must exist, if it doesn't; then the log is opened if
+/// there is one, its addresses are bound, and the journal is read; then what a clean end left in the resume file is taken
+/// over, if there is one and it fits; then the iteration count of new keys is raised if that is asked for, and the service
+/// listens. A torn tail that
 /// was cut off the journal is reported on standard error. Printed are the result of the raise, `listening on
-/// 127.0.0.1:N` before a connection is accepted, when the service manager is told too, and `entries N changes N` for
+/// ADDRESS:PORT` for each address before a connection is accepted, when the service manager is told too, and `entries N changes N` for
 /// each history: when one is full, its desk is closed, and the next one opens with the closed table and its used ids.
 /// With a control socket it carries out the commands that come there, and ends when told to stop.
 pub fn serve<
@@ -68,6 +73,8 @@ pub fn serve<
         + AllocGlobal
         + Sync,
 >(rt: &R, options: ServeOptions<'a>) -> Result<(), ServeFault<'a>>
+where
+    R::Dir: Send + Sync,
     ensures run { OnOk result (IsWholeRun R (LogLines R) options.entry) }
     ensures fault { IfErr result (IsOfService options.entry) }
 {
@@ -89,6 +96,8 @@ pub fn serve_by<
         + Sync,
     T: Clock + Sync,
 >(rt: &R, time: &T, options: ServeOptions<'a>) -> Result<(), ServeFault<'a>>
+where
+    R::Dir: Send + Sync,
     ensures run { OnOk result (IsWholeRun R (LogLines R) options.entry) }
     ensures fault { IfErr result (IsOfService options.entry) }
 {
@@ -96,40 +105,60 @@ pub fn serve_by<
     let names = kdc_names(rt.alloc(), &text)?;
     let seed = read_seed(rt, options.seed)?;
     refuse_exposed(rt, &options)?;
+    refuse_missing(rt, &options)?;
     let log = log_of(rt, rt.alloc(), &options)?;
     let Ok(rules) = rules_of(rt.alloc(), &config, text, &options) else {
         return Err(ServeFault::Memory);
     };
+    let sockets = bind(rt, &options, rules.service.realm())?;
     let mut clock = MachineClock::new(time);
     let Journal {
         table,
         mut sink,
         found: _,
         cut_at,
-    } = open_table(rt, rt.alloc(), config, options.journal, &mut clock)?;
+    } = open_table(
+        rt,
+        rt.alloc(),
+        config,
+        options.journal,
+        options.existing_journal,
+        &mut clock,
+    )?;
+    let start = clock.now();
+    let is_cut = cut_at.is_some();
+    let resumption = resume_where_asked(rt, &options, start, table, sink.file(), is_cut)?;
+    let Resumption { table, set_aside } = resumption;
     let journal = journal_length(rt.alloc(), options.journal, &mut sink)?;
+    let Ok(marks) = journal.marks() else {
+        return Err(ServeFault::Memory);
+    };
+    log.watch(marks);
     if let Some(kept) = cut_at {
         log.tell(Notice::TailCut(options.journal, kept));
     }
+    tell_set_aside(&log, &options, set_aside);
     tell_shared(rt, &log, &options);
     let listener = control_socket(rt, options.control)?;
     let since = clock.now();
     log.tell_start(since, &table);
+    tell_quiet(rt.alloc(), &log, since, &table);
     let kdc = kdc_side(rt, &options, &table, names);
     let opening = first_opening(table, sink, options.workers);
-    let start = Start {
+    let service = Start {
         options: &options,
         terms: terms_of(&options, seed),
         log: &log,
         journal,
         kdc,
+        sockets,
     };
     let control = ControlTerms {
         listener,
         since: time_of(since),
         workers: options.workers,
     };
-    let ended = serve_opened::<Brand, R, T>(rt, time, start, control, rules, opening, &mut clock);
+    let ended = serve_opened::<Brand, R, T>(rt, time, service, control, rules, opening, &mut clock);
     notify_stopping(rt);
     take_away(rt, options.control);
     log.end(clock.now());
@@ -168,6 +197,31 @@ fn reach_asked(is_asked: bool, wait: u32) -> Option<u64>
     }
 }
 
+// Reports why the resume file was set aside, if it was.
+fn tell_set_aside<R: Wait + Eprint>(
+    log: &Log<'_, R>,
+    options: &ServeOptions<'_>,
+    set_aside: Option<SetAside>,
+) {
+    if let (Some(path), Some(why)) = (options.resume, set_aside) {
+        log.tell(Notice::SetAside(path, why));
+    }
+}
+
+// Reports until when requests are refused, if they are at this moment.
+fn tell_quiet<R: Wait + Eprint>(alloc: Global, log: &Log<'_, R>, now: Moment, table: &Table) {
+    let until = table.quiet_until();
+    if until < now.seconds || !(0..=LAST_SECOND).contains(&until) {
+        return;
+    }
+    let mut text = Vec::new(alloc);
+    if put_time(&mut text, until, 0).is_ok() {
+        if let Ok(text) = str::from_utf8(&text) {
+            log.tell(Notice::Quiet(text));
+        }
+    }
+}
+
 // Reports which of its files others may read or write.
 fn tell_shared<R: Files + Wait + Eprint>(rt: &R, log: &Log<'_, R>, options: &ServeOptions<'_>) {
     for file in [options.config, options.seed, options.journal] {
@@ -185,6 +239,7 @@ struct Start<'l, R> {
     log: &'l Log<'l, R>,
     journal: JournalLength,
     kdc: Option<KdcSide>,
+    sockets: BoundSockets,
 }
 
 // Serves what is opened: at the first desk the count is raised if that is asked for, and then the service listens at
@@ -214,6 +269,8 @@ fn serve_opened<
     opening: Opening,
     clock: &mut MachineClock<'_, T>,
 ) -> Result<(), ServeFault<'a>>
+where
+    R::Dir: Send + Sync,
     requires name { IsNamed opening.unnamed D.name D.parts D.book D.root D.workers }
     requires workers { workers_of opening.unnamed ≡ start.options.now.workers }
     ensures served { OnOk result (IsServedFrom R (LogLines R) start.entry.options.now (key_of start.entry.terms.seed)
@@ -224,11 +281,10 @@ fn serve_opened<
         return Err(ServeFault::Memory);
     };
     let terms = start.terms;
-    let realm = rules.service.realm();
-    match raise_and_listen(rt, time, start, realm, &desk, &mut passes, clock) {
-        Ok((listener, hall)) => {
+    match raise_and_listen(rt, time, start, &desk, &mut passes, clock) {
+        Ok((listeners, hall)) => {
             let first = Opened { desk, passes };
-            serve_from(rt, time, &listener, &hall, control, rules, first, terms)
+            serve_from(rt, time, &listeners, &hall, control, rules, first, terms)
         }
         Err(fault) => {
             desk.abandon(rt);
@@ -249,11 +305,10 @@ fn raise_and_listen<
     rt: &R,
     time: &T,
     start: Start<'l, R>,
-    realm: &[u8],
     desk: &Desk<D, FileSink<File>>,
     passes: &mut [Pass<D>],
     clock: &mut C,
-) -> Result<(TcpListener, ServiceContext<'l, R>), ServeFault<'a>>
+) -> Result<(Vec<TcpListener>, ServiceContext<'l, R>), ServeFault<'a>>
     ensures workers { IfOk result (λ r. r.1.workers ≡ start.entry.options.now.workers) }
     ensures options { IfOk result (λ r. r.1.options.now ≡ start.entry.options.now) }
     ensures kdc { IfOk result (λ r. (r.1.kdc.socket ≡ start.entry.options.now.kdc)
@@ -266,19 +321,15 @@ fn raise_and_listen<
     if let Some(told) = raise_where_asked(rt, desk, passes, clock, start.options.raise)? {
         start.log.tell_raise(MachineClock::new(time).now(), told);
     }
-    listening(rt, start, realm)
+    listening(rt, start)
 }
 
-// Listens at the port, and prints that. Over UDP tickets of this realm are answered.
+// Listens, and prints at which addresses.
 fn listening<
     'a,
     'l,
     R: Net<Listener = TcpListener, Stream = TcpStream> + Wait + Env + Print + Eprint + AllocGlobal,
->(
-    rt: &R,
-    start: Start<'l, R>,
-    realm: &[u8],
-) -> Result<(TcpListener, ServiceContext<'l, R>), ServeFault<'a>>
+>(rt: &R, start: Start<'l, R>) -> Result<(Vec<TcpListener>, ServiceContext<'l, R>), ServeFault<'a>>
     ensures workers { IfOk result (λ r. r.1.workers ≡ start.entry.options.now.workers) }
     ensures options { IfOk result (λ r. r.1.options.now ≡ start.entry.options.now) }
     ensures kdc { IfOk result (λ r. (r.1.kdc.socket ≡ start.entry.options.now.kdc)
@@ -291,9 +342,11 @@ fn listening<
         log,
         journal,
         kdc,
+        sockets: BoundSockets {
+            listeners,
+            datagrams,
+        },
     } = start;
-    let listener = listen(rt, options.port)?;
-    let datagrams = datagrams_of(rt, options, realm)?;
     let engine = engine_of(rt, rt.alloc(), options.workers, &terms, datagrams, kdc)?;
     let hall = ServiceContext {
         engine,
@@ -306,48 +359,14 @@ fn listening<
         },
         options,
     };
-    match println!(rt; "listening on 127.0.0.1:{}", options.port) {
-        Ok(()) => {
-            notify_ready(rt, hall.log);
-            Ok((listener, hall))
+    for address in options.listen.as_slice() {
+        let place = SocketAddr::new(*address, options.port);
+        if println!(rt; "listening on {place}").is_err() {
+            return Err(ServeFault::CannotPrint);
         }
-        Err(_) => Err(ServeFault::CannotPrint),
     }
-}
-
-fn listen<'a, R: Net<Listener = TcpListener, Stream = TcpStream>>(
-    rt: &R,
-    port: u16,
-) -> Result<TcpListener, ServeFault<'a>>
-    ensures fault { IfErr result (λ fault. fault ≡ CannotListen) }
-{
-    match TcpListener::bind(rt, (Ipv4Addr::LOCALHOST, port)) {
-        Ok(listener) => Ok(listener),
-        Err(_) => Err(ServeFault::CannotListen),
-    }
-}
-
-// The port over UDP, if that is asked for, where tickets of this realm are answered.
-fn datagrams_of<'a, R: Net + AllocGlobal>(
-    rt: &R,
-    options: &ServeOptions<'_>,
-    realm: &[u8],
-) -> Result<Option<DatagramSocket>, ServeFault<'a>>
-    ensures none { options.now.udp ≡ false → result ≡ Ok None }
-    ensures asked { options.now.udp ≡ true → IfOk result (λ socket. IsSome socket) }
-    ensures realm { IfOk result (λ socket. IfSome socket (λ s. s.realm.items ≡ realm.now)) }
-    ensures fault { IfErr result IsLate }
-{
-    if !options.udp {
-        return Ok(None);
-    }
-    let Ok(realm) = Vec::from_slice(rt.alloc(), realm) else {
-        return Err(ServeFault::Memory);
-    };
-    match UdpSocket::bind(rt, (Ipv4Addr::LOCALHOST, options.port)) {
-        Ok(socket) => Ok(Some(DatagramSocket { socket, realm })),
-        Err(_) => Err(ServeFault::CannotListen),
-    }
+    notify_ready(rt, hall.log);
+    Ok((listeners, hall))
 }
 
 // The terms of the pool.
@@ -358,6 +377,7 @@ fn terms_of(options: &ServeOptions<'_>, seed: [u8; 32]) -> PoolOptions
         seed,
         connections: limit_of(options.connections),
         clients: options.clients,
+        clients_per_peer: options.clients_per_peer,
         buffers: options.buffers,
         idle: options.idle,
     }
@@ -379,7 +399,7 @@ fn engine_of<'a, R: Net>(
     alloc: Global,
     workers: u8,
     terms: &PoolOptions,
-    datagrams: Option<DatagramSocket>,
+    datagrams: Option<DatagramSockets>,
     kdc: Option<KdcSide>,
 ) -> Result<Engine, ServeFault<'a>>
     requires some_workers { 1 ≤ workers }

@@ -14,7 +14,9 @@ use Rattle.chpw_connection.specs.Holding.{held_by, begun_of}
 use Rattle.chpw_connection.specs.Messages.{wanted_after}
 use Rattle.chpw_connection.specs.Slot.{queued_by, queued_at, Comes, waits, waits_since, is_ended, is_ended_in, is_newly_queued}
 use Rattle.chpw_slots.specs.Slots.{Happens}
-use Rattle.chpw_slots.specs.Longest.{IsLongest, IsLongestBesides}
+use Rattle.chpw_slots.specs.Longest.{IsLongest, IsLongestBesides, IsLongestOf}
+use Rattle.chpw_endpoints.specs.declared.peer.Peer.{Peer}
+use Rattle.chpw_connection.specs.Shares.{is_of_peer, waits_of_peer}
 use Rattle.chpw_connection.specs.Eviction.{gives_way_since, is_held_back, is_among}
 use Rattle.chpw_slots.specs.Waiting.{queue_in, waits_for, times, times_for, Holds, Becomes, Leaves, without}
 use Rattle.chpw_connection.specs.declared.connection.Connection.{Connection}
@@ -279,6 +281,20 @@ client_none (Some c) since is = by_stage (stage c) is
 
 pub longest_not_queued : (slots : Slab Connection) (slot : ℕ) → IsLongest slots slot → queued_at (get slots slot) ≡ None
 longest_not_queued slots slot is = client_none (get slots slot) is.0 is.1
+
+-- nor one of a peer's that waits for its client
+waits_of_waits : (peer : Peer) (o : Option Connection) (since : ℕ) → waits_of_peer peer o ≡ Some since → (s : ℕ) × (waits_since o ≡ Some s)
+waits_of_waits peer None since is = absurd cc
+waits_of_waits peer (Some c) since is = (c.since, by_tests (is_of_peer peer c) (waits (stage c)) is)
+  where
+    by_tests : (a b : Bool) → cond (a && b) (Some c.since) None ≡ Some since → cond b (Some c.since) None ≡ Some c.since
+    by_tests true true e = refl
+    by_tests true false e = absurd cc
+    by_tests false b e = absurd cc
+
+pub longest_of_not_queued : (peer : Peer) (slots : Slab Connection) (slot : ℕ) → IsLongestOf peer slots slot → queued_at (get slots slot) ≡ None
+longest_of_not_queued peer slots slot is =
+    let waiting = waits_of_waits peer (get slots slot) is.0 is.1 in client_none (get slots slot) waiting.0 waiting.1
 
 -- who gives way waits for its client
 gives_waits : (who : EvictionRule) (o : Option Connection) (since : ℕ) → gives_way_since who o ≡ Some since → (s : ℕ) × (waits_since o ≡ Some s)

@@ -1,19 +1,36 @@
--- Which connection has waited the longest, of all or of those that give way, and how many bytes would stay without these.
+-- Which connection has waited the longest, of all, of a peer's or of those that give way, and how many bytes would stay
+-- without these.
 use Rattle.std.specs.Prelude.{◌≡◌, ℕ, ◌≤◌, Option, Some, None, Bool, if◌then◌else◌, nat_le, ◌-◌, ◌+◌, ◌==◌, not, nat_lt, sum_by}
 use Rattle.slab.specs.Slab.{Slab, get}
+use Rattle.chpw_endpoints.specs.declared.peer.Peer.{Peer}
 use Rattle.chpw_connection.specs.declared.connection.Connection.{Connection}
 use Rattle.chpw_slots.specs.Slots.{held_in}
 use Rattle.chpw_connection.specs.Slot.{waits_since}
+use Rattle.chpw_connection.specs.Shares.{waits_of_peer}
 use Rattle.chpw_connection.specs.declared.eviction.EvictionRule.{EvictionRule}
 use Rattle.chpw_connection.specs.Eviction.{gives_way_since, given_at}
 
+-- of those that wait, each since its moment, this one has waited longest
+abbrev pub IsEarliest : (ℕ → Option ℕ) → ℕ → Type 0
+IsEarliest since_at slot = (since : ℕ) × (since_at slot ≡ Some since) × ((other s : ℕ) → since_at other ≡ Some s → since ≤ s)
+
+-- nobody waits
+abbrev pub IsNever : (ℕ → Option ℕ) → Type 0
+IsNever since_at = (slot : ℕ) → since_at slot ≡ None
+
 -- this connection has waited for its client the longest
 abbrev pub IsLongest : Slab Connection → ℕ → Type 0
-IsLongest slots slot = (since : ℕ) × (waits_since (get slots slot) ≡ Some since)
-    × ((other s : ℕ) → waits_since (get slots other) ≡ Some s → since ≤ s)
+IsLongest slots slot = IsEarliest (λ s. waits_since (get slots s)) slot
 
 abbrev pub NobodyWaits : Slab Connection → Type 0
-NobodyWaits slots = (slot : ℕ) → waits_since (get slots slot) ≡ None
+NobodyWaits slots = IsNever (λ s. waits_since (get slots s))
+
+-- of those in a peer's share this one has
+abbrev pub IsLongestOf : Peer → Slab Connection → ℕ → Type 0
+IsLongestOf peer slots slot = IsEarliest (λ s. waits_of_peer peer (get slots s)) slot
+
+abbrev pub NobodyWaitsOf : Peer → Slab Connection → Type 0
+NobodyWaitsOf peer slots = IsNever (λ s. waits_of_peer peer (get slots s))
 
 -- the earlier of two that wait
 abbrev pub earlier : Option (ℕ × ℕ) → ℕ → Option ℕ → Option (ℕ × ℕ)
@@ -40,8 +57,7 @@ waits_besides slots (Some besides) who slot = if slot == besides then None else 
 
 -- among these, this one has waited longest
 abbrev pub IsLongestBesides : Slab Connection → Option ℕ → EvictionRule → ℕ → Type 0
-IsLongestBesides slots besides who slot = (since : ℕ) × (waits_besides slots besides who slot ≡ Some since)
-    × ((other s : ℕ) → waits_besides slots besides who other ≡ Some s → since ≤ s)
+IsLongestBesides slots besides who slot = IsEarliest (λ s. waits_besides slots besides who s) slot
 
 abbrev pub NobodyWaitsBesides : Slab Connection → Option ℕ → EvictionRule → Type 0
-NobodyWaitsBesides slots besides who = (slot : ℕ) → waits_besides slots besides who slot ≡ None
+NobodyWaitsBesides slots besides who = IsNever (λ s. waits_besides slots besides who s)

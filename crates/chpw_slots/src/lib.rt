@@ -5,6 +5,7 @@
 mod counting;
 pub mod laws;
 mod longest;
+mod sharing;
 mod slots;
 mod waiting;
 

@@ -80,7 +80,7 @@ impl Slots {
 }
 
 // The earlier of two connections that wait.
-fn earlier_of(
+pub(crate) fn earlier_of(
     longest: Option<(u64, usize)>,
     slot: usize,
     since: Option<u64>,

@@ -1,6 +1,6 @@
 //! Connections by slot, and how each event comes to one of them.
 ghost use Rattle.std.specs.Prelude.{◌≡◌, ◌+◌, ◌<◌, ◌≤◌, ◌^◌, ◌%◌, ℕ, Some, None, IfSome, IfNone, IfOk, OnOk};
-ghost use Rattle.std.specs.Prelude.{OnErr, OnSome, option_copied, option_map, length, is_some, if◌then◌else◌};
+ghost use Rattle.std.specs.Prelude.{false, OnErr, OnSome, option_copied, option_map, length, is_some, if◌then◌else◌};
 ghost use Rattle.slab.specs.Slab.{get, slab_len, HasRoomFor, Updates};
 ghost use Rattle.chpw_connection.specs.Holding.{held_by, held_at, growth_at};
 ghost use Rattle.chpw_slots.specs.Slots.{held_in, Happens, Stands};
@@ -8,31 +8,41 @@ ghost use Rattle.chpw_connection.specs.Changes.{event_of, added_by};
 ghost use Rattle.chpw_connection.specs.Stages.{came, taken, failed};
 ghost use Rattle.chpw_connection.specs.Slot.{wanted_at, left_at, queued_at, is_newly_queued};
 ghost use Rattle.chpw_slots.specs.Waiting.{waits_for};
+ghost use Rattle.chpw_connection.specs.Shares.{one_of_share};
+ghost use Rattle.chpw_endpoints.specs.declared.peer.Peer.{Peer};
+ghost use Rattle.chpw_slots.specs.Shares.{count_of, is_share_full, IsShared};
 
 use chpw_connection::{Change, Connection, Phase, WholeMessage};
+use chpw_endpoints::{Endpoints, Peer};
 use slab::Slab;
 use std::alloc::{AllocError, Global};
 
-/// Connections, each in a slot of its own, and how many bytes they hold together.
+/// Connections, each in a slot of its own, how many bytes they hold together, and how many may be one peer's.
 #[derive(Drop)]
 pub struct Slots {
     pub connections: Slab<Connection>,
     pub held: usize,
+    pub per_peer: usize,
     pub ghost held_is: { held ≡ held_in connections },
     // So what adds no bytes fits.
     pub ghost fits: { held_in connections < 2 ^ 64 },
+    // No peer has more than its share.
+    pub ghost shared: { IsShared per_peer connections },
 }
 
 impl Slots {
-    /// None yet, with room for `count`.
-    pub fn new(alloc: Global, count: usize) -> Result<Slots, AllocError>
+    /// None yet, with room for `count`, of which one peer may have `per_peer`.
+    #[tactic(auto, using(crate::proofs::PeerLemmas::shared_none))]
+    pub fn new(alloc: Global, count: usize, per_peer: usize) -> Result<Slots, AllocError>
         ensures none { IfOk result (λ s. slab_len s.connections ≡ 0) }
         ensures room { IfOk result (λ s. count ≤ s.connections.capacity) }
         ensures nothing { IfOk result (λ s. s.held ≡ 0) }
+        ensures per_peer { IfOk result (λ s. s.per_peer ≡ per_peer) }
     {
         Ok(Slots {
             connections: Slab::with_capacity(alloc, count)?,
             held: 0,
+            per_peer,
         })
     }
 
@@ -44,10 +54,12 @@ impl Slots {
     }
 
     /// Puts a connection that was accepted just now into a free slot.
-    #[tactic(auto, using(crate::proofs::HeldLemmas::held_adds))]
+    #[tactic(auto, using(crate::proofs::HeldLemmas::held_adds, crate::proofs::PeerLemmas::shared_accepted))]
     pub fn accept(&mut self, connection: Connection) -> usize
         requires room { HasRoomFor self.old.connections 1 }
         requires nothing { held_by connection.phase ≡ 0 }
+        requires share { is_share_full self.old.per_peer self.old.connections connection.share ≡ false }
+        ensures per_peer { self.new.per_peer ≡ self.old.per_peer }
         ensures free { get self.old.connections result ≡ None }
         ensures updates { Updates self.old.connections self.new.connections result (Some connection) }
         ensures len { slab_len self.new.connections ≡ slab_len self.old.connections + 1 }
@@ -64,12 +76,13 @@ impl Slots {
         ensures len { slab_len self.new.connections + (if result then 1 else 0) ≡ slab_len self.old.connections }
         ensures there { result ≡ is_some (get self.old.connections slot) }
         ensures held { self.new.held ≤ self.old.held }
+        ensures per_peer { self.new.per_peer ≡ self.old.per_peer }
     {
         self.take_out(slot).is_some()
     }
 
     // Takes the connection out of a slot, which is the next one to be filled.
-    #[tactic(auto, using(crate::proofs::HeldLemmas::held_updates))]
+    #[tactic(auto, using(crate::proofs::HeldLemmas::held_updates, crate::proofs::PeerLemmas::shared_removed, crate::proofs::PeerLemmas::shared_with))]
     fn take_out(&mut self, slot: usize) -> Option<Connection>
         ensures value { result ≡ get self.old.connections slot }
         ensures updates { Updates self.old.connections self.new.connections slot None }
@@ -79,18 +92,26 @@ impl Slots {
         ensures room { OnSome result (HasRoomFor self.new.connections 1) }
         ensures held { self.new.held + held_at result ≡ self.old.held }
         ensures fits { IfSome result (λ c. self.new.held + held_by c.phase < 2 ^ 64) }
+        ensures share { IfSome result (λ c. (peer : Peer) → count_of peer self.new.connections + one_of_share peer c.share ≤ self.new.per_peer) }
+        ensures per_peer { self.new.per_peer ≡ self.old.per_peer }
         ensures absent { IfNone result (self.new ≡ self.old) }
     {
-        let connection = self.connections.try_remove(slot)?;
-        self.held -= connection.bytes_held();
-        Some(connection)
+        match self.connections.try_remove(slot) {
+            None => None,
+            Some(connection) => {
+                self.held -= connection.bytes_held();
+                Some(connection)
+            }
+        }
     }
 
     // Puts a connection into the slot that is the next one to be filled.
-    #[tactic(auto, using(crate::proofs::HeldLemmas::held_adds))]
+    #[tactic(auto, using(crate::proofs::HeldLemmas::held_adds, crate::proofs::PeerLemmas::shared_put))]
     fn put_back(&mut self, connection: Connection)
         requires room { HasRoomFor self.old.connections 1 }
         requires fits { self.old.held + held_by connection.phase < 2 ^ 64 }
+        requires share { (peer : Peer) → count_of peer self.old.connections + one_of_share peer connection.share ≤ self.old.per_peer }
+        ensures per_peer { self.new.per_peer ≡ self.old.per_peer }
         ensures updates { Updates self.old.connections self.new.connections self.old.connections.vacant_key (Some connection) }
         ensures len { slab_len self.new.connections ≡ slab_len self.old.connections + 1 }
         ensures capacity { self.new.connections.capacity ≡ self.old.connections.capacity }
@@ -110,6 +131,7 @@ impl Slots {
         ensures reading { OnErr result (queued_at (get self.old.connections slot) ≡ None) }
         ensures stands { Stands self.old.connections self.new.connections }
         ensures held { self.new.held ≤ self.old.held + growth_at (get self.old.connections slot) }
+        ensures per_peer { self.new.per_peer ≡ self.old.per_peer }
     {
         match self.take_out(slot) {
             None => Ok(false),
@@ -128,6 +150,7 @@ impl Slots {
         ensures none { IfNone result (queued_at (get self.old.connections slot) ≡ None) }
         ensures stands { Stands self.old.connections self.new.connections }
         ensures held { self.new.held ≤ self.old.held }
+        ensures per_peer { self.new.per_peer ≡ self.old.per_peer }
     {
         match self.take_out(slot) {
             None => None,
@@ -145,6 +168,7 @@ impl Slots {
         ensures happens { Happens now self.old.connections self.new.connections slot (event_of change) }
         ensures stands { Stands self.old.connections self.new.connections }
         ensures held { self.new.held ≤ self.old.held + added_by change }
+        ensures per_peer { self.new.per_peer ≡ self.old.per_peer }
     {
         if let Some(mut connection) = self.take_out(slot) {
             connection.change(alloc, change, now);
@@ -182,13 +206,13 @@ impl Slots {
         }
     }
 
-    /// The peer of the connection in a slot.
-    pub fn peer(&self, slot: usize) -> [u8; 4]
-        ensures value { IfSome (get self.now.connections slot) (λ c. result ≡ c.peer) }
+    /// The two addresses of the connection in a slot.
+    pub fn ends(&self, slot: usize) -> Endpoints
+        ensures value { IfSome (get self.now.connections slot) (λ c. result ≡ c.ends) }
     {
         match self.connections.get(slot) {
-            None => [0; 4],
-            Some(connection) => connection.peer,
+            None => Endpoints::LOOPBACK,
+            Some(connection) => connection.ends,
         }
     }
 

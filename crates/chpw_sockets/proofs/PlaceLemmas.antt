@@ -29,13 +29,13 @@ worker_of progress.None = 0
 -- a datagram that waits, with the copy of its message at its place
 pub is_queued : {S : Type 0} → (sender : Sender) (message copy : List ℕ) (before after : List (Option (Transport S)))
     (b : ConnectionLimits) (now number : ℕ) (old new : Slab Connection) (slot queued worker workers : ℕ) → progress.Queued queued ≡ progress.Queued worker
-    → TakesDatagram b now sender.address number message old new slot queued workers → copy ≡ message
+    → TakesDatagram b now sender.ends number message old new slot queued workers → copy ≡ message
     → (slot < length before → IsPlaced after slot sender copy)
     → ((other : ℕ) → (other ≡ slot → ⊥) → slice_get after other ≡ slice_get before other)
     → IsQueued sender message before after b now number old new worker workers
 is_queued sender message copy before after b now number old new slot queued worker workers is taken same placed others = record {
   slot = slot;
-  taken = subst (λ (w : ℕ). TakesDatagram b now sender.address number message old new slot w workers) (ap worker_of is) taken;
+  taken = subst (λ (w : ℕ). TakesDatagram b now sender.ends number message old new slot w workers) (ap worker_of is) taken;
   placed = λ within. subst (λ (m : List ℕ). IsPlaced after slot sender m) same (placed within);
   others = others;
 }

@@ -61,7 +61,7 @@ AreElsewhere before after slot = (other : ℕ) → (other ≡ slot → ⊥) → 
 pub record IsQueued {S : Type 0} (sender : Sender) (message : List ℕ) (before after : List (Option (Transport S))) (b : ConnectionLimits) (now number : ℕ)
     (old new : Slab Connection) (worker workers : ℕ) : Type 0 where
   pub slot : ℕ
-  pub taken : TakesDatagram b now sender.address number message old new slot worker workers
+  pub taken : TakesDatagram b now sender.ends number message old new slot worker workers
   pub placed : slot < length before → IsPlaced after slot sender message
   pub others : (other : ℕ) → (other ≡ slot → ⊥) → slice_get after other ≡ slice_get before other
 

@@ -1,6 +1,5 @@
 -- Whom datagrams come from, and whom their replies go to.
 use Rattle.std.specs.Prelude.{◌≡◌, ℕ, ◌⊎◌, List, [], length, nat_lt, Option, Some, None, MatchBool}
-use Rattle.std.specs.declared.net.socket_addr.SocketAddr.{SocketAddr}
 use Rattle.slab.specs.Slab.{Slab, get}
 use Rattle.chpw_slots.specs.Slots.{Happens}
 use Rattle.chpw_connection.specs.Slot.{left_at}
@@ -12,7 +11,6 @@ use Rattle.chpw_connection.specs.declared.todo.Todo.TheVariants as todo
 use Rattle.chpw_datagrams.specs.Answers.{Answer, reply_for}
 use Rattle.chpw_datagrams.specs.Senders.{IsAnswered}
 use Rattle.chpw_datagrams.specs.declared.sender.Sender.{Sender}
-use Rattle.chpw_sockets.specs.Addresses.{IsAddressOf, sender_in}
 use Rattle.chpw_transfers.specs.Datagrams.{in_datagram}
 use Rattle.chpw_sockets.specs.Deciding.{KeepsReply, QueuesThis}
 use Rattle.chpw_sockets.specs.Sending.{Mail, Sends, Brings}
@@ -45,7 +43,7 @@ post_at left sent (Some d) = post_of left sent d
 -- than its request goes nowhere.
 abbrev pub Replies : Sender → List ℕ → List ℕ → Mail → Mail → Type 0
 Replies sender request reply before after = MatchBool (nat_lt (length request) (length (in_datagram reply)))
-    (after ≡ before) ((to : SocketAddr) × (IsAddressOf sender to × Sends to (in_datagram reply) before after))
+    (after ≡ before) (Sends sender (in_datagram reply) before after)
 
 -- The reply of this connection was sent to the sender of its datagram, which the connection has noted, and is kept as
 -- the answer to this datagram of this sender.
@@ -82,9 +80,9 @@ PostsAt (Some (Some t)) due now before after old new slot = PostsBy t due now be
 PostsAt (Some None) due now before after old new slot = after ≡ before
 PostsAt None due now before after old new slot = after ≡ before
 
--- a datagram is the first that was left, as much of it as there is room for, and its sender is where it came from
+-- a datagram is the first that was left, as much of it as there is room for, with its sender
 abbrev pub IsReceived : Sender → List ℕ → ℕ → Mail → Mail → Type 0
-IsReceived sender message room before after = (from : SocketAddr) × ((sender ≡ sender_in from) × Brings from message room before after)
+IsReceived sender message room before after = Brings sender message room before after
 
 -- the reply that is kept for this very datagram of this sender was sent to that sender again
 pub record GoesAgain {D : Type 0} (d : Datagrams D) (sender : Sender) (message : List ℕ) (now : ℕ) (before after : Mail) : Type 0 where

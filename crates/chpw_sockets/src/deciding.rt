@@ -41,7 +41,7 @@ pub(crate) fn decide<S: Drop, D: DatagramChannel>(
     ensures bounds { bounds_of state.new.connections ≡ bounds_of state.old.connections }
     ensures dropped { result ≡ progress.Some → DropsDatagram (slots_of state.old.connections) (slots_of state.new.connections) }
     ensures in_turn { result ≡ progress.Some → (state.new ≡ state.old)
-        ⊎ BeginsAndDrops (bounds_of state.old.connections) now sender.address (accepted_by state.old.connections) message.now
+        ⊎ BeginsAndDrops (bounds_of state.old.connections) now sender.ends (accepted_by state.old.connections) message.now
         (slots_of state.old.connections) (slots_of state.new.connections) }
     ensures kept { result ≡ progress.Some → by_slot.new ≡ by_slot.old }
 {
@@ -94,7 +94,7 @@ fn queue<S: Drop>(
     ensures bounds { bounds_of state.new.connections ≡ bounds_of state.old.connections }
     ensures dropped { result ≡ progress.Some → DropsDatagram (slots_of state.old.connections) (slots_of state.new.connections) }
     ensures in_turn { result ≡ progress.Some → (state.new ≡ state.old)
-        ⊎ BeginsAndDrops (bounds_of state.old.connections) now sender.address (accepted_by state.old.connections) message.now
+        ⊎ BeginsAndDrops (bounds_of state.old.connections) now sender.ends (accepted_by state.old.connections) message.now
         (slots_of state.old.connections) (slots_of state.new.connections) }
     ensures kept { result ≡ progress.Some → by_slot.new ≡ by_slot.old }
     ensures one_more { datagrams_in by_slot.new ≤ datagrams_in by_slot.old + 1 }
@@ -104,7 +104,7 @@ fn queue<S: Drop>(
     let Ok(copy) = Vec::from_slice(alloc, message) else {
         return Progress::Some;
     };
-    match state.take_datagram(sender.address, message, now) {
+    match state.take_datagram(sender.ends, message, now) {
         None => Progress::Some,
         Some((slot, worker)) => {
             put_datagram(by_slot, slot, sender, copy);

@@ -1,7 +1,7 @@
 //! The connections with their sockets, which reactor and workers share under one lock.
 ghost use Rattle.slab.specs.Slab.{get, slab_len};
 ghost use Rattle.std.specs.Prelude.{◌≡◌, ◌≢◌, ◌<◌, ◌==◌, ◌⊎◌, ℕ, Option, nat_lt, length, slice_get, if◌then◌else◌};
-ghost use Rattle.std.specs.Prelude.{IfSome, IfOk, IfErr, Err, None, is_err, is_some, false, true};
+ghost use Rattle.std.specs.Prelude.{IfSome, IfOk, IfErr, None, is_some, false, true};
 ghost use Rattle.chpw_connections.specs.Held.{slots_of, bounds_of, accepted_by};
 ghost use Rattle.chpw_connections.specs.Queues.{workers_of};
 ghost use Rattle.chpw_connection.specs.Todos.{todo_in};
@@ -15,20 +15,23 @@ ghost use Rattle.chpw_transfers.specs.Datagrams.{DropsDatagram};
 ghost use Rattle.chpw_sockets.specs.Deciding.{AreElsewhere, IsFree, IsFresh, Queues};
 ghost use Rattle.chpw_transfers.specs.Kdc.{LeavesChange, reply_under, ticket_of};
 ghost use Rattle.chpw_transfers.specs.declared.kdc.Release.{Release};
-ghost use Rattle.chpw_sockets.specs.Newcomers.{IsAdmitted, IsBegun};
+ghost use Rattle.chpw_sockets.specs.Newcomers.{IsAdmitted, IsBegun, EndsLongestOf};
+ghost use Rattle.chpw_slots.specs.Shares.{is_share_full};
+ghost use Rattle.chpw_transfers.specs.Admission.{IfAdmitted, IfWaits, is_admitted, is_refused, waits};
+ghost use Rattle.chpw_transfers.specs.declared.entrance.Admission.TheVariants as admission;
 ghost use Rattle.chpw_sockets.specs.Places.{RemainsAt, StaysAt};
 ghost use Rattle.chpw_sockets.specs.Faults.{IsUnmade};
-ghost use Rattle.chpw_sockets.specs.Addresses.{peer_in};
 ghost use Rattle.chpw_sockets.specs.Shares.{may_place_stream};
 ghost use Rattle.chpw_transfers.specs.declared.state.Progress.TheVariants as progress;
 
-use crate::addresses::peer_of;
+use crate::own_sockets::OwnSockets;
 use crate::places::Sockets;
 use crate::pool_fault::PoolFault;
 use crate::sockets::Selector;
-use crate::udp::DatagramSocket;
+use crate::udp::DatagramSockets;
 use chpw_connections::{ConnectionLimits, Connections, Todo, Turn};
-use chpw_transfers::{KdcSide, Newcomer, Progress, State};
+use chpw_endpoints::Peer;
+use chpw_transfers::{Admission, KdcSide, Newcomer, Progress, State};
 use std::alloc::Global;
 use std::net::TcpStream;
 
@@ -39,19 +42,19 @@ pub const STEPS: u32 = 64;
 #[derive(Drop)]
 pub struct Hub {
     pub state: State,
-    pub sockets: Sockets<mio::net::TcpStream, mio::net::UdpSocket>,
+    pub sockets: Sockets<mio::net::TcpStream, OwnSockets>,
 }
 
 impl Hub {
     /// No connections yet, for this many workers, but at least one; within these bounds, and with a place for the socket
-    /// of each connection. With a socket for them, messages come as datagrams too; with a KDC, keys are put there.
-    /// `Accept` if the system can't watch that socket, `Memory` if a growth is refused.
+    /// of each connection. With sockets for them, messages come as datagrams too; with a KDC, keys are put there.
+    /// `Accept` if the system can't watch those sockets, `Memory` if a growth is refused.
     pub fn new(
         alloc: Global,
         selector: &Selector,
         bounds: ConnectionLimits,
         workers: usize,
-        datagrams: Option<DatagramSocket>,
+        datagrams: Option<DatagramSockets>,
         kdc: Option<KdcSide>,
     ) -> Result<Hub, PoolFault>
         ensures begun { IfOk result (λ hub. IsBegun kdc hub.state) }
@@ -69,29 +72,40 @@ impl Hub {
         })
     }
 
-    /// Admits a connection that has come: its slot. If there are as many as allowed, in all or over TCP, it is handed
-    /// back, and a client waits for room. One whose socket can't be watched ends.
-    pub fn admit(&mut self, newcomer: Newcomer, now: u64) -> Result<usize, Newcomer>
-        ensures admitted { IfOk result (λ slot. IsAdmitted (peer_in newcomer.address) now (accepted_by self.old.state.connections)
+    /// Admits a connection that has come. One whose peer has as many as it may is refused, and closed with that. If there
+    /// are as many as allowed, in all or over TCP, it is handed back, and a client waits for room. One whose socket can't
+    /// be watched ends.
+    pub fn admit(&mut self, newcomer: Newcomer, now: u64) -> Admission
+        ensures admitted { IfAdmitted result (λ slot. IsAdmitted newcomer.ends newcomer.share now (accepted_by self.old.state.connections)
             (slots_of self.old.state.connections) (slots_of self.new.state.connections) slot) }
-        ensures placed { IfOk result (λ slot. slot < length self.old.sockets.by_slot.items → IsFresh self.new.sockets.by_slot.items slot) }
-        ensures others { IfOk result (λ slot. AreElsewhere self.old.sockets.by_slot.items self.new.sockets.by_slot.items slot) }
-        ensures full { nat_lt (slab_len (slots_of self.old.state.connections)) (bounds_of self.old.state.connections).connections ≡ false
-            → result ≡ Err newcomer }
-        ensures few { may_place_stream (is_some self.old.sockets.datagrams) self.old.sockets.by_slot.items ≡ false → result ≡ Err newcomer }
-        ensures kept { IfErr result (λ back. (back ≡ newcomer) × (self.new.state.connections ≡ self.old.state.connections)
-            × (self.new.sockets ≡ self.old.sockets)) }
-        ensures noted { self.new.state.has_newcomer ≡ is_err result }
+        ensures placed { IfAdmitted result (λ slot. slot < length self.old.sockets.by_slot.items → IsFresh self.new.sockets.by_slot.items slot) }
+        ensures others { IfAdmitted result (λ slot. AreElsewhere self.old.sockets.by_slot.items self.new.sockets.by_slot.items slot) }
+        ensures refused { is_refused result ≡ is_share_full (bounds_of self.old.state.connections).per_peer
+            (slots_of self.old.state.connections) newcomer.share }
+        ensures full { is_share_full (bounds_of self.old.state.connections).per_peer (slots_of self.old.state.connections) newcomer.share ≡ false
+            → nat_lt (slab_len (slots_of self.old.state.connections)) (bounds_of self.old.state.connections).connections ≡ false
+            → result ≡ admission.Waits newcomer }
+        ensures few { is_share_full (bounds_of self.old.state.connections).per_peer (slots_of self.old.state.connections) newcomer.share ≡ false
+            → may_place_stream (is_some self.old.sockets.datagrams) self.old.sockets.by_slot.items ≡ false
+            → result ≡ admission.Waits newcomer }
+        ensures kept { IfWaits result (λ back. back ≡ newcomer) }
+        ensures unchanged { is_admitted result ≡ false → (self.new.state.connections ≡ self.old.state.connections)
+            × (self.new.sockets ≡ self.old.sockets) }
+        ensures noted { self.new.state.has_newcomer ≡ waits result }
     {
+        if self.state.connections.is_share_full(newcomer.share) {
+            self.state.has_newcomer = false;
+            return Admission::Refused;
+        }
         if !self.sockets.may_put() {
             self.state.has_newcomer = true;
-            return Err(newcomer);
+            return Admission::Waits(newcomer);
         }
-        match self.state.accept(peer_of(newcomer.address), now) {
-            None => Err(newcomer),
+        match self.state.accept(newcomer.ends, newcomer.share, now) {
+            None => Admission::Waits(newcomer),
             Some(slot) => {
                 self.put(slot, newcomer.stream);
-                Ok(slot)
+                Admission::Admitted(slot)
             }
         }
     }
@@ -117,18 +131,27 @@ impl Hub {
         self.sockets.step(&mut self.state, slot, now)
     }
 
-    /// If there are as many connections as allowed, in all or over TCP, ends the one that has waited longest for its
-    /// client: its slot, if one ended.
-    pub fn make_room(&mut self) -> Option<usize>
-        ensures needed { may_place_stream (is_some self.old.sockets.datagrams) self.old.sockets.by_slot.items ≡ true
+    /// Makes room for a connection that counts in this share: the slot of the one that ended for it, if one did. If the
+    /// share has as many as it may, that is the one of this peer that has waited longest for its client; otherwise, if
+    /// there are as many as allowed, in all or over TCP, the one of all that has.
+    pub fn make_room(&mut self, share: Option<Peer>) -> Option<usize>
+        ensures of_peer { is_share_full (bounds_of self.old.state.connections).per_peer (slots_of self.old.state.connections) share ≡ true
+            → IfSome share (λ peer. EndsLongestOf peer (slots_of self.old.state.connections) (slots_of self.new.state.connections) result) }
+        ensures needed { is_share_full (bounds_of self.old.state.connections).per_peer (slots_of self.old.state.connections) share ≡ false
+            → may_place_stream (is_some self.old.sockets.datagrams) self.old.sockets.by_slot.items ≡ true
             → nat_lt (slab_len (slots_of self.old.state.connections)) (bounds_of self.old.state.connections).connections ≡ true
             → (result ≡ None) × (self.new.state ≡ self.old.state) }
-        ensures ended { IfSome result (λ slot. IsLongest (slots_of self.old.state.connections) slot
+        ensures ended { is_share_full (bounds_of self.old.state.connections).per_peer (slots_of self.old.state.connections) share ≡ false
+            → IfSome result (λ slot. IsLongest (slots_of self.old.state.connections) slot
             × Happens 0 (slots_of self.old.state.connections) (slots_of self.new.state.connections) slot failed) }
-        ensures nobody { may_place_stream (is_some self.old.sockets.datagrams) self.old.sockets.by_slot.items ≡ false
+        ensures nobody { is_share_full (bounds_of self.old.state.connections).per_peer (slots_of self.old.state.connections) share ≡ false
+            → may_place_stream (is_some self.old.sockets.datagrams) self.old.sockets.by_slot.items ≡ false
             → result ≡ None → NobodyWaits (slots_of self.old.state.connections) }
         ensures sockets { self.new.sockets ≡ self.old.sockets }
     {
+        if self.state.connections.is_share_full(share) {
+            return self.state.make_room_in(share);
+        }
         let may_put = self.sockets.may_put();
         self.state.make_room(may_put)
     }

@@ -2,10 +2,10 @@
 //! and the workers share them, with the connections, under one lock.
 #![tactic(auto)]
 
-mod addresses;
 mod channel;
 mod deciding;
 mod hub;
+mod own_sockets;
 mod places;
 mod pool_fault;
 mod shares;
@@ -14,7 +14,8 @@ mod udp;
 
 pub use channel::{Channel, DatagramChannel};
 pub use hub::{Hub, STEPS};
+pub use own_sockets::OwnSockets;
 pub use places::Sockets;
 pub use pool_fault::PoolFault;
 pub use sockets::{Selector, Socket, Transport};
-pub use udp::{Datagram, DatagramSocket, Datagrams};
+pub use udp::{Datagram, DatagramSockets, Datagrams};

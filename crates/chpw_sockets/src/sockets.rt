@@ -23,13 +23,14 @@ ghost use Rattle.chpw_transfers.specs.declared.state.Progress.TheVariants as pro
 
 use crate::channel::{Channel, DatagramChannel};
 use crate::deciding::decide;
+use crate::own_sockets::OwnSockets;
 use crate::places::Sockets;
 use crate::pool_fault::PoolFault;
 use crate::shares::may_place_stream;
-use crate::udp::{Datagram, DatagramSocket, Datagrams, LONGEST};
+use crate::udp::{Datagram, DatagramSockets, Datagrams, LONGEST};
 use chpw_connections::Todo;
 use chpw_transfers::{Progress, State, Transfer, WAKER};
-use mio::net::{TcpStream, UdpSocket};
+use mio::net::TcpStream;
 use mio::{Events, Interest, Poll, Registry, Token, Waker};
 use std::alloc::{AllocError, Global};
 use std::io::{self, Error, ErrorKind};
@@ -169,14 +170,14 @@ impl Selector {
     }
 }
 
-impl<S: Channel + Drop> Sockets<S, UdpSocket> {
+impl<S: Channel + Drop> Sockets<S, OwnSockets> {
     /// None yet, for this many connections, and possibly one for datagrams.
     pub fn new(
         alloc: Global,
         selector: &Selector,
         connections: usize,
-        datagrams: Option<DatagramSocket>,
-    ) -> Result<Sockets<S, UdpSocket>, PoolFault>
+        datagrams: Option<DatagramSockets>,
+    ) -> Result<Sockets<S, OwnSockets>, PoolFault>
         ensures fault { IfErr result IsUnmade }
         ensures places { IfOk result (λ s. length s.by_slot.items ≡ connections) }
         ensures buffer { IfOk result (λ s. length s.buffer.items ≡ 16384) }
@@ -302,7 +303,7 @@ impl<S: Channel + Drop, D: DatagramChannel + Drop> Sockets<S, D> {
         ensures bounds { bounds_of state.new.connections ≡ bounds_of state.old.connections }
         ensures dropped { result ≡ progress.Some → DropsDatagram (slots_of state.old.connections) (slots_of state.new.connections) }
         ensures in_turn { result ≡ progress.Some → (state.new ≡ state.old) ⊎ (sender : Sender) × (message : List ℕ)
-            × BeginsAndDrops (bounds_of state.old.connections) now sender.address (accepted_by state.old.connections) message
+            × BeginsAndDrops (bounds_of state.old.connections) now sender.ends (accepted_by state.old.connections) message
             (slots_of state.old.connections) (slots_of state.new.connections) }
         ensures kept { result ≡ progress.Some → self.new.by_slot.items ≡ self.old.by_slot.items }
         ensures idle_places { result ≡ progress.None → self.new.by_slot.items ≡ self.old.by_slot.items }
@@ -324,7 +325,7 @@ impl<S: Channel + Drop, D: DatagramChannel + Drop> Sockets<S, D> {
     }
 }
 
-impl Sockets<TcpStream, UdpSocket> {
+impl Sockets<TcpStream, OwnSockets> {
     /// Stores the socket of a connection that was just accepted, and makes it non-blocking; whether it is watched.
     pub fn put(&mut self, slot: usize, stream: net::TcpStream) -> bool
         requires room { may_stream (is_some self.old.datagrams) self.old.by_slot.items ≡ true }
@@ -384,18 +385,18 @@ fn put_stream<S: Drop>(by_slot: &mut [Option<Transport<S>>], slot: usize, stream
     }
 }
 
-// The socket for datagrams, if there is one.
+// The sockets for datagrams, if there are some.
 fn watched(
     alloc: Global,
-    socket: Option<DatagramSocket>,
+    sockets: Option<DatagramSockets>,
     registry: &Registry,
-) -> Result<Option<Datagrams<UdpSocket>>, PoolFault>
+) -> Result<Option<Datagrams<OwnSockets>>, PoolFault>
     ensures fault { IfErr result IsUnmade }
-    ensures socket { IfOk result (λ d. is_some d ≡ is_some socket) }
+    ensures socket { IfOk result (λ d. is_some d ≡ is_some sockets) }
 {
-    match socket {
+    match sockets {
         None => Ok(None),
-        Some(socket) => Ok(Some(Datagrams::new(alloc, socket, registry)?)),
+        Some(sockets) => Ok(Some(Datagrams::new(alloc, sockets, registry)?)),
     }
 }
 

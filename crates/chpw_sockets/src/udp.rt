@@ -7,7 +7,6 @@ ghost use Rattle.chpw_slots.specs.Slots.{Happens};
 ghost use Rattle.chpw_connection.specs.Slot.{left_at};
 ghost use Rattle.chpw_connection.specs.Stages.{closed};
 ghost use Rattle.chpw_connection.specs.declared.todo.Todo.TheVariants as todo;
-ghost use Rattle.chpw_sockets.specs.Addresses.{sender_in, IsAddressOf};
 ghost use Rattle.chpw_transfers.specs.Datagrams.{in_datagram};
 ghost use Rattle.chpw_sockets.specs.Deciding.{is_same_datagram, IsUnanswered, KeepsReply};
 ghost use Rattle.chpw_sockets.specs.Places.{reads_on};
@@ -17,19 +16,19 @@ ghost use Rattle.chpw_transfers.specs.Steps.{IsCalled, Steps, Writes, untold};
 ghost use Rattle.chpw_transfers.specs.Transfers.{is_sent, ComesOfSend};
 ghost use Rattle.chpw_transfers.specs.declared.state.Progress.TheVariants as progress;
 
-use crate::addresses::peer_of;
 use crate::channel::DatagramChannel;
+use crate::own_sockets::OwnSockets;
 use crate::pool_fault::PoolFault;
 use chpw_connections::Todo;
 use chpw_datagrams::{Answered, Sender, is_answerable};
-use chpw_transfers::{DATAGRAMS, Progress, State, Transfer, reply_of_datagram};
-use mio::net::UdpSocket;
-use mio::{Interest, Registry};
+use chpw_transfers::{Progress, State, Transfer, reply_of_datagram};
+use mio::Registry;
 use std::alloc::{AllocError, Global};
-use std::net::{self, Ipv4Addr, SocketAddr, SocketAddrV4};
+use std::net::UdpSocket;
 use std::{io, mem};
 
-/// How many bytes the longest datagram over IPv4 has.
+/// How many bytes the longest datagram over IPv4 has. One over IPv6 may have 20 more; it is longer than any message
+/// that is answered.
 pub(crate) const LONGEST: usize = 65_507;
 
 /// A datagram that is being answered.
@@ -44,9 +43,7 @@ impl Datagram {
     pub fn is(&self, sender: Sender, message: &[u8]) -> bool
         ensures value { result ≡ is_same_datagram sender message.now self.now }
     {
-        self.sender.address == sender.address
-            && self.sender.port == sender.port
-            && self.message.as_slice() == message
+        self.sender.is_same(&sender) && self.message.as_slice() == message
     }
 
     /// Does what is to be done for its connection: its reply is sent, in one call of the socket for datagrams, and then
@@ -81,43 +78,49 @@ impl Datagram {
     }
 }
 
-/// A socket for datagrams, and the realm whose tickets it answers.
+/// Sockets for datagrams, their port, and the realm whose tickets they answer.
 #[derive(Drop)]
-pub struct DatagramSocket {
-    pub socket: net::UdpSocket,
+pub struct DatagramSockets {
+    pub sockets: Vec<UdpSocket>,
+    pub port: u16,
     pub realm: Vec<u8>,
 }
 
-/// The socket for datagrams, and what it has answered.
+/// The sockets for datagrams, and what they have answered.
 #[derive(Drop)]
 pub struct Datagrams<D> {
     pub alloc: Global,
     socket: D,
-    // Its own port.
+    // Their own port.
     port: u16,
     // The service's realm.
     realm: Vec<u8>,
     answered: Answered,
 }
 
-impl Datagrams<UdpSocket> {
-    /// Nothing has been answered at this socket yet, which is made non-blocking and watched.
+impl Datagrams<OwnSockets> {
+    /// Nothing has been answered at these sockets yet, which are made non-blocking and watched.
     pub fn new(
         alloc: Global,
-        socket: DatagramSocket,
+        sockets: DatagramSockets,
         registry: &Registry,
-    ) -> Result<Datagrams<UdpSocket>, PoolFault>
+    ) -> Result<Datagrams<OwnSockets>, PoolFault>
         ensures fault { IfErr result IsUnmade }
         ensures none { IfOk result (λ d. d.answered ≡ []) }
-        ensures realm { IfOk result (λ d. d.realm ≡ socket.realm) }
+        ensures realm { IfOk result (λ d. d.realm ≡ sockets.realm) }
+        ensures port { IfOk result (λ d. d.port ≡ sockets.port) }
     {
-        let DatagramSocket { socket, realm } = socket;
+        let DatagramSockets {
+            sockets,
+            port,
+            realm,
+        } = sockets;
         let Ok(answered) = Answered::new(alloc) else {
             return Err(PoolFault::Memory);
         };
-        match watch(socket, registry) {
+        match OwnSockets::watch(alloc, sockets, registry) {
             Err(_) => Err(PoolFault::Accept),
-            Ok((socket, port)) => Ok(Datagrams {
+            Ok(socket) => Ok(Datagrams {
                 alloc,
                 socket,
                 port,
@@ -136,8 +139,8 @@ impl<D: DatagramChannel> Datagrams<D> {
         ensures sent { D.sent self.new.socket ≡ D.sent self.old.socket }
         ensures rest { self.new ≡ record self.old { socket = self.new.socket } }
     {
-        let (count, from) = self.socket.receive(buffer)?;
-        Ok(message_from(count, from, buffer))
+        let (count, sender) = self.socket.receive(buffer)?;
+        Ok((sender, &buffer[..count]))
     }
 
     /// Whether a datagram is to be answered and wasn't less than five seconds ago; one that was gets that reply again.
@@ -257,69 +260,22 @@ fn send_reply<D: DatagramChannel>(
     ensures unsent { IfErr result (λ _. D.sent socket.new ≡ D.sent socket.old) }
     ensures left { D.left socket.new ≡ D.left socket.old }
 {
-    match addressed(sender, message, reply) {
+    match sendable(message, reply) {
         None => Ok(0),
-        Some(Outgoing { to, bytes }) => socket.send(bytes, to),
+        Some(bytes) => socket.send(bytes, sender),
     }
 }
 
-// The first bytes of this buffer, as they came from this address.
-fn message_from(count: usize, from: SocketAddr, buffer: &[u8]) -> (Sender, &[u8])
-    requires within { count ≤ length buffer.now }
-    ensures sender { result.0 ≡ sender_in from }
-    ensures bytes { result.1.now ≡ take count buffer.now }
-{
-    (sender_of(from), &buffer[..count])
-}
-
-// The sender at this address: an IPv4 address, or 0.0.0.0 for one of another kind, and the port.
-fn sender_of(from: SocketAddr) -> Sender
-    ensures value { result ≡ sender_in from }
-{
-    Sender {
-        address: peer_of(from),
-        port: from.port(),
-    }
-}
-
-// The address of a sender.
-fn address_of(sender: Sender) -> SocketAddr
-    ensures value { IsAddressOf sender result }
-    ensures back { sender_in result ≡ sender }
-{
-    SocketAddr::V4(SocketAddrV4::new(Ipv4Addr::from(sender.address), sender.port))
-}
-
-/// A datagram to be sent: where to, and its bytes.
-#[derive(Drop)]
-struct Outgoing<'a> {
-    to: SocketAddr,
-    bytes: &'a [u8],
-}
-
-// A reply as a datagram, without its length, to the sender of its request; none if it is longer than that, so that
-// nobody gets more from this service than somebody has sent in his name.
-fn addressed<'a>(sender: Sender, request: &[u8], reply: &'a [u8]) -> Option<Outgoing<'a>>
-    ensures to { IfSome result (λ outgoing. IsAddressOf sender outgoing.to) }
-    ensures bytes { IfSome result (λ outgoing. outgoing.bytes.now ≡ in_datagram reply.now) }
-    ensures no_longer { IfSome result (λ outgoing. length outgoing.bytes.now ≤ length request.now) }
+// A reply as a datagram, without its length; none if it is longer than its request, so that nobody gets more from this
+// service than somebody has sent in his name.
+fn sendable<'a>(request: &[u8], reply: &'a [u8]) -> Option<&'a [u8]>
+    ensures bytes { IfSome result (λ bytes. bytes.now ≡ in_datagram reply.now) }
+    ensures no_longer { IfSome result (λ bytes. length bytes.now ≤ length request.now) }
     ensures none { result ≡ None → length request.now < length (in_datagram reply.now) }
 {
     let bytes = reply_of_datagram(reply);
     if bytes.len() > request.len() {
         return None;
     }
-    Some(Outgoing {
-        to: address_of(sender),
-        bytes,
-    })
-}
-
-// The socket, watched, and its port.
-fn watch(socket: net::UdpSocket, registry: &Registry) -> io::Result<(UdpSocket, u16)> {
-    socket.set_nonblocking(true)?;
-    let port = socket.local_addr()?.port();
-    let mut socket = UdpSocket::from_std(socket);
-    registry.register(&mut socket, DATAGRAMS, Interest::READABLE)?;
-    Ok((socket, port))
+    Some(bytes)
 }

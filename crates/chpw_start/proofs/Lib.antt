@@ -1,2 +1,4 @@
 pub mod FaultLemmas
+pub mod FittingLemmas
+pub mod NewJournalLemmas
 pub mod OpeningLemmas

@@ -1,10 +1,13 @@
 -- A journal restored onto the table of a configuration.
-use Rattle.std.proofs.Common.{◌≡◌, ◌∙◌, refl, ℕ, List, [], Option, Bool, true, false}
+use Rattle.std.proofs.Common.{◌≡◌, ◌∙◌, ap, subst, refl, ℕ, List, [], Option, Bool, true, false}
 use Rattle.std.specs.Prelude.{MatchBool}
 use Rattle.chpw_rules.specs.declared.config.Config.{Config}
 use Rattle.chpw_table.specs.Agreement.{Held, Agrees}
-use Rattle.chpw_table.specs.State.{State}
+use Rattle.chpw_table.specs.State.{State, Fixed}
 use Rattle.chpw_table.specs.declared.times.Moment.{Moment}
+use Rattle.chpw_journal.specs.declared.restoring.Restored.{Restored}
+use Rattle.chpw_journal.specs.Restoring.{IsRestored}
+use Rattle.chpw_journal.specs.Headings.{IsBehind}
 use Rattle.chpw_journal.specs.JournalFile.{IsBegun, IsOpened, IsReopened}
 use Rattle.chpw_journal.specs.declared.journal_file.Journal.{Journal}
 use Rattle.chpw_start.specs.Opening.{IsOpening, opening_at}
@@ -19,17 +22,26 @@ module _ {C F : Type 0} (gives : C → Moment → C → Type 0) (config : Config
   again : (j : Journal F) → j.found ≡ true → Agrees t.state (opening config start true) → IsReopened t given j
       → IsOpening gives config given before after j
   again j found agrees opened =
-      let read = opened.read.1 in
+      let read : IsRestored t opened.read.behind opened.read.left opened.read.records = opened.read.read in
       let reading = read.reading (opening config start true) agrees in
+      let table : j.table ≡ opened.read.records.table = opened.table ∙ ap (λ (r : Restored). r.table) opened.read.whole in
+      let headed = subst (λ (f : Fixed). IsBehind f.realm opened.read.is_named given opened.read.behind) agrees.fixed opened.read.headed in
       record {
         start = start;
         clock = clock;
         records = read.whole_records;
         next = rw found reading.0.next;
-        found = λ is. record { torn = read.rest; all = (opened.read.0, read.read, read.end); read = reading };
-        table = rw (found, opened.table) (read.table (opening config start true) agrees);
+        found = λ is. record {
+          is_named = opened.read.is_named;
+          behind = opened.read.behind;
+          headed = headed;
+          torn = read.rest;
+          all = (opened.read.left, read.read, read.end);
+          read = reading;
+        };
+        table = rw (found, table) (read.table (opening config start true) agrees);
         made = λ new. absurd (cc);
-        counts = (rw opened.table (read.events ∙ counts.0), rw opened.table (read.seen ∙ counts.1), rw opened.table (read.max_entries ∙ counts.2));
+        counts = (rw table (read.events ∙ counts.0), rw table (read.seen ∙ counts.1), rw table (read.max_entries ∙ counts.2));
       }
 
   -- of a new one

@@ -10,7 +10,7 @@ use Rattle.chpw_rules.specs.declared.pattern.NamePatterns.{NamePatterns}
 use Rattle.chpw_config.specs.declared.fault.ConfigFault.{ConfigFault}
 use Rattle.chpw_table.specs.Agreement.{Held}
 use Rattle.chpw_journal.specs.Restoring.{fault_text as journal_text}
-use Rattle.chpw_journal.specs.JournalFile.{IsRefusedFrom}
+use Rattle.chpw_journal.specs.Headings.{IsWholeRefused}
 use Rattle.chpw_journal.specs.declared.fault.RestoreFault.{RestoreFault}
 use Rattle.chpw_journal.specs.declared.journal_file.OpenFault.{OpenFault}
 use Rattle.chpw_journal.specs.declared.journal_file.OpenFault.TheVariants as open_fault
@@ -18,11 +18,12 @@ use Rattle.chpw_journal.specs.declared.fault.RestoreFault.TheVariants as restore
 use Rattle.chpw_journal.specs.declared.fault.RestoreFault.TheVariants.{Memory as NoMemory}
 use Rattle.chpw_report.specs.declared.report.ReportFault.{ReportFault}
 use Rattle.chpw_report.specs.declared.report.ReportFault.TheVariants as report
+use Rattle.chpw_invocation.specs.declared.invocation.NewJournalOptions.{NewJournalOptions}
 use Rattle.chpw_invocation.specs.declared.invocation.ServeOptions.{ServeOptions}
 use Rattle.chpw_start.specs.declared.shared_files.Exposures.{Exposures}
 use Rattle.chpw_start.specs.Modes.{first_exposed, words_of}
 use Rattle.chpw_start.specs.declared.fault.ServeFault.{ServeFault}
-use Rattle.chpw_start.specs.declared.fault.ServeFault.TheVariants.{CannotRead, Config, Exposed, CannotWrite}
+use Rattle.chpw_start.specs.declared.fault.ServeFault.TheVariants.{CannotRead, Config, Exposed, CannotWrite, Present}
 use Rattle.chpw_start.specs.declared.fault.ServeFault.TheVariants.{Journal, CannotListen, CannotListenAt}
 use Rattle.chpw_start.specs.declared.fault.ServeFault.TheVariants.{CannotPrint, Memory, CannotClose}
 
@@ -31,6 +32,7 @@ line_of (CannotRead file) = codes "cannot read " ++ file.now
 line_of (Config fault) = codes "config: " ++ config_text fault
 line_of (Exposed e) = e.file.now ++ (codes ": not started, since " ++ words_of e.why)
 line_of (CannotWrite file) = codes "cannot write " ++ file.now
+line_of (Present file) = file.now ++ codes ": not made, since it is there already"
 line_of (Journal fault) = codes "journal: " ++ journal_text fault
 line_of CannotListen = codes "cannot listen"
 line_of (CannotListenAt socket) = codes "cannot listen at " ++ socket.now
@@ -71,7 +73,7 @@ IsOfSettings path fault = IsUnread path fault
 
 -- some bytes of a journal have this first fault, over some table
 abbrev pub IsOfRecords : RestoreFault → Type 0
-IsOfRecords fault = (before : Held) × (bytes : Option (List ℕ)) × IsRefusedFrom before bytes fault
+IsOfRecords fault = (before : Held) × (bytes : Option (List ℕ)) × IsWholeRefused before bytes fault
 
 -- the fault of opening or restoring a journal's file, which is one of some bytes
 abbrev pub IsOfFile : OpenFault → Type 0
@@ -84,6 +86,22 @@ abbrev pub IsOfJournal : List ℕ → ServeFault → Type 0
 IsOfJournal path (CannotWrite file) = file.now ≡ path
 IsOfJournal path (Journal fault) = (fault ≢ NoMemory) × IsOfRecords fault
 IsOfJournal path fault = IsUnread path fault
+
+-- the fault of a file that is to be made: something is at its path, or it can't be made there
+abbrev pub IsUnmade : List ℕ → ServeFault → Type 0
+IsUnmade path (Present file) = file.now ≡ path
+IsUnmade path (CannotWrite file) = file.now ≡ path
+IsUnmade path Memory = Unit {0}
+IsUnmade path fault = ⊥
+
+-- the fault of the resume file that is made with a journal, if there is one
+abbrev pub IsOfFirstResume : Option (Bor (List ℕ)) → ServeFault → Type 0
+IsOfFirstResume None fault = ⊥
+IsOfFirstResume (Some path) fault = IsUnmade path.now fault
+
+-- the fault of a journal that is to be made: that of its configuration, its own, or that of its resume file
+abbrev pub IsOfNewJournal : NewJournalOptions → ServeFault → Type 0
+IsOfNewJournal o fault = IsOfSettings o.config.now fault ⊎ (IsUnmade o.journal.now fault ⊎ IsOfFirstResume o.resume fault)
 
 -- the fault of a start with strict modes: others can do something to one of its files
 abbrev pub IsOfModes : ServeOptions → ServeFault → Type 0
@@ -120,6 +138,7 @@ restore_fault (restore.BadRecord number) = Journal (restore.BadRecord number)
 restore_fault (restore.WrongVersion number) = Journal (restore.WrongVersion number)
 restore_fault (restore.UnknownPrincipal number) = Journal (restore.UnknownPrincipal number)
 restore_fault (restore.TooMany number) = Journal (restore.TooMany number)
+restore_fault restore.OtherRealm = Journal restore.OtherRealm
 restore_fault restore.CannotRead = Journal restore.CannotRead
 
 abbrev pub open_line : List ℕ → OpenFault → List ℕ

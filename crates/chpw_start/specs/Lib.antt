@@ -1,9 +1,12 @@
 pub mod Bounded
+pub mod Explaining
 pub mod Faults
 pub mod FileIds
+pub mod FirstResume
 pub mod Modes
 pub mod Opening
 pub mod Raised
+pub mod Resuming
 pub mod Rules
 pub mod Sheets
 pub mod Telling

@@ -6,6 +6,7 @@ use Rattle.chpw_rules.specs.declared.config.Config.{Config}
 use Rattle.chpw_table.specs.Agreement.{Agrees}
 use Rattle.chpw_table.specs.State.{State, opening_of}
 use Rattle.chpw_table.specs.declared.times.Moment.{Moment}
+use Rattle.chpw_journal.specs.Headings.{IsBehind}
 use Rattle.chpw_journal.specs.JournalText.{restored, whole, AreNext, IsReading}
 use Rattle.chpw_record.specs.Records.{records_text}
 use Rattle.chpw_record.specs.declared.record.Record.{Record}
@@ -22,10 +23,14 @@ opening_at config start found = opening_of config (quiet_until start found)
 abbrev pub IsAllOf : Option (List ℕ) → List ℕ → Type 0
 IsAllOf given text = (left : Option (List ℕ)) × Consumes given left text × IsAtEnd left
 
--- the records are those of all that the journal's file gave, but for a torn one at its end
+-- the records are those of all that the journal's file gave behind the record of the realm, if it begins with that, but for a
+-- torn one at its end
 pub record AreAllRecords (given : Option (List ℕ)) (opening : State) (records : List Record) : Type 0 where
+  pub is_named : Bool
+  pub behind : Option (List ℕ)
+  pub headed : IsBehind opening.fixed.realm is_named given behind
   pub torn : List ℕ
-  pub all : IsAllOf given (records_text records ++ torn)
+  pub all : IsAllOf behind (records_text records ++ torn)
   pub read : IsReading opening (records_text records ++ torn) (whole records torn)
 
 -- restored from what the journal's file gave, if that was there

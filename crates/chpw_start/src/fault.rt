@@ -18,6 +18,8 @@ pub enum ServeFault<'a> {
     Exposed(Exposed<'a>),
     /// The journal's file can't be made, or its torn tail can't be cut off.
     CannotWrite(&'a str),
+    /// A journal is to be made here, and something is there already.
+    Present(&'a str),
     /// The journal has this fault.
     Journal(RestoreFault),
     /// The service can't listen at the port, or a connection couldn't be accepted.
@@ -46,6 +48,7 @@ impl fmt::Display for ServeFault<'_> {
                 write!(f, "{}: not started, since {}", exposed.file, exposed.why)
             }
             ServeFault::CannotWrite(file) => write!(f, "cannot write {file}"),
+            ServeFault::Present(file) => write!(f, "{file}: not made, since it is there already"),
             ServeFault::Journal(fault) => write!(f, "journal: {fault}"),
             ServeFault::CannotListen => f.write_str("cannot listen"),
             ServeFault::CannotListenAt(socket) => write!(f, "cannot listen at {socket}"),

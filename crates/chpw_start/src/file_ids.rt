@@ -1,10 +1,12 @@
 //! Where the files of a start are: none that is written may be another one.
 ghost use Rattle.std.specs.Prelude.{◌≡◌, IfErr, OnOk, None};
-ghost use Rattle.chpw_start.specs.Faults.{IsOfClash};
+ghost use Rattle.chpw_start.specs.Faults.{IsOfClash, IsUnmade};
+ghost use Rattle.chpw_start.specs.Resuming.{IsAtResume};
 ghost use Rattle.chpw_start.specs.FileIds.{are_one, are_one_name, clash_of};
 
 use crate::fault::ServeFault;
 use chpw_invocation::ServeOptions;
+use chpw_journal::beside;
 use std::fs::{self, Files};
 use std::os::unix::fs::MetadataExt;
 
@@ -53,6 +55,27 @@ pub fn keep_apart<'a, R: Files>(rt: &R, options: &ServeOptions<'a>) -> Result<()
     clash_result(options, first_clash(&places))
 }
 
+/// Refuses a resume file that is one of these other files, by whatever name; or that would be one on its way to its name.
+pub(crate) fn keep_from<'a, R: Files + AllocGlobal>(
+    rt: &R,
+    path: &'a str,
+    others: &[&str],
+) -> Result<(), ServeFault<'a>>
+    ensures fault { IfErr result (IsAtResume path.now) }
+    ensures unmade { IfErr result (IsUnmade path.now) }
+{
+    let Ok(beside) = beside(rt.alloc(), path) else {
+        return Err(ServeFault::Memory);
+    };
+    for other in others {
+        let place = place_of(rt, other);
+        if is_one(place, place_of(rt, path)) || is_one(place, place_of(rt, beside.as_str())) {
+            return Err(ServeFault::CannotWrite(path));
+        }
+    }
+    Ok(())
+}
+
 // The first clash of these places: the log's before the journal's.
 fn first_clash(places: &FileIds<'_>) -> Option<Clash>
     ensures first { result ≡ clash_of places.now }
@@ -73,7 +96,7 @@ fn first_clash(places: &FileIds<'_>) -> Option<Clash>
 }
 
 // Whether there are two, and they are one file.
-fn is_one(one: Option<FileId<'_>>, other: Option<FileId<'_>>) -> bool
+pub(crate) fn is_one(one: Option<FileId<'_>>, other: Option<FileId<'_>>) -> bool
     ensures value { result ≡ are_one one.entry other.entry }
 {
     match (one, other) {
@@ -108,7 +131,8 @@ fn clash_result<'a>(options: &ServeOptions<'a>, clash: Option<Clash>) -> Result<
     }
 }
 
-fn place_of<'a, R: Files>(rt: &R, path: &'a str) -> Option<FileId<'a>> {
+/// Where the file at a path is.
+pub(crate) fn place_of<'a, R: Files>(rt: &R, path: &'a str) -> Option<FileId<'a>> {
     if let Ok(metadata) = fs::metadata(rt, path) {
         return Some(FileId {
             device: metadata.dev(),

@@ -5,7 +5,7 @@ ghost use Rattle.std.specs.Io.KnownBytes.{Appends};
 ghost use Rattle.chpw_start.specs.Sheets.{ended, is_begun, is_taken, is_told_at_once};
 
 use crate::readiness::Readiness;
-use chpw_journal::room_for;
+use chpw_journal::{FileNumber, room_for};
 use std::alloc::Global;
 use std::fs::{self, File, Files, Metadata, OpenOptions};
 use std::io::{self, ErrorKind, Write};
@@ -117,6 +117,14 @@ impl LineOutput {
         match &mut self.readiness {
             None => true,
             Some(readiness) => readiness.is_ready(),
+        }
+    }
+
+    /// Which file it is, if it is one.
+    pub fn number(&self) -> Option<FileNumber> {
+        match &self.output {
+            Output::File(file) => Some(FileNumber::of(&file.metadata().ok()?)),
+            Output::StandardError => None,
         }
     }
 

@@ -1,10 +1,10 @@
 //! Files that strict modes refuse.
 ghost use Rattle.std.specs.Prelude.{◌≡◌, IfErr, IsSome, None, OnErr, OnOk, true};
-ghost use Rattle.chpw_start.specs.Faults.{IsOfModes};
+ghost use Rattle.chpw_start.specs.Faults.{IsOfModes, IsUnread};
 ghost use Rattle.chpw_start.specs.Modes.{exposed_at, first_exposed, first_of};
 
 use crate::fault::ServeFault;
-use crate::line_output::is_standard_error;
+use crate::line_output::{Kind, is_standard_error, kind_of};
 use crate::ownership::{Exposure, exposure_of, own_ids, place_at};
 use chpw_invocation::ServeOptions;
 use std::fs::Files;
@@ -44,6 +44,20 @@ pub fn refuse_exposed<'a, R: Files + AllocGlobal>(
         journal: exposure_at(rt, options, options.journal),
     };
     refuse_first(options, exposures)
+}
+
+/// Refuses a start without a journal, where one must exist: before the log is made.
+pub fn refuse_missing<'a, R: Files>(
+    rt: &R,
+    options: &ServeOptions<'a>,
+) -> Result<(), ServeFault<'a>>
+    ensures asked { OnErr result (options.now.existing_journal ≡ true) }
+    ensures fault { IfErr result (IsUnread options.now.journal.now) }
+{
+    if options.existing_journal && matches!(kind_of(rt, options.journal), Kind::Missing) {
+        return Err(ServeFault::CannotRead(options.journal));
+    }
+    Ok(())
 }
 
 // Refuses the first of these files that is exposed, with strict modes.

@@ -3,7 +3,7 @@ ghost use Rattle.std.specs.Prelude.{◌≡◌, ℕ, List, Option, IfOk, IfErr, t
 ghost use Rattle.chpw_rules.specs.Fitting.{config_fits};
 ghost use Rattle.chpw_table.specs.Agreement.{Agrees};
 ghost use Rattle.chpw_table.specs.Times.{IsTime};
-ghost use Rattle.chpw_journal.specs.JournalFile.{given_by};
+ghost use Rattle.chpw_journal.specs.JournalFile.{IsUnopened, given_by};
 ghost use Rattle.chpw_start.specs.Faults.{IsOfFile, IsOfJournal, line_of, open_line};
 ghost use Rattle.chpw_start.specs.Modes.{can_be_journal};
 ghost use Rattle.chpw_start.specs.Opening.{IsOpening, opening_at};
@@ -23,16 +23,18 @@ use std::io::Read;
 
 /// The journal at a path, and the table restored from it. The table is quiet for 300 seconds from its start on if there
 /// was a journal. The start is read from the clock once no other process has the journal. A journal that isn't a
-/// regular file is refused before it is opened.
+/// regular file is refused before it is opened. If there is none an empty one is made, unless it must exist.
 #[tactic(auto, using(crate::proofs::FaultLemmas::unopened))]
 pub fn open_table<'a, R: Files<File = File>, C: Clock>(
     rt: &R,
     alloc: Global,
     config: Config,
     path: &'a str,
+    must_exist: bool,
     clock: &mut C,
 ) -> Result<Journal<File>, ServeFault<'a>>
     requires fits { config_fits config ≡ true }
+    ensures existing { must_exist ≡ true → IfOk result (λ j. j.found ≡ true) }
     ensures opened { IfOk result (λ j. (given : Option (List ℕ)) × IsOpening C.gives config given clock.old clock.new j) }
     ensures fresh { IfOk result (λ j. ⟦<FileSink<File> as JournalSink>⟧.failed j.sink ≡ 0) }
     ensures fault { IfErr result (IsOfJournal path.now) }
@@ -40,9 +42,25 @@ pub fn open_table<'a, R: Files<File = File>, C: Clock>(
     if !can_be_journal(kind_of(rt, path)) {
         return Err(ServeFault::CannotRead(path));
     }
-    match JournalFile::lock(rt, path) {
+    match lock(rt, path, must_exist) {
         Ok(file) => table_from(alloc, config, file, path, clock),
         Err(fault) => Err(journal_fault(path, fault)),
+    }
+}
+
+// The journal's file, which is made if there is none, unless it must exist.
+fn lock<R: Files<File = File>>(
+    rt: &R,
+    path: &str,
+    must_exist: bool,
+) -> Result<JournalFile<File>, OpenFault>
+    ensures existing { must_exist ≡ true → IfOk result (λ file. file.found ≡ true) }
+    ensures fault { IfErr result IsUnopened }
+{
+    if must_exist {
+        JournalFile::lock_existing(rt, path)
+    } else {
+        JournalFile::lock(rt, path)
     }
 }
 
@@ -57,6 +75,7 @@ fn table_from<'a, F: SyncedFile + Read + Drop, C: Clock>(
 ) -> Result<Journal<F>, ServeFault<'a>>
     requires fits { config_fits config ≡ true }
     ensures opened { IfOk result (IsOpening C.gives config (given_by F.remaining file) clock.old clock.new) }
+    ensures found { IfOk result (λ j. j.found ≡ file.found) }
     ensures fresh { IfOk result (λ j. ⟦<FileSink<F> as JournalSink>⟧.failed j.sink ≡ 0) }
     ensures fault { IfErr result (IsOfJournal path.now) }
 {

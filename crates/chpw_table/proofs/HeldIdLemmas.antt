@@ -141,7 +141,7 @@ or_turned false true = refl
 or_turned false false = refl
 
 -- whether an id is among those used and one more
-first_used : (b : Bool) (q id : RequestId) (used : List RequestId)
+pub first_used : (b : Bool) (q id : RequestId) (used : List RequestId)
     → list_any (λ (y : RequestId). is_same_id y id) (with_first id_cmp used (if b then q ∷ [] else []))
     ≡ list_any (λ (y : RequestId). is_same_id y id) (if b then used ++ q ∷ [] else used)
 first_used true q id used =

@@ -33,3 +33,4 @@ pub mod NewestLemmas
 pub mod PlacingLemmas
 pub mod UpdatingLemmas
 pub mod RestoringUpdateLemmas
+pub mod ResumingLemmas

@@ -30,3 +30,4 @@ pub mod Updating
 pub mod Placing
 pub mod Planning
 pub mod EnteringUpdates
+pub mod Resuming

@@ -34,7 +34,7 @@ pub use same_keys::are_same_keys;
 pub use sink::{Durability, JournalSink, SinkFault};
 pub use standing::StandingRules;
 pub use table::{
-    KeyFault, Lookup, MOST_CARRIED, Prepared, PreparedUpdate, Principal, RowChange, Table,
+    Carried, KeyFault, Lookup, MOST_CARRIED, Prepared, PreparedUpdate, Principal, RowChange, Table,
 };
 pub use times::{CLOCK_SKEW, LAST_SECOND, Moment};
 pub use updating::{KdcUpdate, UpdateFault, UpdateOutcome, UpdateRefused, UpdateVerdict};

@@ -56,6 +56,16 @@ impl StandingRules {
         }
     }
 
+    // The same, quiet until then.
+    pub(crate) fn quiet(self, quiet_until: i64) -> StandingRules
+        ensures value { result ≡ record self { quiet_until = quiet_until } }
+    {
+        StandingRules {
+            quiet_until,
+            ..self
+        }
+    }
+
     /// A copy in new memory, from the same allocator.
     pub fn clone(&self) -> Result<StandingRules, AllocError>
         ensures value { IfOk result (λ copy. copy ≡ self.now) }

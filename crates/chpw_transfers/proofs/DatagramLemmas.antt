@@ -7,6 +7,7 @@ use Rattle.std.proofs.lemmas.Bool.{cases_lt, cases_eq}
 use Rattle.std.proofs.lemmas.List.{take_all}
 use Rattle.std.proofs.lemmas.Nat.{from_be_bytes-to_be_bytes_4}
 use Rattle.slab.specs.Slab.{Slab, get, Updates}
+use Rattle.chpw_endpoints.specs.declared.endpoints.Endpoints.{Endpoints}
 use Rattle.chpw_frame.specs.Stream.{sent, longest, stated_length}
 use Rattle.chpw_connection.proofs.PieceLemmas.{wanted_long, wanted_whole}
 use Rattle.chpw_connection.proofs.EvictionLemmas.{and_left, ends_waiting}
@@ -81,11 +82,12 @@ failed_is_ended now None new is comes = absurd is
 failed_is_ended now (Some c) None is comes = absurd comes
 failed_is_ended now (Some c) (Some d) is comes = ap is_ended (comes.stage_is ∙ is)
 
-new_ends : (peer : List ℕ) (now number : ℕ) (old new : Slab Connection) (slot : ℕ) → IsNew peer now number old new slot → EndsAtOnce (get new slot)
-new_ends peer now number old new slot is = by_place (get new slot) is.here
+new_ends : (between : Endpoints) (now number : ℕ) (old new : Slab Connection) (slot : ℕ) → IsNew between None now number old new slot
+    → EndsAtOnce (get new slot)
+new_ends between now number old new slot is = by_place (get new slot) is.here
   where
     by_place : (o : Option Connection) → IsSomeAnd o (λ c. (stage c ≡ reading [])
-        × (c.peer ≡ peer) × (c.number ≡ number) × (c.since ≡ now) × (c.answered ≡ 0)) → EndsAtOnce o
+        × (c.ends ≡ between) × (c.number ≡ number) × (c.since ≡ now) × (c.answered ≡ 0) × (c.share ≡ None)) → EndsAtOnce o
     by_place None here = absurd here
     by_place (Some c) here = subst (λ (s : Stage). after c.answered s failed ≡ ended) (sym here.0) refl
 
@@ -110,15 +112,16 @@ read_here b now old new slot bytes (inl same) is = subst (λ (s : Slab Connectio
 read_here b now old new slot bytes (inr comes) is = came_here b now old new slot bytes comes is
 
 -- what was begun and is dropped leaves no connection
-module _ (first second : ConnectionLimits) (now number slot : ℕ) (peer len bytes : List ℕ) (old accepted begun whole over new : Slab Connection)
-    (is_new : IsNew peer now number old accepted slot) (length_came : CameOrFailed first now accepted begun slot len)
+module _ (first second : ConnectionLimits) (now number slot : ℕ) (between : Endpoints) (len bytes : List ℕ)
+    (old accepted begun whole over new : Slab Connection)
+    (is_new : IsNew between None now number old accepted slot) (length_came : CameOrFailed first now accepted begun slot len)
     (bytes_came : CameIfRead second now begun whole slot bytes) (ends : Happens 0 whole over slot failed)
     (removed : is_ended_in (get over slot) ≡ true → Updates over new slot None) where
   gone : Updates over new slot None
   gone =
       removed (failed_is_ended 0 (get whole slot) (get over slot)
       (read_here second now begun whole slot bytes bytes_came
-      (came_here first now accepted begun slot len length_came (new_ends peer now number old accepted slot is_new))) ends.here)
+      (came_here first now accepted begun slot len length_came (new_ends between now number old accepted slot is_new))) ends.here)
 
   others : (other : ℕ) → other ≢ slot → StaysOrGivesWay (get old other) (get new other)
   others other differs =
@@ -131,7 +134,7 @@ module _ (first second : ConnectionLimits) (now number slot : ℕ) (peer len byt
       → (has_room_to_read first now accepted slot ≡ false → (other : ℕ) → other ≢ slot → get begun other ≡ get accepted other)
       → (has_room_to_read second now begun slot ≡ false → whole ≡ begun)
       → EndsNoMore first now accepted begun slot → EndsNoMore second now begun whole slot
-      → len ≡ length_before bytes → BeginsAndDrops b now peer number bytes old new
+      → len ≡ length_before bytes → BeginsAndDrops b now between number bytes old new
   begins b is_first is_second length_full message_full length_needed message_needed len_is = record {
     slot = slot;
     accepted = accepted;
@@ -206,22 +209,22 @@ failed_wants now (Some c) None is comes = absurd comes
 failed_wants now (Some c) (Some d) is comes = ap wanted_by (comes.stage_is ∙ is)
 
 -- a new connection of which the length came and then the message, which waits now
-waits_here : (message peer : List ℕ) (now number workers worker : ℕ) (a d e : Option Connection) → length message < 2 ^ 32
-    → IsSomeAnd a (λ c. (stage c ≡ reading []) × (c.peer ≡ peer) × (c.number ≡ number) × (c.since ≡ now) × (c.answered ≡ 0))
+waits_here : (message : List ℕ) (between : Endpoints) (now number workers worker : ℕ) (a d e : Option Connection) → length message < 2 ^ 32
+    → IsSomeAnd a (λ c. (stage c ≡ reading []) × (c.ends ≡ between) × (c.number ≡ number) × (c.since ≡ now) × (c.answered ≡ 0) × (c.share ≡ None))
     → Comes now (came (length_before message)) a d → wanted_at d ≢ 0 → Comes now (came message) d e → waits_for workers e ≡ Some worker
     → queued_at e ≡ Some (sent message)
-waits_here message peer now number workers worker None d e fits here first some second waits = absurd here
-waits_here message peer now number workers worker (Some c) None e fits here first some second waits = absurd first
-waits_here message peer now number workers worker (Some c) (Some d) None fits here first some second waits = absurd second
-waits_here message peer now number workers worker (Some c) (Some d) (Some e) fits here first some second waits =
+waits_here message between now number workers worker None d e fits here first some second waits = absurd here
+waits_here message between now number workers worker (Some c) None e fits here first some second waits = absurd first
+waits_here message between now number workers worker (Some c) (Some d) None fits here first some second waits = absurd second
+waits_here message between now number workers worker (Some c) (Some d) (Some e) fits here first some second waits =
     waits_whole message c.answered d.answered (stage d) (stage e) fits
     (first.stage_is ∙ ap (λ (s : Stage). after c.answered s (came (length_before message))) here.0) some second.stage_is
     (mapped (queued_by (stage e)) (e.number % workers) worker waits)
 
 module _ (b c d : ConnectionLimits) (now number slot worker workers : ℕ)
-    (peer message : List ℕ) (old accepted begun new : Slab Connection) (fits : length message < 2 ^ 32)
+    (between : Endpoints) (message : List ℕ) (old accepted begun new : Slab Connection) (fits : length message < 2 ^ 32)
     (bounds : b ≡ d) (same : d ≡ c)
-    (is_new : IsNew peer now number old accepted slot) (length_came : CameOrFailed c now accepted begun slot (length_before message))
+    (is_new : IsNew between None now number old accepted slot) (length_came : CameOrFailed c now accepted begun slot (length_before message))
     (some : wanted_at (get begun slot) ≢ 0)
     (message_came : HappensWithRoom (for_message d now (get begun slot)) now begun new slot (came message))
     (is_for : waits_for workers (get new slot) ≡ Some worker)
@@ -230,10 +233,10 @@ module _ (b c d : ConnectionLimits) (now number slot worker workers : ℕ)
   length_is = ⊎_elim
       (λ (happens : HappensWithRoom (for_message c now (get accepted slot)) now accepted begun slot (came (length_before message))). happens)
       (λ (failed_is : HappensWithRoom (for_message c now (get accepted slot)) 0 accepted begun slot failed).
-      absurd (some (failed_wants 0 (get accepted slot) (get begun slot) (new_ends peer now number old accepted slot is_new) failed_is.here)))
+      absurd (some (failed_wants 0 (get accepted slot) (get begun slot) (new_ends between now number old accepted slot is_new) failed_is.here)))
       length_came
 
-  pub takes : TakesDatagram b now peer number message old new slot worker workers
+  pub takes : TakesDatagram b now between number message old new slot worker workers
   takes = record {
     accepted = accepted;
     begun = begun;
@@ -246,7 +249,7 @@ module _ (b c d : ConnectionLimits) (now number slot worker workers : ℕ)
         (came message)) (sym bounds) message_came;
     length_needed = subst (λ (x : ConnectionLimits). EndsNoMore x now accepted begun slot) (sym (bounds ∙ same)) length_needed;
     message_needed = subst (λ (x : ConnectionLimits). EndsNoMore x now begun new slot) (sym bounds) message_needed;
-    waits = waits_here message peer now number workers worker (get accepted slot)
+    waits = waits_here message between now number workers worker (get accepted slot)
         (get begun slot) (get new slot) fits is_new.here length_is.here some message_came.here is_for;
     is_for = is_for;
   }

@@ -3,6 +3,7 @@
 use Rattle.std.specs.Prelude.{◌≡◌, ◌≢◌, ℕ, ◌⊎◌, List, length, drop, Option, Some, None, Bool, true, false}
 use Rattle.std.specs.Int.{to_be_bytes, w32}
 use Rattle.slab.specs.Slab.{Slab, get}
+use Rattle.chpw_endpoints.specs.declared.endpoints.Endpoints.{Endpoints}
 use Rattle.chpw_frame.specs.Stream.{sent}
 use Rattle.chpw_connection.specs.Holding.{growth_at}
 use Rattle.chpw_connection.specs.Stages.{came, failed}
@@ -29,13 +30,13 @@ abbrev pub EndsNoMore : ConnectionLimits → ℕ → Slab Connection → Slab Co
 EndsNoMore b now old new slot = IsNeeded (read_within b (is_large_in (get old slot))) (growth_at (get old slot))
     (for_message b now (get old slot)) old new slot
 
--- A new connection of this peer, of which the length came and then the message, each as over TCP; with them it waits
--- for this worker, as the very bytes that it would be over TCP.
+-- A new connection between these two, in nobody's share, of which the length came and then the message, each as over TCP;
+-- with them it waits for this worker, as the very bytes that it would be over TCP.
 pub record TakesDatagram (b : ConnectionLimits) (now : ℕ)
-    (peer : List ℕ) (number : ℕ) (message : List ℕ) (old new : Slab Connection) (slot worker workers : ℕ) : Type 0 where
+    (ends : Endpoints) (number : ℕ) (message : List ℕ) (old new : Slab Connection) (slot worker workers : ℕ) : Type 0 where
   pub accepted : Slab Connection
   pub begun : Slab Connection
-  pub is_new : IsNew peer now number old accepted slot
+  pub is_new : IsNew ends None now number old accepted slot
   pub length_came : HappensWithRoom (for_message b now (get accepted slot)) now accepted begun slot (came (length_before message))
   pub message_came : HappensWithRoom (for_message b now (get begun slot)) now begun new slot (came message)
   pub length_needed : EndsNoMore b now accepted begun slot
@@ -73,12 +74,12 @@ CameIfRead b now old new slot bytes = (new ≡ old) ⊎ CameOrFailed b now old n
 
 -- A new connection was begun for a datagram's message, and is gone again. Others have ended as far as they gave way to
 -- its length and then to it, in their turn; none for a piece for which there was no room even so.
-pub record BeginsAndDrops (b : ConnectionLimits) (now : ℕ) (peer : List ℕ) (number : ℕ) (message : List ℕ) (old new : Slab Connection) : Type 0 where
+pub record BeginsAndDrops (b : ConnectionLimits) (now : ℕ) (ends : Endpoints) (number : ℕ) (message : List ℕ) (old new : Slab Connection) : Type 0 where
   pub slot : ℕ
   pub accepted : Slab Connection
   pub begun : Slab Connection
   pub whole : Slab Connection
-  pub is_new : IsNew peer now number old accepted slot
+  pub is_new : IsNew ends None now number old accepted slot
   pub length_came : CameOrFailed b now accepted begun slot (length_before message)
   pub length_full : has_room_to_read b now accepted slot ≡ false → (other : ℕ) → other ≢ slot → get begun other ≡ get accepted other
   pub message_came : CameIfRead b now begun whole slot message

@@ -2,6 +2,7 @@
 use Rattle.std.specs.Prelude.{◌≡◌, ℕ, ◌+◌, Bool, true, false, not, ◌==◌, ◌||◌, ◌&&◌, ◌⊎◌, nat_lt, List, length, Option, Some}
 use Rattle.std.specs.Prelude.{None, Ok, MatchBool, if◌then◌else◌}
 use Rattle.std.specs.Option.{option_map}
+use Rattle.std.specs.declared.net.ip_addr.IpAddr.{IpAddr}
 use Rattle.slab.specs.Slab.{Slab, get}
 use Rattle.chpw_rules.specs.declared.name.Name.{Name}
 use Rattle.chpw_rules.specs.declared.pattern.NamePatterns.{NamePatterns}
@@ -108,7 +109,7 @@ abbrev pub Releases : Bool → ℕ → ℕ → ℕ → Slab Connection → Slab 
 Releases withheld before confirmed now old new = MatchBool (nat_lt before confirmed) (SettlesEach withheld confirmed now old new) (new ≡ old)
 
 -- the first reply that has waited for this long is to be written, or it is dropped where the KDC has to be in reach
-abbrev pub OverdueEnds : Bool → ℕ → ℕ → Slab Connection → Slab Connection → List ℕ → ℕ → Type 0
+abbrev pub OverdueEnds : Bool → ℕ → ℕ → Slab Connection → Slab Connection → IpAddr → ℕ → Type 0
 OverdueEnds true wait now old new peer ticket = EndsOverdue wait now failed 0 old new peer ticket
 OverdueEnds false wait now old new peer ticket = EndsOverdue wait now released now old new peer ticket
 

@@ -1,4 +1,5 @@
 pub mod Accepting
+pub mod Admission
 pub mod Bounded
 pub mod Controlling
 pub mod Datagrams

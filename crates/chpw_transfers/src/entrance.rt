@@ -1,21 +1,55 @@
-//! The entrance: how many connections are accepted, when the next one is, and which one waits for room.
-ghost use Rattle.std.specs.Prelude.{◌≡◌, ◌&&◌, is_none, ◌≢◌, Some, None, false, IfOk, IfErr};
+//! The entrance: how many connections are accepted, when the next one is, which one waits for room, and which one isn't
+//! let in.
+ghost use Rattle.std.specs.Prelude.{◌≡◌, ◌&&◌, is_none, ◌≢◌, Some, None, false};
 ghost use Rattle.std.specs.IoError.{error_kind, raw_os_error};
 ghost use Rattle.chpw_transfers.specs.Accepting.{is_passing as passing, is_ready, reported, resumed, after_fault};
 ghost use Rattle.chpw_transfers.specs.Bounded.{allows_more};
+ghost use Rattle.chpw_endpoints.specs.Endpoints.{IsHostOf};
+ghost use Rattle.chpw_endpoints.specs.Peers.{IsShareOf};
 ghost use Rattle.chpw_transfers.specs.declared.accepting.Accepting.TheVariants as accepting;
 ghost use Rattle.chpw_transfers.specs.declared.accept_limit.AcceptLimit.TheVariants as limit;
 
 use crate::accept_limit::AcceptLimit;
 use crate::accepting::Accepting;
+use chpw_endpoints::{Endpoints, Peer};
 use std::io::{Error, ErrorKind};
 use std::net::{SocketAddr, TcpStream};
 
-/// A connection that has come, and where it comes from.
+/// A connection that has come, and its two addresses.
 #[derive(Drop)]
 pub struct Newcomer {
     pub stream: TcpStream,
-    pub address: SocketAddr,
+    pub ends: Endpoints,
+    /// In whose share of the connections it counts, if in any.
+    pub share: Option<Peer>,
+}
+
+impl Newcomer {
+    /// The connection of this stream between these two sockets.
+    pub fn of(stream: TcpStream, peer: SocketAddr, local: SocketAddr) -> Newcomer
+        ensures stream { result.stream ≡ stream }
+        ensures peer { IsHostOf peer result.ends.peer }
+        ensures local { IsHostOf local result.ends.local }
+        ensures share { IsShareOf result.ends result.share }
+    {
+        let ends = Endpoints::of(peer, local);
+        Newcomer {
+            stream,
+            ends,
+            share: ends.share(),
+        }
+    }
+}
+
+/// What becomes of a connection that has come.
+#[derive(Drop)]
+pub enum Admission {
+    /// It is in this slot.
+    Admitted(usize),
+    /// Its peer has as many connections as it may: it is closed.
+    Refused,
+    /// It waits until there is room for it.
+    Waits(Newcomer),
 }
 
 /// Lets connections in.
@@ -92,20 +126,6 @@ impl Entrance {
         ensures value { self.new ≡ record self.old { pending = Some newcomer } }
     {
         self.pending = Some(newcomer);
-    }
-
-    /// Whether there was room for a connection, and in which slot. If there was none, it is stored until there is.
-    pub fn settle(&mut self, admitted: Result<usize, Newcomer>) -> Option<usize>
-        ensures admitted { IfOk admitted (λ slot. (result ≡ Some slot) × (self.new ≡ self.old)) }
-        ensures kept { IfErr admitted (λ newcomer. (result ≡ None) × (self.new ≡ record self.old { pending = Some newcomer })) }
-    {
-        match admitted {
-            Ok(slot) => Some(slot),
-            Err(newcomer) => {
-                self.keep(newcomer);
-                None
-            }
-        }
     }
 
     /// The connection that waits for room, if there is one. It waits here no longer.

@@ -19,7 +19,7 @@ pub use accept_limit::AcceptLimit;
 pub use accepting::Accepting;
 pub use connection_counts::ConnectionCounts;
 pub use control::{CALLERS, Control};
-pub use entrance::{Entrance, Newcomer};
+pub use entrance::{Admission, Entrance, Newcomer};
 pub use kdc::{CLERK, KdcSide, Release, UpdateEnd};
 pub use one_message::reply_of_datagram;
 pub use rounds::{Noting, is_round_due, look_at_noted, slot_at_turn};

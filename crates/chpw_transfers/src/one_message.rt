@@ -13,6 +13,7 @@ ghost use Rattle.chpw_transfers.specs.Datagrams.{CameOrFailed, CameIfRead, in_da
 ghost use Rattle.chpw_transfers.specs.declared.state.Progress.TheVariants as progress;
 
 use crate::state::{Progress, State};
+use chpw_endpoints::Endpoints;
 
 /// The bytes of the length that precedes a message or a reply over TCP.
 const LENGTH: usize = 4;
@@ -36,28 +37,29 @@ fn length_of(message: &[u8]) -> Option<[u8; 4]>
 }
 
 impl State {
-    /// A message came in a datagram. In a new connection it waits for its worker, as if it had come with its length
-    /// over TCP. None if there are as many connections as allowed, or no room or memory for it: then no connection is
-    /// left of it. Others may have ended to make room, as for any message: those that gave way to it, in their turn.
+    /// A message came in a datagram between these two. In a new connection it waits for its worker, as if it had come with
+    /// its length over TCP. It counts in nobody's share, since its sender's address may be forged. None if there are as many
+    /// connections as allowed, or no room or memory for it: then no connection is left of it. Others may have ended to make
+    /// room, as for any message: those that gave way to it, in their turn.
     pub fn take_datagram(
         &mut self,
-        peer: [u8; 4],
+        ends: Endpoints,
         message: &[u8],
         now: u64,
     ) -> Option<(usize, usize)>
         ensures bounds { bounds_of self.new.connections ≡ bounds_of self.old.connections }
-        ensures taken { IfSome result (λ r. TakesDatagram (bounds_of self.old.connections) now peer (accepted_by self.old.connections) message.now
+        ensures taken { IfSome result (λ r. TakesDatagram (bounds_of self.old.connections) now ends (accepted_by self.old.connections) message.now
             (slots_of self.old.connections) (slots_of self.new.connections) r.0 r.1 (workers_of self.old.connections)) }
         ensures dropped { IfNone result (DropsDatagram (slots_of self.old.connections) (slots_of self.new.connections)) }
         ensures in_turn { IfNone result ((self.new ≡ self.old)
-            ⊎ BeginsAndDrops (bounds_of self.old.connections) now peer (accepted_by self.old.connections) message.now
+            ⊎ BeginsAndDrops (bounds_of self.old.connections) now ends (accepted_by self.old.connections) message.now
             (slots_of self.old.connections) (slots_of self.new.connections)) }
         ensures full { nat_lt (slab_len (slots_of self.old.connections)) (bounds_of self.old.connections).connections ≡ false
             → (result ≡ None) × (self.new ≡ self.old) }
         ensures rest { self.new ≡ record self.old { connections = self.new.connections } }
     {
         let length = length_of(message)?;
-        let slot = self.connections.accept(peer, now)?;
+        let slot = self.connections.accept(ends, None, now)?;
         self.length_came(slot, &length, now);
         match self.message_came(slot, message, now) {
             Some(worker) => Some((slot, worker)),

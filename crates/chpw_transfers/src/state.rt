@@ -7,11 +7,11 @@ ghost use Rattle.chpw_connections.specs.Noting.{noted_by, is_noted_by, NotesEach
 ghost use Rattle.chpw_connections.specs.Queues.{queue_of, DropsLate};
 ghost use Rattle.chpw_connection.specs.Todos.{todo_in};
 ghost use Rattle.chpw_slots.specs.Slots.{Happens, IsNew};
-ghost use Rattle.chpw_slots.specs.Longest.{IsLongest, NobodyWaits};
+ghost use Rattle.chpw_slots.specs.Longest.{IsLongest, NobodyWaits, IsLongestOf, NobodyWaitsOf};
 ghost use Rattle.chpw_connection.specs.Late.{Passes, is_late_in};
 ghost use Rattle.chpw_connection.specs.Slot.{queued_at};
 ghost use Rattle.chpw_connection.specs.Stages.{taken, failed};
-ghost use Rattle.chpw_connections.specs.Turns.{slot_of, message_of, peer_of};
+ghost use Rattle.chpw_connections.specs.Turns.{slot_of, message_of, ends_of};
 ghost use Rattle.chpw_transfers.specs.Kdc.{dialog_in, has_update, is_behind, is_clerk, names_in, reach_in};
 ghost use Rattle.chpw_transfers.specs.Steps.{is_short_for, short_of};
 ghost use Rattle.chpw_transfers.specs.Controlling.{IsCounted, sum_of};
@@ -22,6 +22,7 @@ use crate::accepting::Accepting;
 use crate::connection_counts::ConnectionCounts;
 use crate::kdc::{KdcSide, is_clerk};
 use chpw_connections::{Connections, Counted, TakenMessage, Todo};
+use chpw_endpoints::{Endpoints, Peer};
 use chpw_kdc::KdcDialog;
 use chpw_rules::NamePatterns;
 
@@ -151,16 +152,17 @@ impl State {
             && !(is_clerk(worker) && self.has_update())
     }
 
-    /// Accepts a connection from this peer, if there is room for one more: its slot. Otherwise a client waits for room.
-    pub fn accept(&mut self, peer: [u8; 4], now: u64) -> Option<usize>
-        ensures accepted { IfSome result (λ slot. IsNew peer now (accepted_by self.old.connections)
+    /// Accepts a connection over TCP between these two, in this share, if there is room for one more: its slot. Otherwise
+    /// a client waits for room.
+    pub fn accept(&mut self, ends: Endpoints, share: Option<Peer>, now: u64) -> Option<usize>
+        ensures accepted { IfSome result (λ slot. IsNew ends share now (accepted_by self.old.connections)
             (slots_of self.old.connections) (slots_of self.new.connections) slot) }
         ensures noted { self.new.has_newcomer ≡ is_none result }
         ensures unchanged { IfNone result (self.new.connections ≡ self.old.connections) }
         ensures full { nat_lt (slab_len (slots_of self.old.connections)) (bounds_of self.old.connections).connections ≡ false → result ≡ None }
         ensures rest { self.new ≡ record self.old { connections = self.new.connections; has_newcomer = self.new.has_newcomer } }
     {
-        let slot = self.connections.accept(peer, now);
+        let slot = self.connections.accept(ends, share, now);
         self.has_newcomer = slot.is_none();
         slot
     }
@@ -191,6 +193,21 @@ impl State {
             return None;
         }
         self.connections.make_room()
+    }
+
+    /// Ends the connection that has waited longest for its client of those in this share: its slot, if one ended. For
+    /// what counts in no share nobody ends.
+    pub fn make_room_in(&mut self, share: Option<Peer>) -> Option<usize>
+        ensures ended { IfSome result (λ slot. IfSome share (λ peer. IsLongestOf peer (slots_of self.old.connections) slot)
+            × Happens 0 (slots_of self.old.connections) (slots_of self.new.connections) slot failed) }
+        ensures nobody { IfNone result (IfSome share (λ peer. NobodyWaitsOf peer (slots_of self.old.connections))
+            × (slots_of self.new.connections ≡ slots_of self.old.connections)) }
+        ensures rest { self.new ≡ record self.old { connections = self.new.connections } }
+    {
+        match share {
+            None => None,
+            Some(peer) => self.connections.make_room_for(peer),
+        }
     }
 
     /// Notes a slot for whose connection more is to be done than was done for now, unless it is noted: in a round it
@@ -228,7 +245,7 @@ impl State {
         ensures message { IfSome result (λ t. queued_at (get (slots_of self.old.connections) (slot_of t)) ≡ Some (message_of t)) }
         ensures in_time { IfSome result (λ t. is_late_in (bounds_of self.old.connections) now (get (slots_of self.old.connections) (slot_of t)) ≡ false) }
         ensures happens { IfSome result (λ t. Happens 0 (slots_of self.old.connections) (slots_of self.new.connections) (slot_of t) taken) }
-        ensures peer { IfSome result (λ t. IfSome (get (slots_of self.old.connections) (slot_of t)) (λ c. peer_of t ≡ c.peer)) }
+        ensures ends { IfSome result (λ t. IfSome (get (slots_of self.old.connections) (slot_of t)) (λ c. ends_of t ≡ c.ends)) }
         ensures first { IfSome result (λ t. queue_of self.old.connections worker ≡ slot_of t ∷ queue_of self.new.connections worker) }
         ensures others { (other : ℕ) → other ≢ worker → queue_of self.new.connections other ≡ queue_of self.old.connections other }
         ensures none { self.old.is_stopped ≡ false → IfNone result

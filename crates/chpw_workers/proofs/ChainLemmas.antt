@@ -1,6 +1,7 @@
 -- Turns one after the other.
 use Rattle.std.proofs.Common.{◌≡◌, ℕ, List, [], ◌∷◌, ◌++◌, length, Bool, if◌then◌else◌, Option, Some, None, inl, inr}
 use Rattle.std.specs.Prelude.{MatchOption}
+use Rattle.chpw_endpoints.specs.declared.endpoints.Endpoints.{Endpoints}
 use Rattle.chpw_rules.specs.declared.name.Name.{Name}
 use Rattle.chpw_record.specs.declared.key.KeyRow.{KeyRow}
 use Rattle.chpw_table.specs.declared.digest.Digest.{Digest}
@@ -40,7 +41,7 @@ change_lifts holds later f has_kdc before receipts left h = at (if has_kdc then 
     at (Some made) left h = of made left h
 
 module _ {C X : Type 0} (moments : C → Moment → C → Type 0) (random : X → ℕ → X → Type 0)
-    (error_frame : Answer → Moment → List ℕ) (private_frame : Seal → Answer → List ℕ → List ℕ) (opens : List ℕ → List ℕ → Opens → Type 0)
+    (error_frame : Answer → Moment → List ℕ) (private_frame : Seal → Answer → List ℕ → List ℕ) (opens : Endpoints → List ℕ → Opens → Type 0)
   where
     -- an answer that a full history is behind, if the history is full then too
     answer_lifts : (full more : Type 0) → (full → more) → (os : Opens → Type 0) (words : List ℕ) (now : Moment) (old new : List Receipt) (bytes : List ℕ)
@@ -73,7 +74,7 @@ module _ {C X : Type 0} (moments : C → Moment → C → Type 0) (random : X �
     comes_lifts full more f taken its_reply old new (inr (inr h)) = inr (inr (record { left = h.left; reply = h.reply }))
 
 module _ {C X : Type 0} (moments : C → Moment → C → Type 0) (random : X → ℕ → X → Type 0)
-    (error_frame : Answer → Moment → List ℕ) (private_frame : Seal → Answer → List ℕ → List ℕ) (opens : List ℕ → List ℕ → Opens → Type 0)
+    (error_frame : Answer → Moment → List ℕ) (private_frame : Seal → Answer → List ℕ → List ℕ) (opens : Endpoints → List ℕ → Opens → Type 0)
   where
     abbrev One : (List Receipt → Type 0) → (Name → Option (List KeyRow) → Type 0) → Bool → At C X → WorkerTurn → At C X → Type 0
     One full holds has_kdc = IsTurn moments random error_frame private_frame opens full holds has_kdc

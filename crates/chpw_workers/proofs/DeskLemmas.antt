@@ -2,6 +2,7 @@
 use Rattle.std.proofs.Common.{◌≡◌, ℕ, zero, suc, ◌+◌, ◌<◌, List, [], ◌∷◌, ◌++◌, Bool, true, false, Option, map, refl, sym, ◌∙◌, ap, subst, arith}
 use Rattle.std.specs.Prelude.{IfSome, Result, Ok, Err, IfOk, IfErr}
 use Rattle.std.specs.List.{range_with_len}
+use Rattle.chpw_endpoints.specs.declared.endpoints.Endpoints.{Endpoints}
 use Rattle.chpw_rules.specs.declared.name.Name.{Name}
 use Rattle.chpw_record.specs.declared.key.KeyRow.{KeyRow}
 use Rattle.chpw_table.specs.declared.times.Moment.{Moment}
@@ -61,7 +62,7 @@ if_given_back (Err e) passes_of qs P h back = subst (P e) (sym back) h
 
 module _ {I G C X : Type 0} (moments : C → Moment → C → Type 0) (random : X → ℕ → X → Type 0) (turns_at : I → List WorkerTurn)
     (error_frame : Answer → Moment → List ℕ) (private_frame : Seal → Answer → List ℕ → List ℕ)
-    (opens : List ℕ → List ℕ → Opens → Type 0) (holds : Name → Option (List KeyRow) → Type 0) (has_kdc : Bool) (workers : ℕ) where
+    (opens : Endpoints → List ℕ → Opens → Type 0) (holds : Name → Option (List KeyRow) → Type 0) (has_kdc : Bool) (workers : ℕ) where
   abbrev One : PassView → Worker I G C X → PassView → Worker I G C X → Type 0
   One = IsShift moments random turns_at error_frame private_frame opens holds has_kdc
 

@@ -1,5 +1,6 @@
 -- Who decides goes on, message after message.
 use Rattle.std.proofs.Common.{◌≡◌, ℕ, List, [], ◌∷◌, Bool, Option, sym, subst, ap, inl, inr}
+use Rattle.std.specs.declared.net.ip_addr.IpAddr.{IpAddr}
 use Rattle.chpw_table.specs.declared.times.Moment.{Moment}
 use Rattle.chpw_table.specs.declared.history.Receipt.{Receipt}
 use Rattle.chpw_table.specs.Replies.{Answer}
@@ -16,7 +17,7 @@ use Rattle.chpw_serve.specs.Serving.{StreamState, Turn, Serves, IsEnd, IsServed,
 module _ {C X D G : Type 0} (error_frame : Answer → Moment → List ℕ) (private_frame : Seal → Answer → List ℕ → List ℕ)
     (may_be_full : D → List Receipt → Type 0) (gathered : D → List Receipt) (follows : D → D → Type 0) (made : D → Option ℕ → Type 0)
     (passes : G → Spot → G → Type 0) (hears : G → Heard → G → Type 0) (opens : List ℕ → Opens → Type 0)
-    (moments : C → Moment → C → Type 0) (random : X → ℕ → X → Type 0) (peer : List ℕ)
+    (moments : C → Moment → C → Type 0) (random : X → ℕ → X → Type 0) (peer : IpAddr)
     (stays : (d : D) → follows d d) (goes_on : (d e f : D) → follows d e → follows e f → follows d f) where
   abbrev answers : List ℕ → List ℕ → Moment → D → D → G → G → List ℕ → Bool → Type 0
   answers = Answering error_frame private_frame may_be_full gathered follows made passes hears opens peer

@@ -4,6 +4,7 @@ use Rattle.std.proofs.Common.{sym, ◌∙◌, ap, subst, inl, inr, length, drop,
 use Rattle.std.specs.Prelude.{◌⊎◌}
 use Rattle.std.specs.Io.KnownBytes.{Appends}
 use Rattle.std.proofs.lemmas.List.{length-drop, drop_all}
+use Rattle.chpw_endpoints.specs.declared.endpoints.Endpoints.{Endpoints}
 use Rattle.chpw_frame.specs.Stream.{Piece, message, ended, cut_off, too_long, next_piece, after_piece, sent}
 use Rattle.chpw_frame.specs.Receiving.{TakesPiece}
 use Rattle.chpw_connection.specs.Messages.{IsPiece}
@@ -25,7 +26,7 @@ use Rattle.chpw_serve.proofs.ChainLemmas.{took}
 use Rattle.chpw_connections.specs.declared.taking.Reply.{Reply}
 use Rattle.chpw_connections.specs.declared.taking.TakenMessage.{TakenMessage}
 use Rattle.chpw_workers.specs.Replies.{IsReplyWith, IsReplyBehind}
-use Rattle.chpw_connections.specs.Turns.{message_of, peer_of}
+use Rattle.chpw_connections.specs.Turns.{message_of, ends_of}
 use Rattle.chpw_workers.specs.Turns.{At, at, Comes, AddsEntry}
 
 inside : (s t : List ℕ) → Some s ≡ Some t → s ≡ t
@@ -64,13 +65,13 @@ nothing_behind m text (inr h) e = (let k = h.0 in absurd cc)
 
 module _ {C X D G : Type 0} (error_frame : Answer → Moment → List ℕ) (private_frame : Seal → Answer → List ℕ → List ℕ)
     (may_be_full : D → List Receipt → Type 0) (gathered : D → List Receipt) (follows : D → D → Type 0) (made : D → Option ℕ → Type 0)
-    (passes : G → Spot → G → Type 0) (hears : G → Heard → G → Type 0) (opens : List ℕ → List ℕ → Opens → Type 0)
+    (passes : G → Spot → G → Type 0) (hears : G → Heard → G → Type 0) (opens : Endpoints → List ℕ → Opens → Type 0)
     (moments : C → Moment → C → Type 0) (random : X → ℕ → X → Type 0) (taken : TakenMessage) (its_reply : Option Reply) where
   abbrev answers : List ℕ → List ℕ → Moment → D → D → G → G → List ℕ → Bool → Type 0
-  answers = Answering error_frame private_frame may_be_full gathered follows made passes hears (opens (peer_of taken)) (peer_of taken)
+  answers = Answering error_frame private_frame may_be_full gathered follows made passes hears (opens (ends_of taken)) (ends_of taken).peer
 
   abbrev adds : List ℕ → Moment → D → D → G → G → Type 0
-  adds = Unanswered gathered follows made passes hears (opens (peer_of taken)) (peer_of taken)
+  adds = Unanswered gathered follows made passes hears (opens (ends_of taken)) (ends_of taken).peer
 
   abbrev refusal : Moment → List ℕ
   refusal now = error_frame message_too_long now
@@ -87,7 +88,7 @@ module _ {C X D G : Type 0} (error_frame : Answer → Moment → List ℕ) (priv
   -- an answer adds an entry at the most
   one_more : (full : Type 0) (text words : List ℕ) (now : Moment) (old new : List Receipt) (bytes : List ℕ)
       → next_piece (message_of taken) ≡ message text
-      → IsAnswer error_frame private_frame full (opens (peer_of taken) text) words now old new bytes → AddsOne now old new
+      → IsAnswer error_frame private_frame full (opens (ends_of taken) text) words now old new bytes → AddsOne now old new
   one_more full text words now old new bytes is (refused a, o, h) = inl h.0
   one_more full text words now old new bytes is (opened q, o, inl h) = inl h.0
   one_more full text words now old new bytes is (opened q, o, inr h) =
@@ -95,7 +96,7 @@ module _ {C X D G : Type 0} (error_frame : Answer → Moment → List ℕ) (priv
 
   -- and so does a message for whose answer memory ran out
   one_left : (text : List ℕ) (now : Moment) (d e : D) (calls : _) → next_piece (message_of taken) ≡ message text
-      → AreCallsUnanswered (peer_of taken) now (made e) (gathered d) (gathered e) (opens (peer_of taken) text) calls
+      → AreCallsUnanswered (ends_of taken).peer now (made e) (gathered d) (gathered e) (opens (ends_of taken) text) calls
       → AddsOne now (gathered d) (gathered e)
   one_left text now d e calls is (inl k) = inl k.0
   one_left text now d e calls is (inr (refused a, o, k)) = inl k.0
@@ -109,7 +110,7 @@ module _ {C X D G : Type 0} (error_frame : Answer → Moment → List ℕ) (priv
     reply = none;
   }))
 
-  left_refused : (d e : D) (a b : Around C X G) (bytes : List ℕ) → Refuses refusal moments random hears (peer_of taken) a b bytes
+  left_refused : (d e : D) (a b : Around C X G) (bytes : List ℕ) → Refuses refusal moments random hears (ends_of taken).peer a b bytes
       → e ≡ d → its_reply ≡ None → Came d a e b
   left_refused d e a b bytes r same none = inr (inr (record {
     left = inr (r.moment, r.words, record { moment_is = r.moment_is; words_are = r.words_are; nine = r.nine }, inl (ap gathered same));
@@ -117,7 +118,7 @@ module _ {C X D G : Type 0} (error_frame : Answer → Moment → List ℕ) (priv
   }))
 
   left_answered : (written : Bool) (before after : StreamState C X D G) (x : serving.Turn) → next_piece (message_of taken) ≡ message x.text
-      → Answers answers adds refusal moments random passes hears (peer_of taken) written before x after
+      → Answers answers adds refusal moments random passes hears (ends_of taken).peer written before x after
       → its_reply ≡ None → Came before.decider before.around after.decider after.around
   left_answered written before after x is h none = inr (inr (record {
     left = inr (
@@ -130,7 +131,7 @@ module _ {C X D G : Type 0} (error_frame : Answer → Moment → List ℕ) (priv
   }))
 
   left_open : (before after : StreamState C X D G)
-      → (h : Leaves answers adds refusal moments random passes hears (peer_of taken) before after)
+      → (h : Leaves answers adds refusal moments random passes hears (ends_of taken).peer before after)
       → next_piece (message_of taken) ≡ message h.text → its_reply ≡ None
       → Came before.decider before.around after.decider after.around
   left_open before after h is none = inr (inr (record {
@@ -150,7 +151,7 @@ module _ {C X D G : Type 0} (error_frame : Answer → Moment → List ℕ) (priv
 
   module _ (m bytes : List ℕ) (is : message_of taken ≡ m) (piece : IsPiece m) where
     abbrev Ends : Ended → ℕ → StreamState C X D G → StreamState C X D G → Type 0
-    Ends e n last final = IsEnd answers adds refusal moments random passes hears (peer_of taken) e n last final
+    Ends e n last final = IsEnd answers adds refusal moments random passes hears (ends_of taken).peer e n last final
 
     -- no message was answered
     none_answered : (e : Ended) (start final : StreamState C X D G) → start.left ≡ Some m → start.around.out ≡ Some []
@@ -185,7 +186,7 @@ module _ {C X D G : Type 0} (error_frame : Answer → Moment → List ℕ) (priv
 
     -- one was
     one_answered : (e : Ended) (start mid final : StreamState C X D G) (x : serving.Turn) → start.left ≡ Some m → start.around.out ≡ Some []
-        → final.around.out ≡ Some bytes → Serves answers adds refusal moments random passes hears (peer_of taken) start x mid
+        → final.around.out ≡ Some bytes → Serves answers adds refusal moments random passes hears (ends_of taken).peer start x mid
         → Ends e 1 mid final → IsReplyBehind e bytes its_reply
         → Came start.decider start.around final.decider final.around
     one_answered e start mid final x at_start out back served ends reply = by_end e ends reply
@@ -199,7 +200,7 @@ module _ {C X D G : Type 0} (error_frame : Answer → Moment → List ℕ) (priv
         unread : (p : Piece) → TakesPiece p mid.left final.left → ended ≡ p
         unread p h = (took p [] mid.left final.left over h).0
 
-        left_over : StaysOtherwise answers adds refusal moments random passes hears (peer_of taken) mid final → its_reply ≡ None
+        left_over : StaysOtherwise answers adds refusal moments random passes hears (ends_of taken).peer mid final → its_reply ≡ None
             → Came start.decider start.around final.decider final.around
         left_over h none = stays start.decider mid.decider final.decider start.around mid.around final.around h.0 h.1
             (left_answered true start mid x (ap next_piece is ∙ first.0) served.1 none)
@@ -231,7 +232,7 @@ module _ {C X D G : Type 0} (error_frame : Answer → Moment → List ℕ) (priv
     -- and no second one
     by_turns : (e : Ended) (start last final : StreamState C X D G) (turns : List serving.Turn) → start.left ≡ Some m → start.around.out ≡ Some []
         → final.around.out ≡ Some bytes
-        → InTurn (Serves answers adds refusal moments random passes hears (peer_of taken)) start turns last
+        → InTurn (Serves answers adds refusal moments random passes hears (ends_of taken).peer) start turns last
         → Ends e (length turns) last final → IsReplyBehind e bytes its_reply
         → Came start.decider start.around final.decider final.around
     by_turns e start last final [] at_start out back served ends reply =
@@ -249,7 +250,7 @@ module _ {C X D G : Type 0} (error_frame : Answer → Moment → List ℕ) (priv
     -- what came of a message of which the stream was served
     pub comes : (e : Ended) (start final : StreamState C X D G) → start.left ≡ Some m → start.around.out ≡ Some []
         → final.around.out ≡ Some bytes
-        → IsServed answers adds refusal moments random passes hears (peer_of taken) e start final → IsReplyBehind e bytes its_reply
+        → IsServed answers adds refusal moments random passes hears (ends_of taken).peer e start final → IsReplyBehind e bytes its_reply
         → Came start.decider start.around final.decider final.around
     comes e start final at_start out back served reply =
         by_turns e start served.last final served.turns at_start out back served.served served.end_is reply

@@ -1,6 +1,7 @@
 -- A request that opens and isn't decided adds no entry.
 use Rattle.std.proofs.Common.{◌≡◌, ◌⊎◌, ℕ, List, Option, refl, sym, ap, inl, inr}
 use Rattle.krb_protocol.specs.declared.refusal.Refusal.{Refusal}
+use Rattle.chpw_endpoints.specs.declared.endpoints.Endpoints.{Endpoints}
 use Rattle.chpw_table.specs.declared.times.Moment.{Moment}
 use Rattle.chpw_table.specs.declared.history.Receipt.{Receipt}
 use Rattle.chpw_table.specs.Replies.{Answer}
@@ -34,11 +35,11 @@ never_opened q (opened p) e = cc
 
 module _ {C X : Type 0} (moments : C → Moment → C → Type 0) (random : X → ℕ → X → Type 0)
     (error_frame : Answer → Moment → List ℕ) (private_frame : Seal → Answer → List ℕ → List ℕ)
-    (opens : List ℕ → List ℕ → Opens → Type 0) (full : List Receipt → Type 0) where
-  answer_adds_nothing : (more : Type 0) (peer text words : List ℕ) (now : Moment) (old new : List Receipt) (bytes : List ℕ)
-      → IsAnswer error_frame private_frame more (OpensUndecided opens peer text) words now old new bytes → new ≡ old
-  answer_adds_nothing more peer text words now old new bytes (refused a, o, h) = h.0
-  answer_adds_nothing more peer text words now old new bytes (opened q, o, h) = absurd (never_opened q o.0 o.2)
+    (opens : Endpoints → List ℕ → Opens → Type 0) (full : List Receipt → Type 0) where
+  answer_adds_nothing : (more : Type 0) (ends : Endpoints) (text words : List ℕ) (now : Moment) (old new : List Receipt) (bytes : List ℕ)
+      → IsAnswer error_frame private_frame more (OpensUndecided opens ends text) words now old new bytes → new ≡ old
+  answer_adds_nothing more ends text words now old new bytes (refused a, o, h) = h.0
+  answer_adds_nothing more ends text words now old new bytes (opened q, o, h) = absurd (never_opened q o.0 o.2)
 
   no_entry : (taken : TakenMessage) (now : Moment) (old new : List Receipt) → AddsEntry (OpensUndecided opens) taken now old new → ⊥
   no_entry taken now old new a = never_opened a.request a.opens_so.0 a.opens_so.2

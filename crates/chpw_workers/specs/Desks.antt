@@ -1,6 +1,7 @@
 -- What a desk that was closed had served: the whole, from each message to the history.
 use Rattle.std.specs.Prelude.{◌≡◌, ℕ, Bool, ◌+◌, List, [], ◌∷◌, ◌++◌, Option, IfSome, true, map}
 use Rattle.std.specs.List.{range_with_len}
+use Rattle.chpw_endpoints.specs.declared.endpoints.Endpoints.{Endpoints}
 use Rattle.chpw_rules.specs.declared.name.Name.{Name}
 use Rattle.chpw_record.specs.declared.key.KeyRow.{KeyRow}
 use Rattle.chpw_table.specs.declared.times.Moment.{Moment}
@@ -26,7 +27,7 @@ AreInOrder workers passes = map (λ (p : PassView). p.worker) passes ≡ range_w
 
 module _ {I G C X : Type 0} (moments : C → Moment → C → Type 0) (random : X → ℕ → X → Type 0) (turns_at : I → List WorkerTurn)
     (error_frame : Answer → Moment → List ℕ) (private_frame : Seal → Answer → List ℕ → List ℕ)
-    (opens : List ℕ → List ℕ → Opens → Type 0) (holds : Name → Option (List KeyRow) → Type 0) (has_kdc : Bool) where
+    (opens : Endpoints → List ℕ → Opens → Type 0) (holds : Name → Option (List KeyRow) → Type 0) (has_kdc : Bool) where
   -- The turns that a worker's inbox gained, one after the other, took it from the receipts that it had to its calls in the
   -- history: so each reply is the answer to its own message, each entry of the worker's came of one turn, is of the request
   -- that the turn's message opened to, and has the verdict that its reply carries, if memory sufficed for one; and they stand in

@@ -1,5 +1,6 @@
 -- What workers did at a desk, and what a desk that closed has of it.
 use Rattle.std.specs.Prelude.{◌≡◌, ℕ, Bool, List, [], ◌∷◌, ◌++◌, Option, true}
+use Rattle.chpw_endpoints.specs.declared.endpoints.Endpoints.{Endpoints}
 use Rattle.chpw_rules.specs.declared.name.Name.{Name}
 use Rattle.chpw_record.specs.declared.key.KeyRow.{KeyRow}
 use Rattle.chpw_table.specs.declared.times.Moment.{Moment}
@@ -14,7 +15,7 @@ use Rattle.chpw_workers.specs.Turns.{At, at, AreTurns}
 
 module _ {I G C X : Type 0} (moments : C → Moment → C → Type 0) (random : X → ℕ → X → Type 0) (turns_at : I → List WorkerTurn)
     (error_frame : Answer → Moment → List ℕ) (private_frame : Seal → Answer → List ℕ → List ℕ)
-    (opens : List ℕ → List ℕ → Opens → Type 0) (holds : Name → Option (List KeyRow) → Type 0) (has_kdc : Bool) where
+    (opens : Endpoints → List ℕ → Opens → Type 0) (holds : Name → Option (List KeyRow) → Type 0) (has_kdc : Bool) where
   -- where a worker is, with these receipts
   abbrev pub at_worker : List Receipt → Worker I G C X → At C X
   at_worker receipts w = at receipts w.clock w.words

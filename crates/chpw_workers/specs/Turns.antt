@@ -1,5 +1,6 @@
 -- A worker's turn: a message that it took, or what the KDC says, and what came of it.
 use Rattle.std.specs.Prelude.{◌≡◌, ℕ, List, length, Bool, true, false, Option, None, ◌⊎◌, MatchResult}
+use Rattle.chpw_endpoints.specs.declared.endpoints.Endpoints.{Endpoints}
 use Rattle.chpw_frame.specs.Stream.{message, too_long, next_piece, sent}
 use Rattle.chpw_table.specs.declared.times.Moment.{Moment}
 use Rattle.chpw_table.specs.declared.history.Receipt.{Receipt}
@@ -26,7 +27,7 @@ use Rattle.chpw_workers.specs.declared.inbox.WorkerTurn.{WorkerTurn}
 use Rattle.chpw_workers.specs.declared.inbox.WorkerTurn.TheVariants as turn
 use Rattle.chpw_workers.specs.Replies.{IsReplyWith, IsKdcChange}
 use Rattle.chpw_workers.specs.Undecided.{OpensUndecided}
-use Rattle.chpw_connections.specs.Turns.{message_of, peer_of}
+use Rattle.chpw_connections.specs.Turns.{message_of, ends_of}
 
 -- where a worker is between two turns: the receipts of its entries, its clock and its random words
 pub record At (C X : Type 0) : Type 0 where
@@ -38,13 +39,13 @@ abbrev pub at : {C X : Type 0} → List Receipt → C → X → At C X
 at receipts clock words = record { receipts = receipts; clock = clock; words = words }
 
 -- one entry was added: of the request that the message opened to, with some keys derived, judged at this moment
-pub record AddsEntry (opens : List ℕ → List ℕ → Opens → Type 0) (taken : TakenMessage) (moment : Moment) (old new : List Receipt) : Type 0 where
+pub record AddsEntry (opens : Endpoints → List ℕ → Opens → Type 0) (taken : TakenMessage) (moment : Moment) (old new : List Receipt) : Type 0 where
   pub text : List ℕ
   pub request : Request
   pub counts : List ℕ
   pub verdict : Verdict
   pub text_is : next_piece (message_of taken) ≡ message text
-  pub opens_so : opens (peer_of taken) text (opened request)
+  pub opens_so : opens (ends_of taken) text (opened request)
   pub adds : AddsReceipt old new moment (opened_under counts request) verdict
 
 module _ {C X : Type 0} (moments : C → Moment → C → Type 0) (holds : Name → Option (List KeyRow) → Type 0) where
@@ -69,7 +70,7 @@ module _ {C X : Type 0} (moments : C → Moment → C → Type 0) (random : X �
     pub nine : length words ≡ 9
 
   module _ (error_frame : Answer → Moment → List ℕ) (private_frame : Seal → Answer → List ℕ → List ℕ)
-      (opens : List ℕ → List ℕ → Opens → Type 0) (full : List Receipt → Type 0) where
+      (opens : Endpoints → List ℕ → Opens → Type 0) (full : List Receipt → Type 0) where
     -- The reply answers the message's text, judged at the moment that was drawn: if it opened, by the entry that was added,
     -- whose request is the one that it opened to and whose verdict the reply carries; or there is no entry, since it
     -- didn't open, or since the history is full.
@@ -80,7 +81,7 @@ module _ {C X : Type 0} (moments : C → Moment → C → Type 0) (random : X �
       pub bytes : List ℕ
       pub text_is : next_piece (message_of taken) ≡ message text
       pub draws : Draws old new moment words
-      pub answer : IsAnswer error_frame private_frame (full new.receipts) (opens (peer_of taken) text)
+      pub answer : IsAnswer error_frame private_frame (full new.receipts) (opens (ends_of taken) text)
           words moment old.receipts new.receipts bytes
       pub reply : IsReplyWith (sent bytes) false its_reply
 
@@ -109,7 +110,7 @@ module _ {C X : Type 0} (moments : C → Moment → C → Type 0) (random : X �
       pub change : IsKdcChange holds has_kdc (length old.receipts) new.receipts t.change
 
   module _ (error_frame : Answer → Moment → List ℕ) (private_frame : Seal → Answer → List ℕ → List ℕ)
-      (opens : List ℕ → List ℕ → Opens → Type 0) (full : List Receipt → Type 0) where
+      (opens : Endpoints → List ℕ → Opens → Type 0) (full : List Receipt → Type 0) where
     -- in a turn whose message isn't decided there is no entry
     abbrev pub IsTurn : (Name → Option (List KeyRow) → Type 0) → Bool → At C X → WorkerTurn → At C X → Type 0
     IsTurn holds has_kdc old (turn.Message t) new = IsMessageTurn error_frame private_frame opens full holds has_kdc t old new

@@ -3,6 +3,7 @@ ghost use Rattle.std.specs.Prelude.{◌≡◌};
 ghost use Rattle.chpw_serve.specs.Holding.{answer_in};
 ghost use Rattle.chpw_workers.specs.Undecided.{kdc_out_of_reach};
 
+use chpw_endpoints::Endpoints;
 use chpw_serve::{Messages, OpenResult, Seal};
 use chpw_table::Moment;
 use krb_protocol::Refusal;
@@ -28,8 +29,13 @@ impl<'a, M: Messages> Messages for Undecided<'a, M> {
         self.messages.realm()
     }
 
-    fn open(&self, alloc: Global, peer: [u8; 4], message: &[u8]) -> Result<OpenResult, AllocError> {
-        match self.messages.open(alloc, peer, message)? {
+    fn open(
+        &self,
+        alloc: Global,
+        ends: Endpoints,
+        message: &[u8],
+    ) -> Result<OpenResult, AllocError> {
+        match self.messages.open(alloc, ends, message)? {
             OpenResult::Opened(_) => Ok(OpenResult::Refused(kdc_out_of_reach())),
             OpenResult::Refused(refusal) => Ok(OpenResult::Refused(refusal)),
         }

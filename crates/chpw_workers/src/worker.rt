@@ -7,7 +7,7 @@ ghost use Rattle.chpw_serve.specs.declared.serving.Ended.{Ended};
 ghost use Rattle.chpw_workers.specs.declared.inbox.WorkerTurn.{WorkerTurn as turn_spec};
 ghost use Rattle.chpw_workers.specs.Replies.{IsKdcChange, IsReplyBehind, change_made_after, change_made_by, fills_at, password_in};
 ghost use Rattle.chpw_workers.specs.Turns.{at, AreTurns, IsMessageTurn, IsToldTo, IsTurn, IsUpdated};
-ghost use Rattle.chpw_connections.specs.Turns.{message_of, peer_of};
+ghost use Rattle.chpw_connections.specs.Turns.{message_of, ends_of};
 
 use crate::context::Context;
 use crate::inbox::{Crew, Inbox, Task, WorkerTurn};
@@ -247,10 +247,10 @@ fn reply_to<M: Messages, K: Decider, I, G: Gate + Observer + UpdateObserver, C: 
 ) -> Option<Reply>
     ensures replied { (ended : Ended) × (bytes : List ℕ) × (left : Option (List ℕ))
         × IsServed (Answering (M.error_frame service.now) (M.private_frame service.now) K.may_be_full K.gathered K.follows K.made
-        G.passes G.hears (M.opens service.now (peer_of taken.now)) (peer_of taken.now))
-        (Unanswered K.gathered K.follows K.made G.passes G.hears (M.opens service.now (peer_of taken.now)) (peer_of taken.now))
+        G.passes G.hears (M.opens service.now (ends_of taken.now)) (ends_of taken.now).peer)
+        (Unanswered K.gathered K.follows K.made G.passes G.hears (M.opens service.now (ends_of taken.now)) (ends_of taken.now).peer)
         (λ now. M.error_frame service.now message_too_long now)
-        C.gives X.gives G.passes G.hears (peer_of taken.now) ended
+        C.gives X.gives G.passes G.hears (ends_of taken.now).peer ended
         (stream_state (Some (message_of taken.now)) decider.old (Some []) worker.old.clock worker.old.words worker.old.gate)
         (stream_state left decider.new (Some bytes) worker.new.clock worker.new.words worker.new.gate)
         × IsReplyBehind ended bytes result }
@@ -262,7 +262,7 @@ fn reply_to<M: Messages, K: Decider, I, G: Gate + Observer + UpdateObserver, C: 
     let ended = serve_stream(
         alloc,
         service,
-        taken.peer(),
+        taken.ends(),
         &mut left,
         &mut bytes,
         decider,

@@ -12,6 +12,7 @@ use Rattle.krb_codec.specs.Grammar.{Spells, is_legal}
 use Rattle.krb_codec.proofs.CompleteLemmas.{one_value, same_or_not}
 use Rattle.krb_codec.specs.declared.kerberos_time.KerberosTime.{KerberosTime}
 use Rattle.krb_codec.specs.declared.numbers.Microseconds.{Microseconds}
+use Rattle.std.specs.declared.net.ip_addr.IpAddr.{IpAddr}
 use Rattle.krb_der.specs.Types.{ap_req, ap_rep, authenticator, enc_ap_rep_part, enc_krb_priv_part, enc_ticket_part, encryption_key, krb_error, krb_priv}
 use Rattle.krb_der.specs.Values.{ap_req_value, ap_rep_value, authenticator_value}
 use Rattle.krb_der.specs.Values.{enc_ap_rep_part_value, enc_krb_priv_part_value, enc_ticket_part_value}
@@ -129,7 +130,7 @@ key_in_subkey None key held h = absurd h
 key_in_subkey (Some field) key held h = key_in_field field key held.1.0 h
 
 -- the subkey of an AP-REQ that opened is a protocol key
-pub subkey_is_key : (realm : List ℕ) (keys : List ServiceKey) (bytes peer : List ℕ) (a : ApOpened)
+pub subkey_is_key : (realm : List ℕ) (keys : List ServiceKey) (bytes : List ℕ) (peer : IpAddr) (a : ApOpened)
     → OpensAp realm keys bytes peer (Ok a) → IsProtocolKey a.subkey
 unfolding OpensAp OpensAuthenticator Accepts
 subkey_is_key realm keys bytes peer a h =
@@ -150,7 +151,7 @@ one_authenticator session sealed is_key =
     one_then _ _ (one_part authenticator authenticator_value session _ sealed _ _ refl authenticator_apart is_key) (λ a _.
     one_held _ _ _ (one_passed a))
 
-pub one_accepted : (peer : List ℕ) (part : EncTicketPart) (session : Key) (a : Authenticator) → IsOne (Accepts peer part session a)
+pub one_accepted : (peer : IpAddr) (part : EncTicketPart) (session : Key) (a : Authenticator) → IsOne (Accepts peer part session a)
 unfolding Accepts
 one_accepted peer part session a =
     one_held _ _ _ (one_held _ _ _ (one_found _ _ _ (one_subkey a.subkey) (λ subkey _. one_passed (opened_of part session a subkey))))
@@ -169,7 +170,7 @@ ap_reqs_open_once realm keys bytes peer are =
 
 pub privs_open_once : PrivsOpenOnce
 unfolding OpensPriv
-privs_open_once strictness subkey seq_number bytes is_key =
+privs_open_once strictness local subkey seq_number bytes is_key =
     one_then _ _ (one_read krb_priv krb_priv_value bytes _ refl krb_priv_apart) (λ m _.
     one_held _ _ _
     (one_then _ _ (one_part enc_krb_priv_part enc_krb_priv_part_value subkey _ m.enc_part _ _ refl priv_part_apart is_key) (λ part _.
@@ -247,12 +248,12 @@ same_authenticator session part other a b h k cipher =
     (etype_is authenticator authenticator_value session _ part _ _ opens.0 opens.1) (sym cipher)) opens_other.2
 
 -- what ticket and authenticator of an AP-REQ that opens hold
-abbrev Holds : List ℕ → Key → ApReq → ApOpened → Type 0
+abbrev Holds : IpAddr → Key → ApReq → ApOpened → Type 0
 Holds peer key request a =
     (ticket : EncTicketPart × Key) × OpensTicket key request.ticket.enc_part (Ok ticket)
     × ((x : Authenticator) × OpensAuthenticator ticket.1 request.authenticator (Ok x) × Accepts peer ticket.0 ticket.1 x (Ok a))
 
-holds : (realm : List ℕ) (keys : List ServiceKey) (peer bytes : List ℕ) (request : ApReq) (key : Key) (a : ApOpened)
+holds : (realm : List ℕ) (keys : List ServiceKey) (peer : IpAddr) (bytes : List ℕ) (request : ApReq) (key : Key) (a : ApOpened)
     → Spells ap_req bytes (ap_req_value request) → IsServiceKey keys request.ticket.enc_part key
     → OpensAp realm keys bytes peer (Ok a) → Holds peer key request a
 unfolding OpensAp Presents

@@ -23,7 +23,7 @@ use Rattle.krb_msgs.proofs.PartLemmas.{reads_text, opens_sealed, known_etype, so
 
 pub privs_open : PrivsOpen
 unfolding OpensPriv
-privs_open strictness subkey seq_number m part is follows strict =
+privs_open strictness local subkey seq_number m part is follows strict =
     goes_on m (reads_text krb_priv krb_priv_value m _ refl is.fit)
     (met is.private
     (goes_on part (opens_sealed subkey _ m.enc_part enc_krb_priv_part enc_krb_priv_part_value part _ _ refl refl is.sealed)

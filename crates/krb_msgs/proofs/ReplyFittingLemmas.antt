@@ -1,6 +1,7 @@
 -- What a service's reply is made of is in its range, and short.
 use Rattle.std.proofs.Common.{◌≡◌, ℕ, ◌≤◌, ◌<◌, ◌^◌, true, refl, arith}
 use Rattle.std.proofs.lemmas.Bool.{lt-ltb}
+use Rattle.std.specs.declared.net.ip_addr.IpAddr.TheVariants.{V4, V6}
 use Rattle.krb_codec.specs.Shapes.{Shape, Value, seq_number}
 use Rattle.krb_codec.specs.Texts.{is_in_range}
 use Rattle.krb_codec.proofs.CompleteLemmas.{and_both}
@@ -26,9 +27,12 @@ ap_rep_parts_fit ctime cusec number moment lt =
     (and_both moment.0 (and_both moment.1 (and_both (number_range number lt) refl))) (omega arith)
 
 pub priv_parts_fit : PrivPartsFit
-priv_parts_fit user_data number lt le =
-    short_part enc_krb_priv_part (enc_krb_priv_part_value (priv_part_of user_data number))
-    (and_both (number_range number lt) refl) (omega (arith, le))
+priv_parts_fit (V4 ip) user_data number lt le few =
+    short_part enc_krb_priv_part (enc_krb_priv_part_value (priv_part_of (V4 ip) user_data number))
+    (and_both (number_range number lt) refl) (omega (arith, le, few))
+priv_parts_fit (V6 ip) user_data number lt le few =
+    short_part enc_krb_priv_part (enc_krb_priv_part_value (priv_part_of (V6 ip) user_data number))
+    (and_both (number_range number lt) refl) (omega (arith, le, few))
 
 pub errors_fit : ErrorsFit
 errors_fit stime susec code realm e_data moment is_code le =

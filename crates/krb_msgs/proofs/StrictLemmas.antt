@@ -22,20 +22,20 @@ use Rattle.krb_msgs.proofs.OneAnswerLemmas.{one_part, one_read}
 
 pub strict_privs_open : StrictPrivsOpen
 unfolding OpensPriv
-strict_privs_open subkey seq_number bytes answer (stops f h is) = inl (stops f h is)
-strict_privs_open subkey seq_number bytes answer (goes_on m h (unmet wrong is)) = inl (goes_on m h (unmet wrong is))
-strict_privs_open subkey seq_number bytes answer (goes_on m h (met right (stops f k is))) = inl (goes_on m h (met right (stops f k is)))
-strict_privs_open subkey seq_number bytes answer (goes_on m h (met right (goes_on part k (unmet wrong is)))) =
+strict_privs_open local subkey seq_number bytes answer (stops f h is) = inl (stops f h is)
+strict_privs_open local subkey seq_number bytes answer (goes_on m h (unmet wrong is)) = inl (goes_on m h (unmet wrong is))
+strict_privs_open local subkey seq_number bytes answer (goes_on m h (met right (stops f k is))) = inl (goes_on m h (met right (stops f k is)))
+strict_privs_open local subkey seq_number bytes answer (goes_on m h (met right (goes_on part k (unmet wrong is)))) =
     inl (goes_on m h (met right (goes_on part k (unmet wrong is))))
-strict_privs_open subkey seq_number bytes answer (goes_on m h (met right (goes_on part k (met follows (met strict is))))) =
+strict_privs_open local subkey seq_number bytes answer (goes_on m h (met right (goes_on part k (met follows (met strict is))))) =
     inl (goes_on m h (met right (goes_on part k (met follows (met refl is)))))
-strict_privs_open subkey seq_number bytes answer (goes_on m h (met right (goes_on part k (met follows (unmet loose is))))) = inr is
+strict_privs_open local subkey seq_number bytes answer (goes_on m h (met right (goes_on part k (met follows (unmet loose is))))) = inr is
 
 pub other_privs_open_alike : OtherPrivsOpenAlike
 unfolding OpensPriv
-other_privs_open_alike subkey seq_number bytes answer all = (to_lenient, to_strict)
+other_privs_open_alike local subkey seq_number bytes answer all = (to_lenient, to_strict)
   where
-    to_lenient : OpensPriv Strict subkey seq_number bytes answer → OpensPriv Lenient subkey seq_number bytes answer
+    to_lenient : OpensPriv Strict local subkey seq_number bytes answer → OpensPriv Lenient local subkey seq_number bytes answer
     to_lenient (stops f h is) = stops f h is
     to_lenient (goes_on m h (unmet wrong is)) = goes_on m h (unmet wrong is)
     to_lenient (goes_on m h (met right (stops f k is))) = goes_on m h (met right (stops f k is))
@@ -44,7 +44,7 @@ other_privs_open_alike subkey seq_number bytes answer all = (to_lenient, to_stri
         goes_on m h (met right (goes_on part k (met follows (met refl is))))
     to_lenient (goes_on m h (met right (goes_on part k (met follows (unmet loose is))))) = absurd (loose (all part (m, h, right, k)))
 
-    to_strict : OpensPriv Lenient subkey seq_number bytes answer → OpensPriv Strict subkey seq_number bytes answer
+    to_strict : OpensPriv Lenient local subkey seq_number bytes answer → OpensPriv Strict local subkey seq_number bytes answer
     to_strict (stops f h is) = stops f h is
     to_strict (goes_on m h (unmet wrong is)) = goes_on m h (unmet wrong is)
     to_strict (goes_on m h (met right (stops f k is))) = goes_on m h (met right (stops f k is))
@@ -83,17 +83,17 @@ its_part subkey bytes part has m h =
 
 pub loose_privs_are_refused : LoosePrivsAreRefused
 unfolding OpensPriv
-loose_privs_are_refused subkey seq_number bytes part answer is_key has loose (stops f h is) =
+loose_privs_are_refused local subkey seq_number bytes part answer is_key has loose (stops f h is) =
     absurd (ok_err (read_once bytes (Ok has.0) (Err f) has.1 h))
-loose_privs_are_refused subkey seq_number bytes part answer is_key has loose (goes_on m h (unmet wrong is)) =
+loose_privs_are_refused local subkey seq_number bytes part answer is_key has loose (goes_on m h (unmet wrong is)) =
     absurd (wrong (its_part subkey bytes part has m h).0)
-loose_privs_are_refused subkey seq_number bytes part answer is_key has loose (goes_on m h (met right (stops f k is))) =
+loose_privs_are_refused local subkey seq_number bytes part answer is_key has loose (goes_on m h (met right (stops f k is))) =
     absurd (ok_err (sealed_once subkey m (Ok part) (Err f) is_key (its_part subkey bytes part has m h).1 k))
-loose_privs_are_refused subkey seq_number bytes part answer is_key has loose (goes_on m h (met right (goes_on p k (unmet wrong is)))) =
+loose_privs_are_refused local subkey seq_number bytes part answer is_key has loose (goes_on m h (met right (goes_on p k (unmet wrong is)))) =
     inl is
-loose_privs_are_refused subkey seq_number bytes part answer is_key has loose (goes_on m h (met right (goes_on p k (met follows (met strict is))))) =
+loose_privs_are_refused local subkey seq_number bytes part answer is_key has loose (goes_on m h (met right (goes_on p k (met follows (met strict is))))) =
     let same = ok_is part p (sealed_once subkey m (Ok part) (Ok p) is_key (its_part subkey bytes part has m h).1 k) in
-    let not_strict : meets Strict seq_number p ≡ false = subst (λ (x : EncKrbPrivPart). meets Strict seq_number x ≡ false) same loose in
+    let not_strict : meets Strict local seq_number p ≡ false = subst (λ (x : EncKrbPrivPart). meets Strict local seq_number x ≡ false) same loose in
     absurd (let no : true ≡ false = sym strict ∙ not_strict in cc)
-loose_privs_are_refused subkey seq_number bytes part answer is_key has loose (goes_on m h (met right (goes_on p k (met follows (unmet wrong is))))) =
+loose_privs_are_refused local subkey seq_number bytes part answer is_key has loose (goes_on m h (met right (goes_on p k (met follows (unmet wrong is))))) =
     inr is

@@ -1,14 +1,14 @@
 -- Whether ticket and authenticator belong together, and come from the client's address (RFC 4120 section 3.2.3).
-use Rattle.std.specs.Prelude.{◌≡◌, ◌==◌, ◌&&◌, ◌||◌, Bool, true, ℕ, List, length, Option, Some, None, Result, bytes_eq}
-use Rattle.std.specs.Ordering.{int_eq}
+use Rattle.std.specs.Prelude.{◌≡◌, ◌==◌, ◌||◌, Bool, true, List, length, Option, Some, None, Result}
 use Rattle.std.specs.List.{list_any}
+use Rattle.std.specs.declared.net.ip_addr.IpAddr.{IpAddr}
 use Rattle.krb_keys.specs.declared.key.Key.{Key}
-use Rattle.krb_protocol.specs.Numbers as protocol
 use Rattle.krb_der.specs.declared.encrypted_data.EncryptionKey.{EncryptionKey}
 use Rattle.krb_der.specs.declared.enc_ticket_part.EncTicketPart.{EncTicketPart}
 use Rattle.krb_der.specs.declared.authenticator.Authenticator.{Authenticator}
 use Rattle.krb_der.specs.declared.host_address.HostAddress.{HostAddress}
 use Rattle.krb_codec.specs.declared.kerberos_time.KerberosTime.{KerberosTime}
+use Rattle.krb_msgs.specs.Addresses.{is_host}
 use Rattle.krb_msgs.specs.Checks.{Held, Found, Passed}
 use Rattle.krb_msgs.specs.Tickets.{IsKeyIn}
 use Rattle.krb_msgs.specs.declared.ap_exchange.ApOpened.{ApOpened}
@@ -19,17 +19,12 @@ use Rattle.krb_msgs.specs.declared.fault.ApFault.TheVariants as fault
 abbrev pub IsSameClient : EncTicketPart → Authenticator → Type 0
 IsSameClient part a = (part.crealm ≡ a.crealm) × (part.cname.name_string ≡ a.cname.name_string)
 
--- an address is this IPv4 address (section 7.5.3)
-abbrev pub is_ipv4 : List ℕ → HostAddress → Bool
-is_ipv4 peer address =
-    int_eq address.addr_type protocol.addr_type_ipv4 && bytes_eq address.address peer
-
 -- there are no addresses, or the peer's is among them
-abbrev pub may_come_from : List ℕ → Option (List HostAddress) → Bool
+abbrev pub may_come_from : IpAddr → Option (List HostAddress) → Bool
 may_come_from peer None = true
-may_come_from peer (Some addresses) = (length addresses == 0) || list_any (is_ipv4 peer) addresses
+may_come_from peer (Some addresses) = (length addresses == 0) || list_any (is_host peer) addresses
 
-abbrev pub MayComeFrom : List ℕ → Option (List HostAddress) → Type 0
+abbrev pub MayComeFrom : IpAddr → Option (List HostAddress) → Type 0
 MayComeFrom peer addresses = may_come_from peer addresses ≡ true
 
 abbrev pub IsSubkey : Option EncryptionKey → Key → Type 0
@@ -54,7 +49,7 @@ opened_of part session a subkey = record {
   seq_number = a.seq_number;
 }
 
-unfoldable pub Accepts : List ℕ → EncTicketPart → Key → Authenticator
+unfoldable pub Accepts : IpAddr → EncTicketPart → Key → Authenticator
     → Result ApOpened ApFault → Type 0
 Accepts peer part session a =
     Held (IsSameClient part a) fault.ClientMismatch (

@@ -1,5 +1,6 @@
 -- What an AP-REQ opens to (RFC 4120 section 3.2.3): the checks of its four parts in their order.
 use Rattle.std.specs.Prelude.{ℕ, List, Result}
+use Rattle.std.specs.declared.net.ip_addr.IpAddr.{IpAddr}
 use Rattle.krb_msgs.specs.Checks.{Then}
 use Rattle.krb_msgs.specs.Presented.{Presents}
 use Rattle.krb_msgs.specs.Tickets.{OpensTicket}
@@ -10,7 +11,7 @@ use Rattle.krb_msgs.specs.declared.ap_exchange.ApOpened.{ApOpened}
 use Rattle.krb_msgs.specs.declared.fault.ApFault.{ApFault}
 
 -- arguments: realm, its service keys, the bytes of the AP-REQ, the peer's address
-unfoldable pub OpensAp : (realm : List ℕ) → List ServiceKey → (bytes peer : List ℕ)
+unfoldable pub OpensAp : (realm : List ℕ) → List ServiceKey → (bytes : List ℕ) → IpAddr
     → Result ApOpened ApFault → Type 0
 OpensAp realm keys bytes peer =
     Then (Presents realm keys bytes) (λ presented.

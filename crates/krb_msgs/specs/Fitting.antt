@@ -1,5 +1,6 @@
 -- Which messages fit: those whose parts are short enough, whatever the bytes of the ciphers.
 use Rattle.std.specs.Prelude.{◌≡◌, ◌≤◌, ◌<◌, ◌^◌, ℕ, ◌+◌, pos, true, List, length, Ok}
+use Rattle.std.specs.declared.net.ip_addr.IpAddr.{IpAddr}
 use Rattle.krb_keys.specs.declared.key.Key.{Key}
 use Rattle.krb_codec.specs.Shapes.{kerberos_time, microseconds}
 use Rattle.krb_codec.specs.Texts.{text, fits, is_in_range}
@@ -62,7 +63,7 @@ PrivsFit = (part : EncKrbPrivPart) (subkey : Key) (confounder : List ℕ)
 
 -- the client's time and microseconds, of an opened request, can be written again
 abbrev pub OpenedTimesFit : Type 0
-OpenedTimesFit = (realm : List ℕ) (keys : List ServiceKey) (bytes peer : List ℕ)
+OpenedTimesFit = (realm : List ℕ) (keys : List ServiceKey) (bytes : List ℕ) (peer : IpAddr)
     (opened : ApOpened)
     → OpensAp realm keys bytes peer (Ok opened)
     → (is_in_range kerberos_time opened.ctime.0 ≡ true)

@@ -2,6 +2,7 @@
 -- name-types.
 use Rattle.std.specs.Prelude.{◌≡◌, ◌<◌, ◌^◌, ℕ, true, List, [], ◌++◌, length, Option, Some, None, Ok}
 use Rattle.std.specs.Int.{to_be_bytes, w16}
+use Rattle.std.specs.declared.net.ip_addr.IpAddr.{IpAddr}
 use Rattle.krb_aes.specs.Bytes.{AreBytes}
 use Rattle.krb_keys.specs.declared.key.Key.{Key}
 use Rattle.krb_keys.specs.KeyUsages.{usage_ticket, usage_ap_req_authenticator, usage_ap_rep_enc_part, usage_krb_priv}
@@ -45,7 +46,7 @@ Seals key usage part s v =
 
 -- an AP-REQ for this service, made from a ticket's and an authenticator's records (section 3.2.2), from a peer that may
 -- send it
-pub record IsApReq (realm : List ℕ) (keys : List ServiceKey) (peer : List ℕ) (request : ApReq)
+pub record IsApReq (realm : List ℕ) (keys : List ServiceKey) (peer : IpAddr) (request : ApReq)
     (part : EncTicketPart) (a : Authenticator) (session subkey : Key) : Type 0 where
   pub fit : fits ap_req (ap_req_value request) ≡ true
   pub version : HasVersion request
@@ -67,7 +68,7 @@ pub record IsApReq (realm : List ℕ) (keys : List ServiceKey) (peer : List ℕ)
 
 -- its text opens to what the records say
 abbrev pub ApReqsOpen : Type 0
-ApReqsOpen = (realm : List ℕ) (keys : List ServiceKey) (peer : List ℕ) (request : ApReq)
+ApReqsOpen = (realm : List ℕ) (keys : List ServiceKey) (peer : IpAddr) (request : ApReq)
     (part : EncTicketPart) (a : Authenticator) (session subkey : Key)
     → IsApReq realm keys peer request part a session subkey
     → OpensAp realm keys (text ap_req (ap_req_value request)) peer
@@ -82,14 +83,14 @@ pub record IsKrbPriv (subkey : Key) (m : KrbPriv) (part : EncKrbPrivPart) : Type
 -- its text opens to what the record says, after an authenticator that it may follow, unless messages are strict and it
 -- isn't
 abbrev pub PrivsOpen : Type 0
-PrivsOpen = (strictness : Strictness) (subkey : Key) (seq_number : Option SeqNumber) (m : KrbPriv) (part : EncKrbPrivPart)
-    → IsKrbPriv subkey m part → MayFollow seq_number part.seq_number → meets strictness seq_number part ≡ true
-    → OpensPriv strictness subkey seq_number (text krb_priv (krb_priv_value m)) (Ok (private_of part))
+PrivsOpen = (strictness : Strictness) (local : IpAddr) (subkey : Key) (seq_number : Option SeqNumber) (m : KrbPriv) (part : EncKrbPrivPart)
+    → IsKrbPriv subkey m part → MayFollow seq_number part.seq_number → meets strictness local seq_number part ≡ true
+    → OpensPriv strictness local subkey seq_number (text krb_priv (krb_priv_value m)) (Ok (private_of part))
 
 -- Of an AP-REQ that opens, only the sealed parts and the service key count: two with the same ones open alike, whatever
 -- else their bytes say.
 abbrev pub ApReqsOpenAlike : Type 0
-ApReqsOpenAlike = (realm : List ℕ) (keys : List ServiceKey) (peer bytes others : List ℕ) (request other : ApReq)
+ApReqsOpenAlike = (realm : List ℕ) (keys : List ServiceKey) (peer : IpAddr) (bytes others : List ℕ) (request other : ApReq)
     (key : Key) (a b : ApOpened)
     → AreProtocolKeys keys
     → Spells ap_req bytes (ap_req_value request) → Spells ap_req others (ap_req_value other)

@@ -7,6 +7,7 @@ pub mod Presented
 pub mod Tickets
 pub mod Authenticators
 pub mod Accepted
+pub mod Addresses
 pub mod ApExchange
 pub mod PrivateMessages
 pub mod StrictLaws

@@ -1,8 +1,9 @@
 -- The messages that are made (RFC 4120 sections 5.3, 5.5, 5.7, 5.9), and their parts. The text that is sealed is that
 -- of the part's record.
-use Rattle.std.specs.Prelude.{ℕ, ℤ, List, [], ◌∷◌, Some, None}
+use Rattle.std.specs.Prelude.{ℕ, ℤ, List, Some, None}
 use Rattle.std.specs.List.{flat_map}
 use Rattle.std.specs.Int.{to_le_bytes, w32}
+use Rattle.std.specs.declared.net.ip_addr.IpAddr.{IpAddr}
 use Rattle.krb_keys.specs.declared.key.Key.{Key}
 use Rattle.krb_keys.specs.KeyUsages.{usage_ticket, usage_ap_req_authenticator, usage_ap_rep_enc_part, usage_krb_priv}
 use Rattle.krb_codec.specs.Grammar.{Spells}
@@ -19,10 +20,10 @@ use Rattle.krb_der.specs.declared.ap_rep.ApRep.{ApRep}
 use Rattle.krb_der.specs.declared.ap_rep.EncApRepPart.{EncApRepPart}
 use Rattle.krb_der.specs.declared.krb_priv.KrbPriv.{KrbPriv}
 use Rattle.krb_der.specs.declared.krb_priv.EncKrbPrivPart.{EncKrbPrivPart}
-use Rattle.krb_der.specs.declared.host_address.HostAddress.{HostAddress}
 use Rattle.krb_der.specs.declared.krb_error.KrbError.{KrbError}
 use Rattle.krb_codec.specs.declared.kerberos_time.KerberosTime.{KerberosTime}
 use Rattle.krb_codec.specs.declared.numbers.Microseconds.{Microseconds}
+use Rattle.krb_msgs.specs.Addresses.{host_address}
 use Rattle.krb_msgs.specs.Parts.{sealed_part}
 use Rattle.krb_msgs.specs.Presented.{change_service}
 use Rattle.krb_msgs.specs.declared.service_keys.ServiceKey.{ServiceKey}
@@ -75,18 +76,14 @@ ap_rep_of part session confounder = record {
       (text enc_ap_rep_part (enc_ap_rep_part_value part));
 }
 
--- the address of both ends (section 7.5.3): the service listens on loopback only
-abbrev pub loopback : HostAddress
-loopback = record { addr_type = protocol.addr_type_ipv4; address = 127 ∷ 0 ∷ 0 ∷ 1 ∷ [] }
-
--- the part of a KRB-PRIV with no timestamp
-abbrev pub priv_part_of : List ℕ → ℕ → EncKrbPrivPart
-priv_part_of user_data number = record {
+-- the part of a KRB-PRIV with no timestamp, from this address
+abbrev pub priv_part_of : IpAddr → List ℕ → ℕ → EncKrbPrivPart
+priv_part_of from user_data number = record {
   user_data = user_data;
   timestamp = None;
   usec = None;
   seq_number = Some (record { 0 = number });
-  s_address = loopback;
+  s_address = host_address from;
   r_address = None;
 }
 

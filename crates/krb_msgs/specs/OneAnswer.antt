@@ -1,6 +1,7 @@
 -- A message opens to one answer: a relation allows one answer only.
 use Rattle.std.specs.Prelude.{◌≡◌, ℕ, List, Option}
 use Rattle.std.specs.List.{AllByRecursion}
+use Rattle.std.specs.declared.net.ip_addr.IpAddr.{IpAddr}
 use Rattle.krb_keys.specs.Keys.{IsProtocolKey}
 use Rattle.krb_keys.specs.declared.key.Key.{Key}
 use Rattle.krb_codec.specs.declared.kerberos_time.KerberosTime.{KerberosTime}
@@ -20,12 +21,12 @@ abbrev pub AreProtocolKeys : List ServiceKey → Type 0
 AreProtocolKeys keys = AllByRecursion (λ (k : ServiceKey). IsProtocolKey k.key) keys
 
 abbrev pub ApReqsOpenOnce : Type 0
-ApReqsOpenOnce = (realm : List ℕ) (keys : List ServiceKey) (bytes peer : List ℕ)
+ApReqsOpenOnce = (realm : List ℕ) (keys : List ServiceKey) (bytes : List ℕ) (peer : IpAddr)
     → AreProtocolKeys keys → IsOne (OpensAp realm keys bytes peer)
 
 abbrev pub PrivsOpenOnce : Type 0
-PrivsOpenOnce = (strictness : Strictness) (subkey : Key) (seq_number : Option SeqNumber) (bytes : List ℕ)
-    → IsProtocolKey subkey → IsOne (OpensPriv strictness subkey seq_number bytes)
+PrivsOpenOnce = (strictness : Strictness) (local : IpAddr) (subkey : Key) (seq_number : Option SeqNumber) (bytes : List ℕ)
+    → IsProtocolKey subkey → IsOne (OpensPriv strictness local subkey seq_number bytes)
 
 abbrev pub RepliesOpenOnce : Type 0
 RepliesOpenOnce = (session subkey : Key) (ctime : KerberosTime) (cusec : Microseconds)

@@ -1,6 +1,7 @@
 -- What a KRB-PRIV opens to (RFC 4120 section 3.5.2): the checks in their order.
 use Rattle.std.specs.Prelude.{◌≡◌, ◌&&◌, ◌||◌, ℕ, List, Bool, true, Option, Some, None, Result, is_none, option_map}
 use Rattle.std.specs.Option.{is_some}
+use Rattle.std.specs.declared.net.ip_addr.IpAddr.{IpAddr}
 use Rattle.krb_keys.specs.declared.key.Key.{Key}
 use Rattle.krb_keys.specs.KeyUsages.{usage_krb_priv}
 use Rattle.krb_protocol.specs.Numbers as protocol
@@ -11,9 +12,8 @@ use Rattle.krb_der.specs.declared.krb_priv.EncKrbPrivPart.{EncKrbPrivPart}
 use Rattle.krb_codec.specs.declared.numbers.SeqNumber.{SeqNumber}
 use Rattle.krb_codec.specs.declared.kerberos_time.KerberosTime.{KerberosTime}
 use Rattle.krb_der.specs.declared.host_address.HostAddress.{HostAddress}
-use Rattle.krb_msgs.specs.Accepted.{is_ipv4}
+use Rattle.krb_msgs.specs.Addresses.{is_host}
 use Rattle.krb_msgs.specs.Checks.{Held, Then, Passed}
-use Rattle.krb_msgs.specs.Making.{loopback}
 use Rattle.krb_msgs.specs.Parts.{Reads, OpensPart}
 use Rattle.krb_msgs.specs.declared.private_message.Private.{Private}
 use Rattle.krb_msgs.specs.declared.private_message.Strictness.{Strictness}
@@ -42,15 +42,15 @@ has_expected_number first second = is_none first || is_some second
 abbrev pub has_whole_time : EncKrbPrivPart → Bool
 has_whole_time part = is_none part.timestamp || is_some part.usec
 
--- the recipient is the service, if one is named (section 7.5.3)
-abbrev pub is_recipient : Option HostAddress → Bool
-is_recipient None = true
-is_recipient (Some address) = is_ipv4 loopback.address address
+-- the recipient is this host, if one is named (section 7.5.3)
+abbrev pub is_recipient : IpAddr → Option HostAddress → Bool
+is_recipient local None = true
+is_recipient local (Some address) = is_host local address
 
 -- what strict messages have to have; without them nothing
-abbrev pub meets : Strictness → Option SeqNumber → EncKrbPrivPart → Bool
-meets Lenient first part = true
-meets Strict first part = has_expected_number first part.seq_number && has_whole_time part && is_recipient part.r_address
+abbrev pub meets : Strictness → IpAddr → Option SeqNumber → EncKrbPrivPart → Bool
+meets Lenient local first part = true
+meets Strict local first part = has_expected_number first part.seq_number && has_whole_time part && is_recipient local part.r_address
 
 -- ---- the message
 
@@ -61,14 +61,14 @@ private_of part = record {
   stamp = option_map (λ (t : KerberosTime). t.0) part.timestamp;
 }
 
--- arguments: whether messages are strict, subkey, the authenticator's sequence number, the bytes of the KRB-PRIV
-unfoldable pub OpensPriv : Strictness → Key → Option SeqNumber → List ℕ
+-- arguments: whether messages are strict, the address that they came to, subkey, the authenticator's sequence number, the bytes of the KRB-PRIV
+unfoldable pub OpensPriv : Strictness → IpAddr → Key → Option SeqNumber → List ℕ
     → Result Private PrivFault → Type 0
-OpensPriv strictness subkey seq_number bytes =
+OpensPriv strictness local subkey seq_number bytes =
     Then (Reads krb_priv krb_priv_value bytes fault.Malformed) (λ (m : KrbPriv).
     Held (IsPrivate m) fault.WrongMessage (
     Then (OpensPart enc_krb_priv_part enc_krb_priv_part_value subkey usage_krb_priv m.enc_part
     fault.NotSealed fault.Malformed) (λ (part : EncKrbPrivPart).
     Held (MayFollow seq_number part.seq_number) fault.WrongSeqNumber (
-    Held (meets strictness seq_number part ≡ true) fault.Loose (
+    Held (meets strictness local seq_number part ≡ true) fault.Loose (
     Passed (private_of part))))))

@@ -1,11 +1,13 @@
 -- The parts of a service's reply fit, which meets the conditions of the makers.
 use Rattle.std.specs.Prelude.{◌≡◌, ◌≤◌, ◌<◌, ◌^◌, ℕ, ◌+◌, ℤ, pos, true, List, length}
+use Rattle.std.specs.declared.net.ip_addr.IpAddr.{IpAddr}
 use Rattle.krb_codec.specs.Shapes.{Shape, Value, int32, kerberos_time, microseconds}
 use Rattle.krb_codec.specs.Texts.{fits, is_in_range, text}
 use Rattle.krb_codec.specs.declared.kerberos_time.KerberosTime.{KerberosTime}
 use Rattle.krb_codec.specs.declared.numbers.Microseconds.{Microseconds}
 use Rattle.krb_der.specs.Types.{enc_ap_rep_part, enc_krb_priv_part, krb_error}
 use Rattle.krb_der.specs.Values.{enc_ap_rep_part_value, enc_krb_priv_part_value, krb_error_value}
+use Rattle.krb_msgs.specs.Addresses.{octets_of}
 use Rattle.krb_msgs.specs.Fitting.{longest_part}
 use Rattle.krb_msgs.specs.Making.{ap_rep_part_of, error_of, priv_part_of}
 
@@ -24,9 +26,9 @@ ApRepPartsFit = (ctime : KerberosTime) (cusec : Microseconds) (number : ℕ)
     → IsShort enc_ap_rep_part (enc_ap_rep_part_value (ap_rep_part_of ctime cusec number))
 
 abbrev pub PrivPartsFit : Type 0
-PrivPartsFit = (user_data : List ℕ) (number : ℕ)
-    → number < 2 ^ 32 → length user_data ≤ 63996
-    → IsShort enc_krb_priv_part (enc_krb_priv_part_value (priv_part_of user_data number))
+PrivPartsFit = (from : IpAddr) (user_data : List ℕ) (number : ℕ)
+    → number < 2 ^ 32 → length user_data ≤ 63996 → length (octets_of from) ≤ 16
+    → IsShort enc_krb_priv_part (enc_krb_priv_part_value (priv_part_of from user_data number))
 
 abbrev pub ErrorsFit : Type 0
 ErrorsFit = (stime : KerberosTime) (susec : Microseconds) (code : ℤ) (realm e_data : List ℕ)

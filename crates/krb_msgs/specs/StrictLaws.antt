@@ -1,5 +1,6 @@
 -- Strict messages: a KRB-PRIV that isn't strict is refused, and each other opens as it does without them.
 use Rattle.std.specs.Prelude.{◌≡◌, ◌⊎◌, ℕ, List, true, false, Option, Ok, Err, Result}
+use Rattle.std.specs.declared.net.ip_addr.IpAddr.{IpAddr}
 use Rattle.krb_keys.specs.Keys.{IsProtocolKey}
 use Rattle.krb_keys.specs.KeyUsages.{usage_krb_priv}
 use Rattle.krb_keys.specs.declared.key.Key.{Key}
@@ -27,20 +28,20 @@ abbrev pub IsRefusedPart : Result Private PrivFault → Type 0
 IsRefusedPart answer = (answer ≡ Err fault.WrongSeqNumber) ⊎ (answer ≡ Err fault.Loose)
 
 abbrev pub LoosePrivsAreRefused : Type 0
-LoosePrivsAreRefused = (subkey : Key) (seq_number : Option SeqNumber) (bytes : List ℕ) (part : EncKrbPrivPart)
+LoosePrivsAreRefused = (local : IpAddr) (subkey : Key) (seq_number : Option SeqNumber) (bytes : List ℕ) (part : EncKrbPrivPart)
     (answer : Result Private PrivFault)
-    → IsProtocolKey subkey → HasPart subkey bytes part → meets Strict seq_number part ≡ false
-    → OpensPriv Strict subkey seq_number bytes answer → IsRefusedPart answer
+    → IsProtocolKey subkey → HasPart subkey bytes part → meets Strict local seq_number part ≡ false
+    → OpensPriv Strict local subkey seq_number bytes answer → IsRefusedPart answer
 
 -- what isn't refused so is answered as it is without strict messages
 abbrev pub StrictPrivsOpen : Type 0
-StrictPrivsOpen = (subkey : Key) (seq_number : Option SeqNumber) (bytes : List ℕ) (answer : Result Private PrivFault)
-    → OpensPriv Strict subkey seq_number bytes answer
-    → OpensPriv Lenient subkey seq_number bytes answer ⊎ (answer ≡ Err fault.Loose)
+StrictPrivsOpen = (local : IpAddr) (subkey : Key) (seq_number : Option SeqNumber) (bytes : List ℕ) (answer : Result Private PrivFault)
+    → OpensPriv Strict local subkey seq_number bytes answer
+    → OpensPriv Lenient local subkey seq_number bytes answer ⊎ (answer ≡ Err fault.Loose)
 
 -- and what has no part that isn't strict is answered alike
 abbrev pub OtherPrivsOpenAlike : Type 0
-OtherPrivsOpenAlike = (subkey : Key) (seq_number : Option SeqNumber) (bytes : List ℕ) (answer : Result Private PrivFault)
-    → ((part : EncKrbPrivPart) → HasPart subkey bytes part → meets Strict seq_number part ≡ true)
-    → (OpensPriv Strict subkey seq_number bytes answer → OpensPriv Lenient subkey seq_number bytes answer)
-    × (OpensPriv Lenient subkey seq_number bytes answer → OpensPriv Strict subkey seq_number bytes answer)
+OtherPrivsOpenAlike = (local : IpAddr) (subkey : Key) (seq_number : Option SeqNumber) (bytes : List ℕ) (answer : Result Private PrivFault)
+    → ((part : EncKrbPrivPart) → HasPart subkey bytes part → meets Strict local seq_number part ≡ true)
+    → (OpensPriv Strict local subkey seq_number bytes answer → OpensPriv Lenient local subkey seq_number bytes answer)
+    × (OpensPriv Lenient local subkey seq_number bytes answer → OpensPriv Strict local subkey seq_number bytes answer)

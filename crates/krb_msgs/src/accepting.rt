@@ -2,15 +2,17 @@
 
 ghost use Rattle.std.specs.Prelude.{◌≡◌, ◌≢◌, ◌↔◌, IfErr, IsTrue, Some};
 ghost use Rattle.std.specs.List.{list_any};
+ghost use Rattle.krb_msgs.specs.Addresses.{is_host};
 ghost use Rattle.krb_msgs.specs.Answers.{Answers};
-ghost use Rattle.krb_msgs.specs.Accepted.{Accepts, IsSameClient, IsSubkey, is_ipv4, may_come_from, opened_of, starts_at};
+ghost use Rattle.krb_msgs.specs.Accepted.{Accepts, IsSameClient, IsSubkey, may_come_from, opened_of, starts_at};
 
+use crate::addresses::is_host;
 use crate::ap_exchange::ApOpened;
 use crate::fault::{ApFault, OpenError};
 use crate::tickets::key_in;
 use krb_der::{Authenticator, EncTicketPart, EncryptionKey, HostAddress, KerberosTime, SequenceOf};
 use krb_keys::Key;
-use krb_protocol::ADDR_TYPE_IPV4;
+use std::net::IpAddr;
 
 fn is_same_client(part: &EncTicketPart, authenticator: &Authenticator) -> bool
     ensures { IsTrue result ↔ IsSameClient part.now authenticator.now }
@@ -18,20 +20,13 @@ fn is_same_client(part: &EncTicketPart, authenticator: &Authenticator) -> bool
     part.crealm == authenticator.crealm && part.cname.name_string == authenticator.cname.name_string
 }
 
-// Whether an address is this IPv4 address.
-pub(crate) fn is_ipv4(address: &HostAddress, peer: [u8; 4]) -> bool
-    ensures { result ≡ is_ipv4 peer address.now }
+fn is_among(addresses: &[HostAddress], peer: IpAddr) -> bool
+    ensures { result ≡ list_any (is_host peer) addresses.now }
 {
-    address.addr_type == ADDR_TYPE_IPV4 && address.address.as_slice() == peer.as_slice()
+    addresses.iter().any(|a| is_host(a, peer))
 }
 
-fn is_among(addresses: &[HostAddress], peer: [u8; 4]) -> bool
-    ensures { result ≡ list_any (is_ipv4 peer) addresses.now }
-{
-    addresses.iter().any(|a| is_ipv4(a, peer))
-}
-
-fn may_come_from(peer: [u8; 4], addresses: &Option<SequenceOf<HostAddress>>) -> bool
+fn may_come_from(peer: IpAddr, addresses: &Option<SequenceOf<HostAddress>>) -> bool
     ensures { result ≡ may_come_from peer addresses.now }
 {
     match addresses {
@@ -78,10 +73,10 @@ fn opened_of(part: EncTicketPart, session: Key, a: Authenticator, subkey: Key) -
     }
 }
 
-/// What ticket and authenticator together say to a service whose peer has this IPv4 address, high byte first. Refused
+/// What ticket and authenticator together say to a service whose peer has this address. Refused
 /// as `ClientMismatch`, `WrongAddress`, `NoSubkey`, in this order.
 pub fn accept_authenticator(
-    peer: [u8; 4],
+    peer: IpAddr,
     part: EncTicketPart,
     session: Key,
     authenticator: Authenticator,

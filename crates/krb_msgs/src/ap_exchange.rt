@@ -12,6 +12,7 @@ use crate::tickets::open_ticket;
 use krb_der::{GeneralString, KerberosFlags, KerberosTime, Microseconds, PrincipalName, SeqNumber};
 use krb_keys::Key;
 use std::alloc::Global;
+use std::net::IpAddr;
 
 /// What an AP-REQ says, once it is opened.
 #[derive(Drop)]
@@ -40,13 +41,13 @@ pub struct ApOpened {
 
 /// Opens an AP-REQ for kadmin/changepw (RFC 4120 section 3.2.3).
 ///
-/// `peer` is an IPv4 address, high byte first. Of several faults the first in the order of [`ApFault`] is returned.
+/// `peer` is the address that it came from. Of several faults the first in the order of [`ApFault`] is returned.
 pub fn open_ap(
     alloc: Global,
     realm: &[u8],
     keys: &[ServiceKey],
     ap_req: &[u8],
-    peer: [u8; 4],
+    peer: IpAddr,
 ) -> Result<ApOpened, OpenError<ApFault>>
     ensures opens { Answers (OpensAp realm.now keys.now ap_req.now peer) result }
 {

@@ -1,14 +1,15 @@
 //! The contents of messages.
 
-ghost use Rattle.std.specs.Prelude.{◌≡◌, IfOk};
-ghost use Rattle.krb_msgs.specs.Making.{loopback, priv_part_of, service_name, word_bytes};
+ghost use Rattle.std.specs.Prelude.{◌≡◌, ◌≤◌, length, IfOk};
+ghost use Rattle.krb_msgs.specs.Addresses.{octets_of};
+ghost use Rattle.krb_msgs.specs.Making.{priv_part_of, service_name, word_bytes};
 
-use krb_der::{
-    Bytes, EncKrbPrivPart, HostAddress, OctetString, PrincipalName, SeqNumber, SequenceOf,
-};
+use crate::addresses::address_of;
+use krb_der::{Bytes, EncKrbPrivPart, OctetString, PrincipalName, SeqNumber, SequenceOf};
 use krb_keys::CONFOUNDER_LEN;
-use krb_protocol::{ADDR_TYPE_IPV4, NT_SRV_INST};
+use krb_protocol::NT_SRV_INST;
 use std::alloc::{AllocError, Global};
+use std::net::IpAddr;
 
 /// A copy of these bytes, under any tag.
 pub fn copy_bytes<const TAG: u8>(alloc: Global, bytes: &[u8]) -> Result<Bytes<TAG>, AllocError>
@@ -44,29 +45,22 @@ pub fn word_bytes(words: [u32; 4]) -> [u8; CONFOUNDER_LEN]
     ]
 }
 
-fn loopback(alloc: Global) -> Result<HostAddress, AllocError>
-    ensures value { IfOk result (λ address. address ≡ loopback) }
-{
-    Ok(HostAddress {
-        addr_type: ADDR_TYPE_IPV4,
-        address: copy_bytes(alloc, &[127, 0, 0, 1])?,
-    })
-}
-
-/// The part of a KRB-PRIV with no timestamp, from 127.0.0.1 (RFC 4120 section 5.7.1).
+/// The part of a KRB-PRIV with no timestamp, from this address (RFC 4120 section 5.7.1).
 pub fn priv_part(
     alloc: Global,
+    from: IpAddr,
     user_data: OctetString,
     number: u32,
 ) -> Result<EncKrbPrivPart, AllocError>
-    ensures value { IfOk result (λ part. part ≡ priv_part_of user_data number) }
+    ensures value { IfOk result (λ part. part ≡ priv_part_of from user_data number) }
+    ensures address { IfOk result (λ part. length (octets_of from) ≤ 16) }
 {
     Ok(EncKrbPrivPart {
         user_data,
         timestamp: None,
         usec: None,
         seq_number: Some(SeqNumber(number)),
-        s_address: loopback(alloc)?,
+        s_address: address_of(alloc, from)?,
         r_address: None,
     })
 }

@@ -116,7 +116,7 @@ pub enum PrivFault {
     #[error("another sequence number")]
     WrongSeqNumber,
     /// Messages are strict, and it lacks the sequence number that the authenticator has, or the microseconds of its
-    /// timestamp, or names another recipient than 127.0.0.1.
+    /// timestamp, or names another recipient than the service.
     #[error("no number, no microseconds or another recipient")]
     Loose,
 }

@@ -3,6 +3,7 @@
 #![tactic(auto)]
 
 mod accepting;
+mod addresses;
 mod ap_exchange;
 mod authenticators;
 mod contents;

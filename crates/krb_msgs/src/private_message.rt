@@ -5,7 +5,7 @@ ghost use Rattle.krb_msgs.specs.Answers.{Answers};
 ghost use Rattle.krb_msgs.specs.PrivateMessages as specs_of;
 ghost use Rattle.krb_msgs.specs.PrivateMessages.{IsPrivate, MayFollow, OpensPriv, private_of};
 
-use crate::accepting::is_ipv4;
+use crate::addresses::is_host;
 use crate::ap_exchange::ApOpened;
 use crate::fault::{OpenError, PrivFault};
 use crate::opening::{open_part, read_record};
@@ -13,6 +13,7 @@ use krb_der::{EncKrbPrivPart, HostAddress, KrbPriv, OctetString, SeqNumber};
 use krb_keys::USAGE_KRB_PRIV;
 use krb_protocol::{KRB_PRIV, PVNO};
 use std::alloc::Global;
+use std::net::IpAddr;
 
 /// Which KRB-PRIVs are taken.
 #[derive(Clone, Copy, PartialEq, Eq, Debug, Drop)]
@@ -20,12 +21,9 @@ pub enum Strictness {
     /// Those whose sequence number is the authenticator's, where both have one.
     Lenient,
     /// Of these, those with a sequence number if the authenticator has one, with microseconds beside a timestamp, and
-    /// with no recipient's address but 127.0.0.1, as RFC 4120 section 3.5.2 asks.
+    /// with no recipient's address but that of the service, as RFC 4120 section 3.5.2 asks.
     Strict,
 }
-
-/// The service's address, of the type IPv4: it listens on loopback only.
-const LOOPBACK: [u8; 4] = [127, 0, 0, 1];
 
 /// What a KRB-PRIV says, once it is opened.
 #[derive(Drop)]
@@ -53,16 +51,21 @@ fn may_follow(first: Option<SeqNumber>, second: Option<SeqNumber>) -> bool
     }
 }
 
-// Whether messages aren't strict, or this one is.
-fn meets(strictness: Strictness, first: Option<SeqNumber>, part: &EncKrbPrivPart) -> bool
-    ensures { result ≡ specs_of.meets strictness first part.now }
+// Whether messages aren't strict, or this one, which came to this address, is.
+fn meets(
+    strictness: Strictness,
+    local: IpAddr,
+    first: Option<SeqNumber>,
+    part: &EncKrbPrivPart,
+) -> bool
+    ensures { result ≡ specs_of.meets strictness local first part.now }
 {
     match strictness {
         Strictness::Lenient => true,
         Strictness::Strict => {
             has_expected_number(first, part.seq_number)
                 && has_whole_time(part)
-                && is_recipient(&part.r_address)
+                && is_recipient(local, &part.r_address)
         }
     }
 }
@@ -81,13 +84,13 @@ fn has_whole_time(part: &EncKrbPrivPart) -> bool
     part.timestamp.is_none() || part.usec.is_some()
 }
 
-// Whether no recipient is named, or the service.
-fn is_recipient(address: &Option<HostAddress>) -> bool
-    ensures { result ≡ specs_of.is_recipient address.now }
+// Whether no recipient is named, or this host.
+fn is_recipient(local: IpAddr, address: &Option<HostAddress>) -> bool
+    ensures { result ≡ specs_of.is_recipient local address.now }
 {
     match address {
         None => true,
-        Some(address) => is_ipv4(address, LOOPBACK),
+        Some(address) => is_host(address, local),
     }
 }
 
@@ -101,18 +104,19 @@ fn private_of(part: EncKrbPrivPart) -> Private
     }
 }
 
-/// Opens a KRB-PRIV that follows an AP-REQ (RFC 4120 section 3.5.2). The sender's address isn't compared, and the
-/// recipient's only of strict messages.
+/// Opens a KRB-PRIV that follows an AP-REQ (RFC 4120 section 3.5.2) and came to this address of the service. The
+/// sender's address isn't compared, and the recipient's only of strict messages.
 ///
 /// Of several faults the first is returned, in the order of [`PrivFault`], except that a sealed part that isn't DER
 /// comes after [`PrivFault::NotSealed`].
 pub fn open_priv(
     alloc: Global,
     strictness: Strictness,
+    local: IpAddr,
     opened: &ApOpened,
     bytes: &[u8],
 ) -> Result<Private, OpenError<PrivFault>>
-    ensures opens { Answers (OpensPriv strictness opened.now.subkey opened.now.seq_number bytes.now) result }
+    ensures opens { Answers (OpensPriv strictness local opened.now.subkey opened.now.seq_number bytes.now) result }
 {
     let message: KrbPriv = read_record(alloc, bytes, PrivFault::Malformed)?;
     if !is_private(&message) {
@@ -129,7 +133,7 @@ pub fn open_priv(
     if !may_follow(opened.seq_number, part.seq_number) {
         return Err(OpenError::Fault(PrivFault::WrongSeqNumber));
     }
-    if !meets(strictness, opened.seq_number, &part) {
+    if !meets(strictness, local, opened.seq_number, &part) {
         return Err(OpenError::Fault(PrivFault::Loose));
     }
     Ok(private_of(part))

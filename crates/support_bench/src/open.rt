@@ -6,6 +6,7 @@ use krb_keys::Key;
 use krb_msgs::{ServiceKey, Strictness, open_ap, open_priv};
 use std::alloc::Global;
 use std::io;
+use std::net::{IpAddr, Ipv4Addr};
 
 const REALM: &[u8] = b"EXAMPLE.COM";
 
@@ -14,13 +15,13 @@ const SERVICE: ServiceKey = ServiceKey {
     key: Key::Aes256([0x5a; 32]),
 };
 
-const PEER: [u8; 4] = [127, 0, 0, 1];
+const PEER: IpAddr = IpAddr::V4(Ipv4Addr::LOCALHOST);
 
 // The bytes of the user-data, where both are opened.
 fn user_len(alloc: Global, ap_req: &[u8], krb_priv: &[u8]) -> Option<usize> {
     let keys = [SERVICE];
     let opened = open_ap(alloc, REALM, &keys, ap_req, PEER).ok()?;
-    let private = open_priv(alloc, Strictness::Lenient, &opened, krb_priv).ok()?;
+    let private = open_priv(alloc, Strictness::Lenient, PEER, &opened, krb_priv).ok()?;
     Some(private.user_bytes.as_slice().len())
 }
 

@@ -4,6 +4,7 @@
 
 use crate::no_such;
 use chpw_decider::Decider;
+use chpw_endpoints::Endpoints;
 use chpw_frame::{LONGEST_MESSAGE, write_tcp};
 use chpw_journal::MemorySink;
 use chpw_serve::serve_alone;
@@ -13,9 +14,6 @@ use support_realm::{Counting, Standing, World};
 
 // The bytes of the journal in these measurements.
 const JOURNAL: usize = 10_000_000;
-
-// The client's address.
-const PEER: [u8; 4] = [127, 0, 0, 1];
 
 // A configuration's service, and its table with no event yet.
 fn start(alloc: Global, text: &str) -> io::Result<World<MemorySink>> {
@@ -41,7 +39,7 @@ fn serve(alloc: Global, world: &mut World<MemorySink>, stream: &[u8]) -> usize {
     serve_alone(
         alloc,
         &world.service,
-        PEER,
+        Endpoints::LOOPBACK,
         &mut reader,
         &mut written,
         &mut world.alone,

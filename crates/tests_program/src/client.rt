@@ -1,7 +1,7 @@
 //! The command `client`, with each of its options, against a service.
 use chpw_invocation::{
-    ClientOptions, ConnectionLimit, PasswordSource, ServeOptions, USUAL_BUFFERS, USUAL_CLIENTS,
-    USUAL_IDLE, USUAL_KDC_WAIT,
+    ClientOptions, ConnectionLimit, ListenAddresses, PasswordSource, ServeOptions, USUAL_ADDRESS,
+    USUAL_BUFFERS, USUAL_CLIENTS, USUAL_IDLE, USUAL_KDC_WAIT, usual_clients_per_peer,
 };
 use chpw_program::{Ending, ask};
 use chpw_service::serve;
@@ -221,13 +221,16 @@ fn serving<'a>(port: u16, connections: u32, log: &'a str) -> ServeOptions<'a> {
         journal: JOURNAL_FILE,
         seed: SEED_FILE,
         port,
+        listen: ListenAddresses::of(USUAL_ADDRESS),
         workers: 2,
         connections: ConnectionLimit::Of(connections),
         idle: USUAL_IDLE,
         clients: USUAL_CLIENTS,
+        clients_per_peer: usual_clients_per_peer(USUAL_CLIENTS),
         buffers: USUAL_BUFFERS,
         raise: None,
         log: Some(log),
+        resume: None,
         kdc: None,
         kdc_wait: USUAL_KDC_WAIT,
         require_kdc: false,
@@ -236,6 +239,7 @@ fn serving<'a>(port: u16, connections: u32, log: &'a str) -> ServeOptions<'a> {
         rfc3244_only: false,
         strict_messages: false,
         strict_modes: false,
+        existing_journal: false,
     }
 }
 

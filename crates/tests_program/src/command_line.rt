@@ -1,16 +1,18 @@
 //! The command lines and what they ask for, and words that are no UTF-8.
 use chpw_invocation::{
-    ClientOptions, ConnectionLimit, Invocation, PasswordSource, ServeOptions, command_of,
+    ClientOptions, ConnectionLimit, Invocation, PasswordSource, ServeOptions, USUAL_ADDRESS,
+    command_of,
 };
 use chpw_program::{Ending, explain_misuse, words as words_of};
 use std::alloc::{AllocError, Global};
 use std::env::FillError;
+use std::net::IpAddr;
 use std::process::Abort;
 use std::rt::Env;
 
 /// Command lines without the program's name, and what they ask for; of one that asks for no command, a word
 /// of clap's text.
-const LINES: [(&str, &str); 74] = [
+const LINES: [(&str, &str); 101] = [
     ("drill", "drill"),
     ("drill --config c", "unexpected"),
     ("check --config c", "check c"),
@@ -19,23 +21,24 @@ const LINES: [(&str, &str); 74] = [
     ("", "Usage"),
     ("--help", "Usage"),
     ("help client", "Usage"),
-    ("--version", "chpw_server"),
+    ("--version", "0.2\ntoolchain"),
+    ("-V", "rattle-kit-13"),
     // the service: each value of a whole line, and each bound
     (
         "serve --config realm.toml --journal journal --seed seed --port 464 --workers 4 --connections 1000 \
-         --idle 1 --clients 2 --buffers 3 --raise 5 --log log",
-        "serve realm.toml journal seed port 464 workers 4 connections 1000 idle 1 clients 2 buffers 3 \
-         raise 5 log log",
+         --idle 1 --clients 2 --clients-per-peer 3 --buffers 4 --raise 5 --log log --resume resume",
+        "serve realm.toml journal seed port 464 workers 4 connections 1000 idle 1 clients 2 per peer 3 \
+         buffers 4 raise 5 log log resume resume",
     ),
     (
         "serve --config c --journal j --seed s --port 65535 --workers 16 --connections 4294967295 \
-         --idle=3600 --clients=65536 --buffers=1024 --raise=16777216",
-        "serve c j s port 65535 workers 16 connections 4294967295 idle 3600 clients 65536 buffers 1024 \
-         raise 16777216 log -",
+         --idle=3600 --clients=65536 --clients-per-peer=65536 --buffers=1024 --raise=16777216",
+        "serve c j s port 65535 workers 16 connections 4294967295 idle 3600 clients 65536 per peer 65536 \
+         buffers 1024 raise 16777216 log -",
     ),
     (
         "serve --config c --journal j --seed s --port 1 --workers 1 --connections 1",
-        "serve c j s port 1 workers 1 connections 1 idle 30 clients 1024 buffers 32 raise - log -",
+        "serve c j s port 1 workers 1 connections 1 idle 30 clients 1024 per peer 256 buffers 32 raise - log -",
     ),
     (
         "serve --config c --journal j --seed s --port 1 --workers 17 --connections 1",
@@ -59,7 +62,8 @@ const LINES: [(&str, &str); 74] = [
     ),
     (
         "serve --config c --journal j --seed s --port 1 --workers 1 --connections unlimited",
-        "serve c j s port 1 workers 1 connections unlimited idle 30 clients 1024 buffers 32 raise - log -",
+        "serve c j s port 1 workers 1 connections unlimited idle 30 clients 1024 per peer 256 buffers 32 raise - \
+         log -",
     ),
     (
         "serve --config c --journal j --seed s --port 1 --workers 1 --connections 0",
@@ -123,9 +127,110 @@ const LINES: [(&str, &str); 74] = [
     ),
     (
         "serve --config c --journal j --seed s --port 1 --workers 1 --connections 1 --control=c.socket",
-        "serve c j s port 1 workers 1 connections 1 idle 30 clients 1024 buffers 32 raise - log - \
+        "serve c j s port 1 workers 1 connections 1 idle 30 clients 1024 per peer 256 buffers 32 raise - log - \
          control c.socket",
     ),
+    // its share of the places: a quarter, and at least one
+    (
+        "serve --config c --journal j --seed s --port 1 --workers 1 --connections 1 --clients 3",
+        "serve c j s port 1 workers 1 connections 1 idle 30 clients 3 per peer 1 buffers 32 raise - log -",
+    ),
+    (
+        "serve --config c --journal j --seed s --port 1 --workers 1 --connections 1 --clients 11",
+        "serve c j s port 1 workers 1 connections 1 idle 30 clients 11 per peer 2 buffers 32 raise - log -",
+    ),
+    (
+        "serve --config c --journal j --seed s --port 1 --workers 1 --connections 1 --clients-per-peer 0",
+        "--clients-per-peer",
+    ),
+    (
+        "serve --config c --journal j --seed s --port 1 --workers 1 --connections 1 --clients-per-peer 65537",
+        "--clients-per-peer",
+    ),
+    // where it listens: of IPv4 and IPv6, one that is mapped to IPv6 as the one of IPv4, and at all
+    (
+        "serve --config c --journal j --seed s --port 1 --workers 1 --connections 1 --listen 127.0.0.1",
+        "serve c j s port 1 workers 1 connections 1 idle 30 clients 1024 per peer 256 buffers 32 raise - log -",
+    ),
+    (
+        "serve --config c --journal j --seed s --port 1 --workers 1 --connections 1 --listen ::1 --listen 192.0.2.1 --listen ::ffff:192.0.2.2",
+        "serve c j s port 1 workers 1 connections 1 idle 30 clients 1024 per peer 256 buffers 32 raise - log - at ::1 at 192.0.2.1 at 192.0.2.2",
+    ),
+    (
+        "serve --config c --journal j --seed s --port 1 --workers 1 --connections 1 --listen 0.0.0.0",
+        "serve c j s port 1 workers 1 connections 1 idle 30 clients 1024 per peer 256 buffers 32 raise - log - at 0.0.0.0",
+    ),
+    (
+        "serve --config c --journal j --seed s --port 1 --workers 1 --connections 1 --listen ::1 --udp",
+        "serve c j s port 1 workers 1 connections 1 idle 30 clients 1024 per peer 256 buffers 32 raise - log - at ::1",
+    ),
+    // the first value that isn't taken: no address, or the same as another, in whatever form
+    (
+        "serve --config c --journal j --seed s --port 1 --workers 1 --connections 1 --listen localhost",
+        "without",
+    ),
+    (
+        "serve --config c --journal j --seed s --port 1 --workers 1 --connections 1 --listen 127.0.0.1:464",
+        "without",
+    ),
+    (
+        "serve --config c --journal j --seed s --port 1 --workers 1 --connections 1 --listen [::1]",
+        "without",
+    ),
+    (
+        "serve --config c --journal j --seed s --port 1 --workers 1 --connections 1 --listen=",
+        "--listen",
+    ),
+    (
+        "serve --config c --journal j --seed s --port 1 --workers 1 --connections 1 --listen",
+        "--listen",
+    ),
+    (
+        "serve --config c --journal j --seed s --port 1 --workers 1 --connections 1 --listen ::1 --listen 0:0::1",
+        "twice",
+    ),
+    (
+        "serve --config c --journal j --seed s --port 1 --workers 1 --connections 1 --listen 10.0.0.1 --listen ::ffff:10.0.0.1 --listen here",
+        "twice",
+    ),
+    (
+        "serve --config c --journal j --seed s --port 1 --workers 1 --connections 1 --listen ::1 --listen here --listen ::1",
+        "without",
+    ),
+    // datagrams at all addresses
+    (
+        "serve --config c --journal j --seed s --port 1 --workers 1 --connections 1 --udp --listen 0.0.0.0",
+        "'--listen",
+    ),
+    (
+        "serve --config c --journal j --seed s --port 1 --workers 1 --connections 1 --udp --listen ::1 --listen ::",
+        "'--listen",
+    ),
+    (
+        "serve --config c --journal j --seed s --port 1 --workers 1 --connections 1 --udp --listen ::ffff:0.0.0.0",
+        "'--listen",
+    ),
+    (
+        "serve --config c --journal j --seed s --port 1 --workers 1 --connections 1 --udp --listen :: --listen ::",
+        "twice",
+    ),
+    // a missing KDC comes first, the limit of connections last
+    (
+        "serve --config c --journal j --seed s --port 1 --workers 1 --connections 1 --require-kdc --listen here",
+        "'--kdc",
+    ),
+    (
+        "serve --config c --journal j --seed s --port 1 --workers 1 --connections none --listen here",
+        "without",
+    ),
+    // a journal
+    ("new-journal --config c --journal j", "new-journal c j none"),
+    (
+        "new-journal --config c --journal j --resume r",
+        "new-journal c j r",
+    ),
+    ("new-journal --config c", "--journal"),
+    ("new-journal --journal j --resume r", "--config"),
     // a running service
     ("control --socket s status", "control s status"),
     ("control --socket s reload", "control s reload"),
@@ -293,6 +398,10 @@ fn show(text: &mut String, asked: Invocation<'_>) -> Result<(), AllocError> {
             write!(text, "key {} {} {} ", it.realm, it.name, it.password_file)?;
             write!(text, "iterations {} kvno {}", it.iterations, it.kvno)
         }
+        Invocation::NewJournal(it) => {
+            let resume = it.resume.unwrap_or("none");
+            write!(text, "new-journal {} {} {resume}", it.config, it.journal)
+        }
         Invocation::Serve(it) => show_serve(text, &it),
         Invocation::Control(it) => {
             write!(text, "control {} {}", it.socket, it.command.word())?;
@@ -314,18 +423,33 @@ fn show_serve(text: &mut String, it: &ServeOptions<'_>) -> Result<(), AllocError
     }
     write!(
         text,
-        "idle {} clients {} buffers {} ",
-        it.idle, it.clients, it.buffers
+        "idle {} clients {} per peer {} buffers {} ",
+        it.idle, it.clients, it.clients_per_peer, it.buffers
     )?;
     match it.raise {
         Some(count) => write!(text, "raise {count} ")?,
         None => text.push_str("raise - ")?,
     }
     write!(text, "log {}", it.log.unwrap_or("-"))?;
+    if let Some(file) = it.resume {
+        write!(text, " resume {file}")?;
+    }
+    show_addresses(text, it.listen.as_slice())?;
     match it.control {
         Some(socket) => write!(text, " control {socket}"),
         None => Ok(()),
     }
+}
+
+// The addresses, unless that is the usual one alone.
+fn show_addresses(text: &mut String, addresses: &[IpAddr]) -> Result<(), AllocError> {
+    if addresses == [USUAL_ADDRESS].as_slice() {
+        return Ok(());
+    }
+    for address in addresses {
+        write!(text, " at {address}")?;
+    }
+    Ok(())
 }
 
 fn show_client(text: &mut String, it: &ClientOptions<'_>) -> Result<(), AllocError> {

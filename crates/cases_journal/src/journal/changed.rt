@@ -3,7 +3,7 @@ use crate::journal::pieces::journal_of;
 use crate::journal::realm::deep_table;
 use crate::journal::refusal::Refusal;
 use crate::journal::restoring::{show_census, show_told};
-use chpw_journal::{Restored, restore};
+use chpw_journal::{Restored, restore_file};
 use chpw_table::{KeyRow, Table};
 use std::alloc::{AllocError, Global};
 use support_cases::{Census, Change};
@@ -31,9 +31,8 @@ fn add_changed(
     change: Change,
     journal: &[u8],
 ) -> Result<(), Refusal> {
-    let mut whole = journal;
-    match restore(alloc, deep_table(alloc)?, &mut whole) {
-        Ok(written) => {
+    match restore_file(alloc, deep_table(alloc)?, journal) {
+        Ok((written, _)) => {
             let added = add_places(alloc, census, change, journal, &written.table);
             drop(written);
             added
@@ -77,10 +76,10 @@ fn show_compared(
     alloc: Global,
     text: &mut String,
     written: &Table,
-    mut journal: &[u8],
+    journal: &[u8],
 ) -> Result<(), Refusal> {
-    match restore(alloc, deep_table(alloc)?, &mut journal) {
-        Ok(restored) => {
+    match restore_file(alloc, deep_table(alloc)?, journal) {
+        Ok((restored, _)) => {
             let shown = show_both(alloc, text, written, &restored);
             drop(restored);
             shown

@@ -3,15 +3,14 @@ use crate::journal::pieces::journal_of;
 use crate::journal::realm::table;
 use crate::journal::refusal::Refusal;
 use crate::journal::restoring::show_bytes;
-use chpw_journal::{Restored, compact_journal, restore};
+use chpw_journal::{Restored, compact_journal, restore_file};
 use std::alloc::Global;
 
 /// Adds the bytes of the compact journal for the table that these pieces lead to, and what restoring it gives.
 pub fn show_compact(alloc: Global, text: &mut String, pieces: &str) -> Result<(), Refusal> {
     let journal = journal_of(alloc, pieces)?;
-    let mut reader = journal.as_slice();
-    match restore(alloc, table(alloc)?, &mut reader) {
-        Ok(restored) => show_bytes_of(alloc, text, restored),
+    match restore_file(alloc, table(alloc)?, journal.as_slice()) {
+        Ok((restored, _)) => show_bytes_of(alloc, text, restored),
         Err(_) => Err(Refusal::NoSuchCase),
     }
 }

@@ -13,8 +13,8 @@ use support_streams::{Course, Taker, Way};
 const RECORD: usize = 66;
 
 /// Adds the result of appending a record to a file that takes bytes in this way, and is then synced (`synced`), can't be
-/// (`not synced`) or needn't be yet (`unsynced`), or of two, of which the second is synced (`unsynced, synced`); and how many
-/// bytes are on the disk.
+/// (`not synced`, or `error N` for this fault of the system's) or needn't be yet (`unsynced`), or of two, of which the second is
+/// synced (`unsynced, synced`); how many bytes are on the disk; and why the first append failed that did.
 pub fn show_appended(
     alloc: Global,
     text: &mut String,
@@ -27,14 +27,25 @@ pub fn show_appended(
             course: Course::start(Way::of(way)),
         },
         is_synced: end != "not synced",
+        error: error_of(end),
         kept: 0,
     };
     let mut sink = FileSink::new(disk);
     let told = append_results(&mut sink, end);
     let failures = sink.failures();
     let kept = sink.file().kept;
+    let cause = sink.cause();
     drop(sink);
-    write!(text, "{told}, failures {failures}, on the disk {kept}").map_err(Refusal::from)
+    write!(text, "{told}, failures {failures}, on the disk {kept}")?;
+    match cause {
+        Some(cause) => write!(text, ", since {cause}").map_err(Refusal::from),
+        None => Ok(()),
+    }
+}
+
+// The fault of `error N`.
+fn error_of(end: &str) -> Option<i32> {
+    end.strip_prefix("error ")?.parse().ok()
 }
 
 fn append_results(sink: &mut FileSink<Disk>, end: &str) -> &'static str {
@@ -73,6 +84,8 @@ fn unsynced_result(sink: &mut FileSink<Disk>) -> &'static str {
 struct Disk {
     taker: Taker,
     is_synced: bool,
+    /// The system's fault of a sync, if it has one.
+    error: Option<i32>,
     /// How many bytes it had when it was last synced.
     kept: usize,
 }
@@ -99,6 +112,9 @@ impl OpenFile for Disk {
     }
 
     fn sync_all(&self) -> io::Result<()> {
+        if let Some(code) = self.error {
+            return Err(Error::from_raw_os_error(code));
+        }
         if self.is_synced {
             Ok(())
         } else {

@@ -1,8 +1,12 @@
 //! A journal's bytes, put together from pieces.
 use crate::journal::refusal::Refusal;
+use chpw_journal::heading_bytes;
 use chpw_rules::Name;
 use chpw_table::{KeyRow, raise_bytes, record_bytes};
 use std::alloc::Global;
+
+/// The most bytes of a realm.
+const LONGEST_REALM: usize = 255;
 
 /// The journal with these pieces.
 pub fn journal_of(alloc: Global, pieces: &str) -> Result<Vec<u8>, Refusal> {
@@ -23,7 +27,7 @@ fn add_pieces(alloc: Global, journal: &mut Vec<u8>, pieces: &str) -> Result<(), 
 /// Adds a piece: `nothing`; `NAME KVNO`, the record of a change, or `raise COUNT`, that of a raise, followed by ` kind
 /// K` or ` length L` if that is another; `NAME KVNO to KVNO`, a record for each version; `adopted COUNT`, one for each of
 /// so many principals, `p0` and so on, whose key of kvno 1 is adopted; `first N of` before a record, of which only N bytes
-/// are there; `bytes DIGITS`, these bytes.
+/// are there; `realm NAME`, the record of a realm; `bytes DIGITS`, these bytes.
 fn add_piece(alloc: Global, journal: &mut Vec<u8>, piece: &str) -> Result<(), Refusal> {
     if let Some((first, last)) = piece.split_once(" to ") {
         return add_records(alloc, journal, first, last);
@@ -87,6 +91,9 @@ fn add_adopted(alloc: Global, journal: &mut Vec<u8>, count: u32) -> Result<(), R
 
 /// Adds a record of `raise` or of a name, and of the words after it.
 fn add_record(alloc: Global, journal: &mut Vec<u8>, what: &str, rest: &str) -> Result<(), Refusal> {
+    if what == "realm" {
+        return add_realm(alloc, journal, rest);
+    }
     let (figure, change) = rest.split_once(' ').unwrap_or((rest, ""));
     let figure = number(figure)?;
     let place = journal.len();
@@ -98,6 +105,15 @@ fn add_record(alloc: Global, journal: &mut Vec<u8>, what: &str, rest: &str) -> R
         Some(record) => change_record(record, change),
         None => Err(Refusal::NoSuchCase),
     }
+}
+
+/// Adds the record of a realm.
+fn add_realm(alloc: Global, journal: &mut Vec<u8>, realm: &str) -> Result<(), Refusal> {
+    if realm.is_empty() || realm.len() > LONGEST_REALM {
+        return Err(Refusal::NoSuchCase);
+    }
+    let record = heading_bytes(alloc, realm.as_bytes())?;
+    journal.extend_from_slice(&record).map_err(Refusal::from)
 }
 
 fn add_plain_record(

@@ -2,9 +2,9 @@
 use crate::journal::pieces::journal_of;
 use crate::journal::realm::{show_versions, table};
 use crate::journal::refusal::Refusal;
-use chpw_journal::{Restored, restore};
+use chpw_journal::{Restored, restore_file};
 use std::alloc::Global;
-use std::io::{BufReader, Read};
+use std::io::Read;
 use support_cases::Census;
 use support_streams::{Course, Giver, Way};
 
@@ -15,8 +15,8 @@ pub fn show_restored(alloc: Global, text: &mut String, pieces: &str) -> Result<(
 }
 
 /// Adds what restoring these bytes gives.
-pub fn show_bytes(alloc: Global, text: &mut String, mut journal: &[u8]) -> Result<(), Refusal> {
-    show_reader(alloc, text, &mut journal)
+pub fn show_bytes(alloc: Global, text: &mut String, journal: &[u8]) -> Result<(), Refusal> {
+    show_reader(alloc, text, journal)
 }
 
 /// Adds what restoring it gives if it is read in this way, through a buffer as a file is.
@@ -35,13 +35,13 @@ fn show_buffered(
         left: journal,
         course: Course::start(way),
     };
-    show_reader(alloc, text, &mut BufReader::new(alloc, giver)?)
+    show_reader(alloc, text, giver)
 }
 
 /// Adds records, bytes and tail of a journal, and the versions that its principals then have; or its fault.
-fn show_reader<R: Read>(alloc: Global, text: &mut String, reader: &mut R) -> Result<(), Refusal> {
-    match restore(alloc, table(alloc)?, reader) {
-        Ok(restored) => {
+fn show_reader<R: Read + Drop>(alloc: Global, text: &mut String, reader: R) -> Result<(), Refusal> {
+    match restore_file(alloc, table(alloc)?, reader) {
+        Ok((restored, _)) => {
             let shown = show_told(alloc, text, &restored);
             drop(restored);
             shown

@@ -1,7 +1,7 @@
 //! What a reload gives.
 use crate::reload::file::config_of;
 use crate::reload::journal::{journal_of, number};
-use chpw_journal::restore;
+use chpw_journal::restore_file;
 use chpw_printing::{put_behind_space, put_name};
 use chpw_reload::{Refused, ReloadFault, Reloaded, finish, prepare, put_fault};
 use chpw_rules::Name;
@@ -50,11 +50,11 @@ fn reload(
 }
 
 // The table with which a desk was closed: that of a configuration with a journal, quiet until the second 300.
-fn closed_table(alloc: Global, words: &str, mut journal: &[u8]) -> Result<Table, Fault> {
+fn closed_table(alloc: Global, words: &str, journal: &[u8]) -> Result<Table, Fault> {
     let config = config_of(alloc, words)?;
     let table = Table::start(alloc, config, 300)?;
-    match restore(alloc, table, &mut journal) {
-        Ok(restored) => Ok(restored.table),
+    match restore_file(alloc, table, journal) {
+        Ok((restored, _)) => Ok(restored.table),
         Err(_) => Err(Fault::NoSuchCase),
     }
 }

@@ -6,6 +6,7 @@ use krb_der::{Authenticator, EncTicketPart, EncryptionKey, HostAddress, Kerberos
 use krb_keys::Key;
 use krb_msgs::ServiceKey;
 use std::alloc::{AllocError, Global};
+use std::net::IpAddr;
 use support_messages::{authenticator, bytes, client, host_address, name, ticket_part};
 
 /// What an AP-REQ is made from, and the service's keys.
@@ -18,7 +19,7 @@ pub struct Case {
     pub options: u32,
     pub service: ServiceKey,
     pub held: [ServiceKey; 2],
-    pub peer: [u8; 4],
+    pub peer: IpAddr,
 }
 
 fn service_key(kvno: u32, byte: u8) -> ServiceKey {
@@ -93,6 +94,28 @@ fn add_addresses(
             addresses.push(host_address(alloc, 2)?)?;
             addresses.push(host_address(alloc, 1)?)?;
         }
+        "2001:db8::1" => addresses.push(ipv6_address(alloc, &[0x20, 1, 0xd, 0xb8])?)?,
+        "2001:db9::1" => addresses.push(ipv6_address(alloc, &[0x20, 1, 0xd, 0xb9])?)?,
+        "2001:db8::1 under type 2" => {
+            let mut other = ipv6_address(alloc, &[0x20, 1, 0xd, 0xb8])?;
+            other.addr_type = 2;
+            addresses.push(other)?;
+        }
+        "the first four bytes of 2001:db8::1 under type 24" => {
+            addresses.push(HostAddress {
+                addr_type: 24,
+                address: bytes(alloc, &[0x20, 1, 0xd, 0xb8])?,
+            })?;
+        }
+        "::ffff:127.0.0.1 under type 24" => {
+            addresses.push(HostAddress {
+                addr_type: 24,
+                address: bytes(
+                    alloc,
+                    &[0, 0, 0, 0, 0, 0, 0, 0, 0, 0, 0xff, 0xff, 127, 0, 0, 1],
+                )?,
+            })?;
+        }
         "the peer's under type 3" => {
             let mut other = host_address(alloc, 1)?;
             other.addr_type = 3;
@@ -101,6 +124,15 @@ fn add_addresses(
         _ => return Err(Refusal::NoSuchCase),
     }
     Ok(())
+}
+
+// The address of type 24 that begins with these four bytes and ends in 1.
+fn ipv6_address(alloc: Global, front: &[u8; 4]) -> Result<HostAddress, AllocError> {
+    let [a, b, c, d] = *front;
+    Ok(HostAddress {
+        addr_type: 24,
+        address: bytes(alloc, &[a, b, c, d, 0, 0, 0, 0, 0, 0, 0, 0, 0, 0, 0, 1])?,
+    })
 }
 
 fn change_authenticator(
@@ -144,7 +176,9 @@ fn change_service(case: &mut Case, how: &str) -> Result<(), Refusal> {
             };
             case.held = [SERVICE, other];
         }
-        "peer 127.0.0.2" => case.peer = [127, 0, 0, 2],
+        "peer 127.0.0.2" => case.peer = IpAddr::from([127, 0, 0, 2]),
+        "peer 2001:db8::1" => case.peer = IpAddr::from([0x2001, 0xdb8, 0, 0, 0, 0, 0, 1]),
+        "peer ::ffff:127.0.0.1" => case.peer = IpAddr::from([0, 0, 0, 0, 0, 0xffff, 0x7f00, 1]),
         _ => return Err(Refusal::NoSuchCase),
     }
     Ok(())

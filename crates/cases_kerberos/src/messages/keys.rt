@@ -2,6 +2,7 @@
 
 use krb_keys::{CONFOUNDER_LEN, Key};
 use krb_msgs::ServiceKey;
+use std::net::{IpAddr, Ipv4Addr};
 
 pub const SERVICE: ServiceKey = ServiceKey {
     kvno: 3,
@@ -14,7 +15,8 @@ pub const SUBKEY: Key = Key::Aes256([0x44; 32]);
 
 pub const CONFOUNDER: [u8; CONFOUNDER_LEN] = [1; CONFOUNDER_LEN];
 
-pub const PEER: [u8; 4] = [127, 0, 0, 1];
+/// The client's address, and the service's.
+pub const PEER: IpAddr = IpAddr::V4(Ipv4Addr::LOCALHOST);
 
 /// The option mutual-required alone.
 pub const OPTIONS: u32 = 0x2000_0000;

@@ -1,6 +1,6 @@
 //! KRB-PRIVs.
 
-use crate::messages::keys::{SESSION, SUBKEY, text_of};
+use crate::messages::keys::{PEER, SESSION, SUBKEY, text_of};
 use crate::messages::making::krb_priv;
 use crate::messages::parts::{change_first, forged, sealed_bytes, sealed_record};
 use crate::messages::refusal::Refusal;
@@ -33,7 +33,7 @@ fn opened_ap_req(alloc: Global) -> Result<ApOpened, AllocError> {
 pub fn answer(alloc: Global, changes: &str) -> Result<String, Refusal> {
     let text = changed_text(alloc, changes)?;
     let opened = changed_opened(alloc, changes)?;
-    let private = open_priv(alloc, strictness_of(changes), &opened, &text);
+    let private = open_priv(alloc, strictness_of(changes), PEER, &opened, &text);
     drop(opened);
     opening_text(alloc, private)
 }

@@ -2,12 +2,14 @@
 
 use crate::connections::script::Script;
 use chpw_connections::ConnectionLimits;
+use chpw_endpoints::Endpoints;
 use std::alloc::Global;
 use std::io;
 use support_cases::Census;
 
 const BOUNDS: ConnectionLimits = ConnectionLimits {
     connections: 1,
+    per_peer: 1,
     bytes: 100,
     idle: 100,
     grace: 100,
@@ -35,7 +37,7 @@ fn cut_at(alloc: Global, bytes: &[u8], place: usize, is_ended: bool) -> io::Resu
 
 fn cut_told(script: &mut Script, bytes: &[u8], place: usize, is_ended: bool) -> io::Result<String> {
     let alloc = script.alloc;
-    let Some(slot) = script.connections.accept([10, 0, 0, 1], 0) else {
+    let Some(slot) = script.connections.accept(Endpoints::LOOPBACK, None, 0) else {
         return Ok(String::from_str(alloc, "no room")?);
     };
     let (front, rest) = bytes.split_at(place.min(bytes.len()));

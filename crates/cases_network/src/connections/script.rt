@@ -21,14 +21,30 @@ pub struct Script {
 }
 
 impl Script {
-    /// `CONNECTIONS BYTES IDLE GRACE WAIT LINGER WORKERS`
+    /// `CONNECTIONS BYTES IDLE GRACE WAIT LINGER WORKERS`, with ` PER_PEER` after it unless one peer may have all.
     pub fn of(alloc: Global, words: &str) -> io::Result<Script> {
         let words: Vec<&str> = words.split(' ').collect(alloc)?;
-        let [connections, bytes, idle, grace, wait, linger, workers] = words.as_slice() else {
+        let [
+            connections,
+            bytes,
+            idle,
+            grace,
+            wait,
+            linger,
+            workers,
+            rest @ ..,
+        ] = words.as_slice()
+        else {
             return Err(no_case());
+        };
+        let per_peer = match rest {
+            [] => number(connections)?,
+            [per_peer] => number(per_peer)?,
+            _ => return Err(no_case()),
         };
         let bounds = ConnectionLimits {
             connections: number(connections)?,
+            per_peer,
             bytes: number(bytes)?,
             idle: number(idle)?,
             grace: number(grace)?,
@@ -71,9 +87,15 @@ impl Script {
         let before = self.ended_slots()?;
         let (slot, rest) = words.split_once(' ').unwrap_or((words, ""));
         let (own, text) = match kind {
-            "accept" | "pass" | "room" | "show" | "look" | "confirm" | "overdue" => {
-                (None, self.whole(kind, words, now)?)
-            }
+            "accept"
+            | "datagram"
+            | "share"
+            | "pass"
+            | "room"
+            | "show"
+            | "look"
+            | "confirm"
+            | "overdue" => (None, self.whole(kind, words, now)?),
             "take" => (None, self.take(number(words)?, now)?),
             _ => {
                 let slot = number(slot)?;

@@ -5,6 +5,7 @@ use chpw_connections::Todo;
 use hex::encode;
 use std::alloc::Global;
 use std::io;
+use std::net::IpAddr;
 
 /// Bytes in hexadecimal, `-` for none; of many the first and the last.
 pub fn bytes_text(alloc: Global, bytes: &[u8]) -> io::Result<String> {
@@ -36,9 +37,8 @@ pub fn slots_text(alloc: Global, slots: &[usize]) -> io::Result<String> {
 }
 
 /// An address as it is written.
-pub fn peer_text(alloc: Global, peer: [u8; 4]) -> io::Result<String> {
-    let [a, b, c, d] = peer;
-    Ok(format!(in alloc; "{a}.{b}.{c}.{d}")?)
+pub fn peer_text(alloc: Global, peer: IpAddr) -> io::Result<String> {
+    Ok(format!(in alloc; "{peer}")?)
 }
 
 impl Script {

@@ -5,16 +5,20 @@ use crate::connections::showing::{bytes_text, peer_text, slots_text};
 use crate::connections::words::{address, number};
 use crate::words::no_case;
 use chpw_connections::{TakenMessage, Todo};
+use chpw_endpoints::{Endpoints, Peer};
 use std::io;
 
 /// More than any case here notes.
 const LOOKS: usize = 10_000;
 
 impl Script {
-    /// `accept A.B.C.D`, `pass`, `room`, `look`, `show`, `confirm TICKET` or `overdue WAIT`.
+    /// `accept PEER`, `accept PEER to LOCAL`, `datagram PEER`, `share PEER`, `pass`, `room`, `room PEER`, `look`, `show`,
+    /// `confirm TICKET` or `overdue WAIT`.
     pub fn whole(&mut self, kind: &str, words: &str, now: u64) -> io::Result<String> {
         match kind {
             "accept" => self.accept(words, now),
+            "datagram" => self.accept_datagram(words, now),
+            "share" => self.share(words),
             "look" => self.look(),
             "show" => self.overview(),
             "pass" => {
@@ -26,20 +30,66 @@ impl Script {
                 Ok(String::from_str(self.alloc, "confirmed")?)
             }
             "overdue" => self.overdue(number(words)?, now),
-            "room" if self.connections.make_room().is_some() => {
-                Ok(String::from_str(self.alloc, "made room")?)
-            }
-            "room" => Ok(String::from_str(self.alloc, "nobody waits")?),
+            "room" => self.make_room(words),
             _ => Err(no_case()),
         }
     }
 
     fn accept(&mut self, words: &str, now: u64) -> io::Result<String> {
-        let peer = address(self.alloc, words)?;
-        match self.connections.accept(peer, now) {
+        let (peer, local) = words.split_once(" to ").unwrap_or((words, "127.0.0.1"));
+        let ends = Endpoints {
+            peer: address(peer)?,
+            local: address(local)?,
+        };
+        self.accept_between(ends, ends.share(), now)
+    }
+
+    // A datagram counts in no share.
+    fn accept_datagram(&mut self, words: &str, now: u64) -> io::Result<String> {
+        let ends = Endpoints {
+            peer: address(words)?,
+            ..Endpoints::LOOPBACK
+        };
+        self.accept_between(ends, None, now)
+    }
+
+    fn accept_between(
+        &mut self,
+        ends: Endpoints,
+        share: Option<Peer>,
+        now: u64,
+    ) -> io::Result<String> {
+        match self.connections.accept(ends, share, now) {
             None => Ok(String::from_str(self.alloc, "no room")?),
             Some(slot) => Ok(format!(in self.alloc; "slot {slot}")?),
         }
+    }
+
+    /// How many connections a peer has in its share, and whether that is full.
+    fn share(&self, words: &str) -> io::Result<String> {
+        let peer = Peer::of(address(words)?);
+        let count = self.connections.count_of(peer);
+        let full = if self.connections.is_share_full(Some(peer)) {
+            " (full)"
+        } else {
+            ""
+        };
+        Ok(format!(in self.alloc; "{count}{full}")?)
+    }
+
+    /// Room for another connection: of this peer, if one is named.
+    fn make_room(&mut self, words: &str) -> io::Result<String> {
+        let ended = if words.is_empty() {
+            self.connections.make_room()
+        } else {
+            self.connections.make_room_for(Peer::of(address(words)?))
+        };
+        let text = if ended.is_some() {
+            "made room"
+        } else {
+            "nobody waits"
+        };
+        Ok(String::from_str(self.alloc, text)?)
     }
 
     /// The message that a worker takes, with its slot and peer.
@@ -58,7 +108,7 @@ impl Script {
 
     fn taken_told(&self, taken: &TakenMessage) -> io::Result<String> {
         let slot = taken.slot();
-        let peer = peer_text(self.alloc, taken.peer())?;
+        let peer = peer_text(self.alloc, taken.ends().peer)?;
         let message = bytes_text(self.alloc, taken.message())?;
         Ok(format!(in self.alloc; "slot {slot} from {peer}: {message}")?)
     }

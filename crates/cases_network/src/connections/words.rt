@@ -3,9 +3,10 @@
 use crate::words::no_case;
 use std::alloc::Global;
 use std::io;
+use std::net::IpAddr;
 use std::str::FromStr;
 
-/// A number in decimal digits.
+/// A number in decimal digits, or whatever else has a text.
 pub fn number<N: FromStr>(word: &str) -> io::Result<N>
 where
     N::Err: Drop,
@@ -27,11 +28,7 @@ pub fn filler_bytes(alloc: Global, count: &str) -> io::Result<Vec<u8>> {
     Ok(bytes)
 }
 
-/// An address, four numbers with points between.
-pub fn address(alloc: Global, word: &str) -> io::Result<[u8; 4]> {
-    let words: Vec<&str> = word.split('.').collect(alloc)?;
-    let [a, b, c, d] = words.as_slice() else {
-        return Err(no_case());
-    };
-    Ok([number(a)?, number(b)?, number(c)?, number(d)?])
+/// An address, as it is written.
+pub fn address(word: &str) -> io::Result<IpAddr> {
+    number(word)
 }

@@ -5,7 +5,7 @@ ghost use Rattle.std.specs.Option.{ForSome};
 ghost use Rattle.chpw_control.specs.Statuses.{AreTold, IsTold};
 
 use crate::control::words::{bytes, escaped_text, number};
-use chpw_control::{JournalState, KdcState, Status, Time, status_answer};
+use chpw_control::{JournalState, KdcState, NameState, Status, Time, status_answer};
 use std::alloc::Global;
 use std::str;
 use support_cases::Fault;
@@ -20,18 +20,29 @@ const LAST: i64 = 253_402_300_799;
 struct Words {
     since: Time,
     quiet_until: Option<Time>,
-    journal: JournalState,
+    journal_name: NameState,
+    log_name: NameState,
     kdc: KdcState,
     kdc_since: Option<Time>,
 }
 
-/// The answer to VERSION SINCE QUIET JOURNAL KDC KDC-SINCE KDC-REFUSED PRINCIPALS ..
+/// The texts of a status.
+#[derive(Clone, Copy, Drop)]
+struct Texts<'a> {
+    version: &'a str,
+    failure: Option<&'a str>,
+    refused: Option<&'a [u8]>,
+}
+
+/// The answer to VERSION SINCE QUIET FAILURE JOURNAL-NAME LOG-NAME KDC KDC-SINCE KDC-REFUSED PRINCIPALS ..
 pub fn status_text(alloc: Global, values: &[&str]) -> Result<String, Fault> {
     let [
         version,
         since,
         quiet,
-        journal,
+        failure,
+        journal_name,
+        log_name,
         kdc,
         kdc_since,
         refused,
@@ -41,27 +52,28 @@ pub fn status_text(alloc: Global, values: &[&str]) -> Result<String, Fault> {
         return Err(Fault::NoSuchCase);
     };
     let version = bytes(alloc, version)?;
-    let refused = refused_words(alloc, refused)?;
+    let refused = words_if_any(alloc, refused)?;
+    let failure = words_if_any(alloc, failure)?;
     let words = Words {
         since: time(since)?,
         quiet_until: time_if_any(quiet)?,
-        journal: journal_state(journal)?,
+        journal_name: name_state(journal_name)?,
+        log_name: name_state(log_name)?,
         kdc: kdc_state(kdc)?,
         kdc_since: time_if_any(kdc_since)?,
     };
     let counts = numbers(alloc, rest)?;
-    let version = str::from_utf8(&version).unwrap_or("(no text)");
-    let refused = refused.as_ref().map(|words| words.as_slice());
-    answer(alloc, version, refused, &words, &counts)
+    let texts = Texts {
+        version: str::from_utf8(&version).unwrap_or("(no text)"),
+        failure: failure
+            .as_ref()
+            .map(|words| str::from_utf8(words).unwrap_or("(no text)")),
+        refused: refused.as_ref().map(|words| words.as_slice()),
+    };
+    answer(alloc, texts, &words, &counts)
 }
 
-fn answer<'a>(
-    alloc: Global,
-    version: &'a str,
-    refused: Option<&'a [u8]>,
-    words: &Words,
-    counts: &[u64],
-) -> Result<String, Fault>
+fn answer(alloc: Global, texts: Texts<'_>, words: &Words, counts: &[u64]) -> Result<String, Fault>
     requires since { IsTold words.now.since }
     requires quiet { ForSome words.now.quiet_until IsTold }
     requires kdc { ForSome words.now.kdc_since IsTold }
@@ -95,7 +107,7 @@ fn answer<'a>(
         return Err(Fault::NoSuchCase);
     };
     let status = Status {
-        version,
+        version: texts.version,
         since: words.since,
         quiet_until: words.quiet_until,
         principals: *principals,
@@ -115,12 +127,14 @@ fn answer<'a>(
         busy: *busy,
         queue: *queue,
         journal_bytes: *journal_bytes,
-        journal: words.journal,
+        journal: journal_state(texts.failure),
+        journal_name: words.journal_name,
         log_lost: *log_lost,
+        log_name: words.log_name,
         kdc: words.kdc,
         kdc_since: words.kdc_since,
         kdc_behind: *kdc_behind,
-        kdc_refused: refused,
+        kdc_refused: texts.refused,
     };
     escaped_text(alloc, status_answer(alloc, &status)?.as_slice())
 }
@@ -167,10 +181,19 @@ fn time_if_any(word: &str) -> Result<Option<Time>, Fault>
     Ok(Some(time(word)?))
 }
 
-fn journal_state(word: &str) -> Result<JournalState, Fault> {
+fn journal_state(failure: Option<&str>) -> JournalState<'_> {
+    match failure {
+        Some(why) => JournalState::Failed(why),
+        None => JournalState::Good,
+    }
+}
+
+fn name_state(word: &str) -> Result<NameState, Fault> {
     match word {
-        "Good" => Ok(JournalState::Good),
-        "Failed" => Ok(JournalState::Failed),
+        "Absent" => Ok(NameState::Absent),
+        "Kept" => Ok(NameState::Kept),
+        "Gone" => Ok(NameState::Gone),
+        "Elsewhere" => Ok(NameState::Elsewhere),
         _ => Err(Fault::NoSuchCase),
     }
 }
@@ -185,7 +208,7 @@ fn kdc_state(word: &str) -> Result<KdcState, Fault> {
 }
 
 // `-`, or the words in hexadecimal
-fn refused_words(alloc: Global, word: &str) -> Result<Option<Vec<u8>>, Fault> {
+fn words_if_any(alloc: Global, word: &str) -> Result<Option<Vec<u8>>, Fault> {
     if word == "-" {
         return Ok(None);
     }

@@ -4,12 +4,13 @@ ghost use Rattle.std.specs.Prelude.{◌≡◌, ◌<◌, true};
 ghost use Rattle.chpw_table.specs.Times.{IsMoment};
 
 use crate::log::making::opened_request;
-use crate::log::words::{error_of, kind_of, maybe_number, number, octets, text_of, verdict_of};
+use crate::log::words::{address, error_of, kind_of, maybe_number, number, text_of, verdict_of};
 use crate::log::{events, updates};
 use chpw_log::{Asked, Held, HeldCounts, Line, LineLimits, MessageEvent, write_held, write_line};
 use chpw_table::{LAST_SECOND, Moment};
 use krb_protocol::Refusal;
 use std::alloc::Global;
+use std::net::IpAddr;
 use support_cases::Fault;
 
 /// What comes before the result in a line: when, at which worker, from whom.
@@ -17,7 +18,7 @@ use support_cases::Fault;
 struct Place {
     moment: Moment,
     worker: u8,
-    peer: [u8; 4],
+    peer: IpAddr,
 }
 
 /// The answer to a case.
@@ -39,7 +40,7 @@ pub fn answer(alloc: Global, case: &str) -> Result<String, Fault> {
             micros: number(micros)?,
         },
         worker: number(worker)?,
-        peer: octets(alloc, peer)?,
+        peer: address(alloc, peer)?,
     };
     match *kind {
         "decided" => decided_line(alloc, place, rest),
@@ -132,7 +133,7 @@ fn limited_lines(alloc: Global, words: &[&str]) -> Result<String, Fault> {
         let [kind, time, peer] = parts.as_slice() else {
             return Err(Fault::NoSuchCase);
         };
-        let leave = limits.ask(kind_of(kind)?, number(time)?, octets(alloc, peer)?);
+        let leave = limits.ask(kind_of(kind)?, number(time)?, address(alloc, peer)?);
         push_counts(&mut text, leave.told)?;
         text.push_str(if leave.line { "+" } else { "-" })?;
     }

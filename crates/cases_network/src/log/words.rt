@@ -3,6 +3,7 @@
 use chpw_log::HeldKind;
 use chpw_table::Verdict;
 use std::alloc::Global;
+use std::net::{IpAddr, Ipv6Addr};
 use std::str::FromStr;
 use support_cases::Fault;
 
@@ -35,13 +36,16 @@ pub fn bytes(alloc: Global, word: &str) -> Result<Vec<u8>, Fault> {
     hex::decode(alloc, word).map_err(|_| Fault::NoSuchCase)
 }
 
-/// Four bytes in hexadecimal.
-pub fn octets(alloc: Global, word: &str) -> Result<[u8; 4], Fault> {
+/// An address: four bytes or sixteen in hexadecimal.
+pub fn address(alloc: Global, word: &str) -> Result<IpAddr, Fault> {
     let bytes = bytes(alloc, word)?;
-    let [a, b, c, d] = bytes.as_slice() else {
-        return Err(Fault::NoSuchCase);
-    };
-    Ok([*a, *b, *c, *d])
+    if let [a, b, c, d] = bytes.as_slice() {
+        return Ok(IpAddr::from([*a, *b, *c, *d]));
+    }
+    match bytes.as_slice().try_into() {
+        Ok(octets) => Ok(IpAddr::V6(Ipv6Addr::from_octets(octets))),
+        Err(_) => Err(Fault::NoSuchCase),
+    }
 }
 
 /// The texts that a refusal may have in these cases.

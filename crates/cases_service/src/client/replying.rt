@@ -4,15 +4,13 @@ ghost use Rattle.chpw_rules.specs.Fitting.{config_fits};
 
 use crate::words::no_case;
 use chpw_config::read_config;
+use chpw_endpoints::Endpoints;
 use chpw_frame::{LONGEST_MESSAGE, Received, read_tcp, write_tcp};
 use chpw_rules::Config;
 use chpw_serve::serve_alone;
 use std::alloc::Global;
 use std::io;
 use support_realm::{Counting, Standing, Tally, World};
-
-/// The client's address.
-const PEER: [u8; 4] = [127, 0, 0, 1];
 
 /// A configuration.
 pub fn read_configuration(alloc: Global, text: &str) -> io::Result<Config>
@@ -36,7 +34,7 @@ pub fn reply_of(
     serve_alone(
         alloc,
         &world.service,
-        PEER,
+        Endpoints::LOOPBACK,
         &mut stream.as_slice(),
         &mut written,
         &mut world.alone,

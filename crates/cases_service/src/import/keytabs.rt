@@ -3,7 +3,7 @@ ghost use Rattle.std.specs.Prelude.{◌≤◌};
 
 use crate::import::words::{behind, count, join_lines, said};
 use crate::words::{bytes, no_case};
-use chpw_import::write_keytab;
+use chpw_import::{KeysFault, write_keytab};
 use chpw_invocation::{ImportOptions, LONGEST_REALM, USUAL_COUNT};
 use std::alloc::{AllocError, Global};
 use std::io;
@@ -31,6 +31,7 @@ fn brought(alloc: Global, options: ImportOptions<'_>, keytab: &[u8]) -> io::Resu
     let (mut written, mut left) = (Vec::new(alloc), Vec::new(alloc));
     match write_keytab(alloc, options, keytab, &mut written, &mut left) {
         Ok(()) => Ok(behind(join_lines(alloc, &written)?, &left)?),
+        Err(KeysFault::NoKey(file)) => Ok(behind(said(alloc, KeysFault::NoKey(file))?, &left)?),
         Err(fault) => said(alloc, fault),
     }
 }

@@ -3,11 +3,11 @@ ghost use Rattle.std.specs.Prelude.{◌<◌};
 ghost use Rattle.chpw_table.specs.Times.{IsMoment};
 
 use crate::stream::messages::{Message, show_reply, text_of};
-use crate::stream::serving::PEER;
 use crate::stream::setting::{Holding, Setting};
 use crate::stream::watched::{Mood, Watched};
 use crate::words::no_case;
 use chpw_decider::{Alone, Decider};
+use chpw_endpoints::Endpoints;
 use chpw_journal::MemorySink;
 use chpw_messages::Service;
 use chpw_serve::{Messages, NoGate, OpenResult, answer};
@@ -108,7 +108,16 @@ fn show_answer(
 ) -> io::Result<()> {
     let now = now();
     let bytes = &message.bytes;
-    let reply = answer(alloc, service, PEER, bytes, decider, &mut NoGate, nine, now)?;
+    let reply = answer(
+        alloc,
+        service,
+        Endpoints::LOOPBACK,
+        bytes,
+        decider,
+        &mut NoGate,
+        nine,
+        now,
+    )?;
     show_reply(alloc, text, message, &reply)
 }
 
@@ -222,7 +231,7 @@ fn open_request(
     service: &Service,
     message: &Message,
 ) -> io::Result<(Opened, Vec<u8>)> {
-    match service.open(alloc, PEER, &message.bytes)? {
+    match service.open(alloc, Endpoints::LOOPBACK, &message.bytes)? {
         OpenResult::Refused(_) => Err(no_case()),
         OpenResult::Opened(incoming) => Ok((incoming.opened, incoming.password.into_vec())),
     }

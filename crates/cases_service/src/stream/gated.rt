@@ -8,6 +8,7 @@ use chpw_table::{Event, Moment, Opened, Receipt};
 use krb_protocol::Refusal;
 use std::alloc::Global;
 use std::io;
+use std::net::IpAddr;
 use support_realm::World;
 use support_streams::Way;
 
@@ -32,7 +33,7 @@ impl Gate for Noting {
 impl Observer for Noting {
     ghost hears = { λ before what after. Unit {0} };
 
-    fn decided(&mut self, peer: [u8; 4], now: Moment, receipt: &Receipt, kvno: Option<u32>) {
+    fn decided(&mut self, peer: IpAddr, now: Moment, receipt: &Receipt, kvno: Option<u32>) {
         let entry = &receipt.entry;
         let (second, kvno) = (now.seconds, kvno.unwrap_or(0));
         let said = match &entry.event {
@@ -40,12 +41,12 @@ impl Observer for Noting {
             Event::Raise { verdict, .. } => verdict.text(),
             Event::Update { update, verdict } => verdict.text(update),
         };
-        let [_, _, _, host] = peer;
+        let host = host_of(peer);
         let _ = write!(self.passed, "{said} at {second} by {host}, kvno {kvno}; ");
     }
 
-    fn refused(&mut self, peer: [u8; 4], now: Moment, opened: Option<&Opened>, refusal: &Refusal) {
-        let [_, _, _, host] = peer;
+    fn refused(&mut self, peer: IpAddr, now: Moment, opened: Option<&Opened>, refusal: &Refusal) {
+        let host = host_of(peer);
         let (said, second) = (refusal.text, now.seconds);
         let what = if opened.is_some() {
             "undecided"
@@ -53,6 +54,14 @@ impl Observer for Noting {
             "refused"
         };
         let _ = write!(self.passed, "{what}: {said} at {second} by {host}; ");
+    }
+}
+
+// The last number of an IPv4 address.
+fn host_of(peer: IpAddr) -> u8 {
+    match peer {
+        IpAddr::V4(ip) => ip.octets()[3],
+        IpAddr::V6(_) => 0,
     }
 }
 

@@ -4,6 +4,7 @@ use crate::stream::messages::{Message, show_reply};
 use crate::stream::setting::{Holding, Setting};
 use crate::words::no_case;
 use chpw_decider::{Alone, Decider};
+use chpw_endpoints::Endpoints;
 use chpw_frame::{Received, read_tcp, write_tcp};
 use chpw_journal::MemorySink;
 use chpw_serve::{Ended, Gate, Messages, Observer, serve_alone, serve_stream};
@@ -11,9 +12,6 @@ use std::alloc::Global;
 use std::io;
 use support_realm::{Counting, Standing, World};
 use support_streams::{Course, Giver, Taker, Way};
-
-/// The client's address.
-pub const PEER: [u8; 4] = [127, 0, 0, 1];
 
 /// How a stream is served: at which second, and how reader and writer behave.
 #[derive(Clone, Copy, Drop)]
@@ -74,7 +72,7 @@ fn serve(alloc: Global, world: &mut World<MemorySink>, how: How, stream: &[u8]) 
     let ended = serve_alone(
         alloc,
         &world.service,
-        PEER,
+        Endpoints::LOOPBACK,
         &mut reader,
         &mut writer,
         &mut world.alone,
@@ -104,7 +102,7 @@ pub fn serve_by<M: Messages, D: Decider, G: Gate + Observer>(
     let ended = serve_stream(
         alloc,
         messages,
-        PEER,
+        Endpoints::LOOPBACK,
         &mut reader,
         &mut writer,
         decider,

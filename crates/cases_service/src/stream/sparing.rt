@@ -1,6 +1,7 @@
 //! A maker of messages that has no memory for replies to requests that opened.
 ghost use Rattle.std.specs.Prelude.{◌≡◌};
 
+use chpw_endpoints::Endpoints;
 use chpw_serve::{Messages, OpenResult, Seal};
 use chpw_table::Moment;
 use krb_protocol::Refusal;
@@ -23,8 +24,13 @@ impl<M: Messages> Messages for Sparing<'_, M> {
         self.messages.realm()
     }
 
-    fn open(&self, alloc: Global, peer: [u8; 4], message: &[u8]) -> Result<OpenResult, AllocError> {
-        self.messages.open(alloc, peer, message)
+    fn open(
+        &self,
+        alloc: Global,
+        ends: Endpoints,
+        message: &[u8],
+    ) -> Result<OpenResult, AllocError> {
+        self.messages.open(alloc, ends, message)
     }
 
     fn make_error(

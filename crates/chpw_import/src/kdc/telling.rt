@@ -1,11 +1,12 @@
 //! The lines about a KDC's principals that aren't imported.
 ghost use Rattle.std.specs.Prelude.{◌≡◌, ◌++◌, IfOk, OnOk};
-ghost use Rattle.chpw_import.specs.KdcLines.{count_line, left_line, reason_words, told};
+ghost use Rattle.chpw_import.specs.KdcLines.{left_line, reason_words, told};
 ghost use Rattle.chpw_import.specs.KdcChoices.{choice_of};
 
+use crate::counts::put_counts;
 use crate::kdc::choosing::{KdcImport, LeftName, LeftReason};
 use chpw_kdc::Reason;
-use chpw_printing::{put_name, put_number};
+use chpw_printing::put_name;
 use std::alloc::{AllocError, Global};
 
 /// A line for each principal that isn't imported, after the socket's name, and one with both numbers.
@@ -32,16 +33,6 @@ fn put_left(text: &mut Vec<u8>, socket: &str, left: &LeftName) -> Result<(), All
     put_name(text, &left.name)?;
     text.extend_from_slice(b": ")?;
     text.extend_from_slice(words_of(left.why))?;
-    text.extend_from_slice(b"\n")
-}
-
-fn put_counts(text: &mut Vec<u8>, imported: usize, left: usize) -> Result<(), AllocError>
-    ensures value { OnOk result (text.new.items ≡ text.old.items ++ count_line imported left) }
-{
-    text.extend_from_slice(b"imported ")?;
-    put_number(text, imported as u64)?;
-    text.extend_from_slice(b", not imported ")?;
-    put_number(text, left as u64)?;
     text.extend_from_slice(b"\n")
 }
 

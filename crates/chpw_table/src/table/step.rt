@@ -159,7 +159,7 @@ impl Table {
 }
 
 // Inserts an id, in the memory that it brought, and forgets those too old to be judged.
-fn put_ids(used: &mut KeyTree<RequestId>, ids: KeyTree<RequestId>, clock: i64)
+pub(super) fn put_ids(used: &mut KeyTree<RequestId>, ids: KeyTree<RequestId>, clock: i64)
     requires sorted { IsStrictlySortedBy id_cmp used.old }
     requires one { length ids ≤ 1 }
     requires few { length used.old + 1 < 2 ^ 32 }

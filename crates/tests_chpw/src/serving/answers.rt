@@ -7,6 +7,7 @@ use crate::serving::realm::{CHANGED, name_of, opening, reply_line, request};
 use chpw_book::{AtDesk, CloseRefused, Closed, Desk, DeskName, Pass, UnnamedDesk};
 use chpw_client::Sent;
 use chpw_decider::Decider;
+use chpw_endpoints::Endpoints;
 use chpw_journal::MemorySink;
 use chpw_messages::Service;
 use chpw_serve::{Gate, NoGate, Observer, answer};
@@ -52,7 +53,7 @@ pub fn printed_answer_at<P: Decider, G: Gate + Observer, R: Abort>(
     let reply = answer(
         alloc,
         service,
-        [127, 0, 0, 1],
+        Endpoints::LOOPBACK,
         sent.message.as_slice(),
         place,
         gate,

@@ -2,6 +2,7 @@
 use chpw_serve::{Gate, Observer, Spot};
 use chpw_table::{Moment, Opened, Receipt};
 use krb_protocol::Refusal;
+use std::net::IpAddr;
 use std::sync::{Barrier, Wait};
 
 /// Holds each worker before its decision until all workers of the barrier have arrived.
@@ -31,11 +32,11 @@ impl<R: Wait> Observer for Together<'_, R> {
 
     ghost hears = { NotesNothing };
 
-    fn decided(&mut self, _peer: [u8; 4], _now: Moment, _receipt: &Receipt, _kvno: Option<u32>) {}
+    fn decided(&mut self, _peer: IpAddr, _now: Moment, _receipt: &Receipt, _kvno: Option<u32>) {}
 
     fn refused(
         &mut self,
-        _peer: [u8; 4],
+        _peer: IpAddr,
         _now: Moment,
         _opened: Option<&Opened>,
         _refusal: &Refusal,

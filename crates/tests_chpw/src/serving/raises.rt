@@ -17,6 +17,7 @@ use chpw_table::{Entry, Event, Lookup, Moment, Opened, RaiseVerdict, Receipt, Ve
 use krb_protocol::Refusal;
 use std::alloc::Global;
 use std::marker::Brand;
+use std::net::IpAddr;
 use std::process::Abort;
 use std::sync::Wait;
 
@@ -50,11 +51,11 @@ impl<D: DeskName, R: Wait + Abort> Observer for Raises<'_, D, R> {
 
     ghost hears = { NotesNothing };
 
-    fn decided(&mut self, _peer: [u8; 4], _now: Moment, _receipt: &Receipt, _kvno: Option<u32>) {}
+    fn decided(&mut self, _peer: IpAddr, _now: Moment, _receipt: &Receipt, _kvno: Option<u32>) {}
 
     fn refused(
         &mut self,
-        _peer: [u8; 4],
+        _peer: IpAddr,
         _now: Moment,
         _opened: Option<&Opened>,
         _refusal: &Refusal,

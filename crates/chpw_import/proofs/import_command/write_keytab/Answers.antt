@@ -1,8 +1,10 @@
-use Rattle.chpw_import.proofs.ImportLemmas.{imported}
+use Rattle.chpw_import.proofs.ImportLemmas.{imported, late_fault}
 use Rattle.chpw_import.proofs.import_command.write_keytab.Goals as goal
 
-pub returns-clause-written : goal.returns-clause-written
-returns-clause-written g c = imported c.args.options c.args.bytes.now c.in_ok-brought.brought _ _ _ _ _ _ _ _ _ _
-    c.in_ok-brought.ensures.brought c.in_ok-brought.ensures.fits c.as_slice.ensures.value
-    c.as_slice-2.ensures.value c.in_ok-text.ensures.text c.in_ok-text.ensures.reads c.as_bytes.ensures.value
-    c.in_ok-write_text.ensures.written c.in-Ok.ensures.value c.as_slice-3.ensures.value c.in_ok-write_text-2.ensures.written
+pub returns-in-Ok-clause-written : goal.returns-in-Ok-clause-written
+returns-in-Ok-clause-written g c = imported c.args.options c.args.bytes.now c.in_ok-brought.brought _ _ _ _
+    c.in_ok-brought.ensures.brought c.in_ok-brought.ensures.fits c.in-Ok.ensures.written c.in-Ok.ensures.told c.in-Ok.ensures.some
+
+pub returns-clause-fault : goal.returns-clause-fault
+returns-clause-fault g c = late_fault c.args.options c.args.bytes.now c.in_ok-brought.brought c.in-Err.fault
+    c.in_ok-brought.ensures.brought c.in-Err.ensures.fault

@@ -9,7 +9,7 @@ pub returns-clause-value : goal.returns-clause-value
 returns-clause-value c =
     let h = c.args.held.now in
     let old = c.args.text.now.items in
-    let kinds : List ℕ → List ℕ = λ xs. xs ++ kind_words c.args.kind ++ decimal h.loopback ++ codes " from 127.0.0.0/8, " ++ decimal h.other in
+    let kinds : List ℕ → List ℕ = λ xs. xs ++ kind_words c.args.kind ++ decimal h.loopback ++ codes " from 127.0.0.0/8 or ::1, " ++ decimal h.other in
     let one : c.put_number.new.text.items ≡ old ++ decimal (h.loopback + h.other) = search rules in
     let two : c.put_counts.new.text.items ≡ kinds c.put_number.new.text.items = c.in_ok-put_counts.ensures.value in
     let three : c.extend_from_slice.new.self.items ≡ c.put_counts.new.text.items ++ codes " from elsewhere" = c.in_ok-extend_from_slice.ensures.items in

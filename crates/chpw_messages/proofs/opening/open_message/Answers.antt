@@ -9,7 +9,7 @@ use Rattle.chpw_messages.proofs.opening.open_message.Goals as goal
 pub returns-in-Err-clause-opening : goal.returns-in-Err-clause-opening
 returns-in-Err-clause-opening c = (
   refused_by (frame.refusal_of c.in-Err.fault),
-  subst (λ (f : Option FrameFault). OpensFramed c.args.strictness c.args.realm.now c.args.keys.now c.args.peer c.args.message.now f
+  subst (λ (f : Option FrameFault). OpensFramed c.args.strictness c.args.realm.now c.args.keys.now c.args.ends c.args.message.now f
       (refused_by (frame.refusal_of c.in-Err.fault))) (sym c.in-Err.ensures.first) refl,
   ap (λ (r : Refusal). by_error r.code r.error r.text) (sym c.refusal.ensures.value),
 )

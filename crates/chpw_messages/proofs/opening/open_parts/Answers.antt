@@ -24,7 +24,7 @@ returns-in_ok-incoming_of-in-Ok-clause-opening c =
     let a = c.in-Ok.opened in
     let h = c.in_ok-content-in-Ok.ensures.content in
     let content = h.2.0 in (
-      opened (request_of a (stamp_in h.0) content),
+      opened (request_of c.args.ends.local a (stamp_in h.0) content),
       (
         Ok a,
         c.in-Ok.ensures.opens,
@@ -37,4 +37,4 @@ pub returns-in_ok-incoming_of-in-Ok-clause-times : goal.returns-in_ok-incoming_o
 returns-in_ok-incoming_of-in-Ok-clause-times c =
     let h = c.in_ok-content-in-Ok.ensures.content in
     subst (λ (seal : Seal). IsReplyTime seal) (sym (c.in_ok-incoming_of-in-Ok.ensures.value h.2.0 (stamp_in h.0) h.2.2).2)
-    (reply_times c.args.realm.now c.args.keys.now c.args.parts.ap.now c.args.peer c.in-Ok.opened c.in-Ok.ensures.opens)
+    (reply_times c.args.ends.local c.args.realm.now c.args.keys.now c.args.parts.ap.now c.args.ends.peer c.in-Ok.opened c.in-Ok.ensures.opens)

@@ -12,6 +12,6 @@ words_put (Err x) old new words text h e = tt
 
 pub returns-in-Limits : goal.returns-in-Limits
 returns-in-Limits c = record {
-  value = words_put c.extend_from_slice-in-Limits.result c.args.text.now.items c.extend_from_slice-in-Limits.new.self.items _ (fault_text c.args.fault.now)
-      c.extend_from_slice-in-Limits.ensures.items (ap fault_text (sym c.in-Limits.is));
+  value = words_put c.extend_from_slice.result c.args.text.now.items c.extend_from_slice.new.self.items _ (fault_text c.args.fault.now)
+      c.extend_from_slice.ensures.items (ap fault_text (sym c.in-Limits.is));
 }

@@ -16,7 +16,7 @@ fits_too a b e h = subst (λ (v : Vec ℕ Global). length v.items ≤ 65535) (sy
 
 pub returns-in_err-bytes-in-Refused-clause-refused : goal.returns-in_err-bytes-in-Refused-clause-refused
 returns-in_err-bytes-in-Refused-clause-refused g c = on_err c.from_residual-in_err-bytes-in-Refused.result (
-    let t = calls_refused g.G.Gate.passes g.G.Observer.hears c.args.peer c.args.drawn.now
+    let t = calls_refused g.G.Gate.passes g.G.Observer.hears c.args.ends.peer c.args.drawn.now
     (g.D.Decider.made c.args.decider.now) (g.D.Decider.gathered c.args.decider.now)
     (g.D.Decider.gathered c.args.decider.now) c.args.gate.now c.refused.new.self
     _ c.in_ok-incoming.field-0 c.in-Refused.refusal c.in-Refused.is c.in_ok-incoming.ensures.opening refl c.refused.ensures.heard in
@@ -25,7 +25,7 @@ returns-in_err-bytes-in-Refused-clause-refused g c = on_err c.from_residual-in_e
 
 pub returns-in-Refused-clause-answers : goal.returns-in-Refused-clause-answers
 returns-in-Refused-clause-answers g c =
-    let t = answered_refused g.G.Gate.passes g.G.Observer.hears c.args.peer c.args.drawn.now
+    let t = answered_refused g.G.Gate.passes g.G.Observer.hears c.args.ends.peer c.args.drawn.now
     (g.D.Decider.made c.args.decider.now) (g.D.Decider.gathered c.args.decider.now)
     (g.D.Decider.gathered c.args.decider.now) c.args.gate.now c.refused.new.self
     _ _ _ _ _ c.in_ok-bytes-in-Refused.bytes.items c.in_ok-incoming.field-0 c.in-Refused.refusal c.in-Refused.is
@@ -51,11 +51,11 @@ returns-in_err-verdict-clause-refused g c = on_err c.from_residual-in_err-verdic
 
 pub returns-in_err-bytes-in-None-clause-refused : goal.returns-in_err-bytes-in-None-clause-refused
 returns-in_err-bytes-in-None-clause-refused g c =
-    let t = calls_opened g.G.Gate.passes g.G.Observer.hears c.args.peer c.args.drawn.now
+    let t = calls_opened g.G.Gate.passes g.G.Observer.hears c.args.ends.peer c.args.drawn.now
     (g.D.Decider.made c.decide_heard.new.decider) (g.D.Decider.gathered c.args.decider.now)
     (g.D.Decider.gathered c.decide_heard.new.decider) c.args.gate.now c.decide_heard.new.observer
     _ c.in_ok-incoming.field-0 c.in-Opened.incoming c.in-Opened.is c.in_ok-incoming.ensures.opening
-    (λ q i. calls_request g.G.Gate.passes g.G.Observer.hears c.args.peer c.args.drawn.now
+    (λ q i. calls_request g.G.Gate.passes g.G.Observer.hears c.args.ends.peer c.args.drawn.now
     (g.D.Decider.made c.decide_heard.new.decider) (g.D.Decider.gathered c.args.decider.now)
     (g.D.Decider.gathered c.decide_heard.new.decider) c.args.gate.now c.decide_heard.new.observer
     _ c.in-Opened.incoming c.as_slice-2.result.now c.in_ok-ready.ready _ c.in_ok-verdict.verdict q c.at.new.self i c.as_slice-2.ensures.value
@@ -72,11 +72,11 @@ returns-in_err-bytes-in-None-clause-refused g c =
 
 pub returns-in_err-bytes-in-Some-clause-refused : goal.returns-in_err-bytes-in-Some-clause-refused
 returns-in_err-bytes-in-Some-clause-refused g c =
-    let t = calls_opened g.G.Gate.passes g.G.Observer.hears c.args.peer c.args.drawn.now
+    let t = calls_opened g.G.Gate.passes g.G.Observer.hears c.args.ends.peer c.args.drawn.now
     (g.D.Decider.made c.decide_heard.new.decider) (g.D.Decider.gathered c.args.decider.now)
     (g.D.Decider.gathered c.decide_heard.new.decider) c.args.gate.now c.decide_heard.new.observer
     _ c.in_ok-incoming.field-0 c.in-Opened.incoming c.in-Opened.is c.in_ok-incoming.ensures.opening
-    (λ q i. calls_request g.G.Gate.passes g.G.Observer.hears c.args.peer c.args.drawn.now
+    (λ q i. calls_request g.G.Gate.passes g.G.Observer.hears c.args.ends.peer c.args.drawn.now
     (g.D.Decider.made c.decide_heard.new.decider) (g.D.Decider.gathered c.args.decider.now)
     (g.D.Decider.gathered c.decide_heard.new.decider) c.args.gate.now c.decide_heard.new.observer
     _ c.in-Opened.incoming c.as_slice-2.result.now c.in_ok-ready.ready _ c.in_ok-verdict.verdict q c.at.new.self i c.as_slice-2.ensures.value
@@ -93,12 +93,12 @@ returns-in_err-bytes-in-Some-clause-refused g c =
 
 pub returns-clause-answers : goal.returns-clause-answers
 returns-clause-answers g c =
-    let t = answered_opened g.G.Gate.passes g.G.Observer.hears c.args.peer c.args.drawn.now
+    let t = answered_opened g.G.Gate.passes g.G.Observer.hears c.args.ends.peer c.args.drawn.now
     (g.D.Decider.made c.decide_heard.new.decider) (g.D.Decider.gathered c.args.decider.now)
     (g.D.Decider.gathered c.decide_heard.new.decider) c.args.gate.now c.decide_heard.new.observer
     (g.M.Messages.error_frame c.args.service.now) (g.M.Messages.private_frame c.args.service.now)
     (g.D.Decider.may_be_full c.decide_heard.new.decider (g.D.Decider.gathered c.decide_heard.new.decider))
-    (g.M.Messages.opens c.args.service.now c.args.peer c.args.message.now)
+    (g.M.Messages.opens c.args.service.now c.args.ends c.args.message.now)
     c.args.drawn.words c.match-verdict.bytes.items
     c.in_ok-incoming.field-0 c.in-Opened.incoming c.in-Opened.is c.in_ok-incoming.ensures.opening
     (λ q i. (
@@ -115,7 +115,7 @@ returns-clause-answers g c =
             c.in_ok-ready.ensures.receipts w.in-Some.is c.in_ok-verdict.ensures.verdict
             (items_of c.match-verdict.bytes w.in_ok-bytes-in-Some.bytes w.bytes-is ∙ w.in_ok-bytes-in-Some.ensures.reply)
       ],
-      calls_request g.G.Gate.passes g.G.Observer.hears c.args.peer c.args.drawn.now
+      calls_request g.G.Gate.passes g.G.Observer.hears c.args.ends.peer c.args.drawn.now
           (g.D.Decider.made c.decide_heard.new.decider) (g.D.Decider.gathered c.args.decider.now)
           (g.D.Decider.gathered c.decide_heard.new.decider) c.args.gate.now c.decide_heard.new.observer
           _ c.in-Opened.incoming c.as_slice-2.result.now c.in_ok-ready.ready _ c.in_ok-verdict.verdict q c.at.new.self i c.as_slice-2.ensures.value

@@ -7,9 +7,9 @@ use Rattle.chpw_serve.proofs.serving.serve_stream.Given as goal
 abbrev pub invariant-loop-served : goal.invariant-loop-served
 invariant-loop-served g l = SoFar (Answering (g.M.Messages.error_frame l.service)
     (g.M.Messages.private_frame l.service) g.D.Decider.may_be_full g.D.Decider.gathered g.D.Decider.follows
-    g.D.Decider.made g.G.Gate.passes g.G.Observer.hears (g.M.Messages.opens l.service l.peer) l.peer)
-    (Unanswered g.D.Decider.gathered g.D.Decider.follows g.D.Decider.made g.G.Gate.passes g.G.Observer.hears (g.M.Messages.opens l.service l.peer) l.peer)
-    (λ now. g.M.Messages.error_frame l.service message_too_long now) g.C.Clock.gives g.X.Words.gives g.G.Gate.passes g.G.Observer.hears l.peer
+    g.D.Decider.made g.G.Gate.passes g.G.Observer.hears (g.M.Messages.opens l.service l.ends) l.ends.peer)
+    (Unanswered g.D.Decider.gathered g.D.Decider.follows g.D.Decider.made g.G.Gate.passes g.G.Observer.hears (g.M.Messages.opens l.service l.ends) l.ends.peer)
+    (λ now. g.M.Messages.error_frame l.service message_too_long now) g.C.Clock.gives g.X.Words.gives g.G.Gate.passes g.G.Observer.hears l.ends.peer
     (stream_state (g.R.Read.remaining l.initial.reader) l.initial.decider (g.W.Write.contents l.initial.writer) l.initial.clock l.initial.words l.initial.gate)
     (stream_state (g.R.Read.remaining l.reader) l.decider (g.W.Write.contents l.writer) l.clock l.words l.gate)
     l.served

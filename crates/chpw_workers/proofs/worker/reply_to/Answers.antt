@@ -6,6 +6,6 @@ returns-clause-replied g c = (
   c.serve_stream-ended.result,
   c.serve_stream-ended.new.writer.items,
   Some c.serve_stream-ended.new.reader.now,
-  (rw (c.new-bytes.ensures.items, c.message-left.ensures.value, c.peer.ensures.value) at c.serve_stream-ended.ensures.served),
+  (rw (c.new-bytes.ensures.items, c.message-left.ensures.value, c.ends.ensures.value) at c.serve_stream-ended.ensures.served),
   c.reply_of.ensures.value,
 )

@@ -1,6 +1,6 @@
 use Rattle.std.proofs.Common.{Some, [], refl, rules}
 use Rattle.chpw_serve.specs.Serving.{stream_state}
-use Rattle.chpw_connections.specs.Turns.{message_of, peer_of}
+use Rattle.chpw_connections.specs.Turns.{message_of, ends_of}
 use Rattle.chpw_workers.proofs.TurnLemmas.{comes}
 use Rattle.chpw_workers.proofs.FollowLemmas.{follows_on}
 use Rattle.chpw_workers.proofs.worker.take_turn.Goals as goal
@@ -28,7 +28,7 @@ returns-clause-follows g c =
     let new = c.reply_to-reply.new.worker in
     let r = c.reply_to-reply.ensures.replied in
     follows_on (g.M.Messages.error_frame service) (g.M.Messages.private_frame service) g.K.Decider.may_be_full g.K.Decider.gathered
-    g.K.Decider.follows g.K.Decider.made g.G.Gate.passes g.G.Observer.hears (g.M.Messages.opens service (peer_of c.args.taken))
-    g.C.Clock.gives g.X.Words.gives (peer_of c.args.taken) g.met.K.Decider.stays g.met.K.Decider.goes_on r.0
+    g.K.Decider.follows g.K.Decider.made g.G.Gate.passes g.G.Observer.hears (g.M.Messages.opens service (ends_of c.args.taken))
+    g.C.Clock.gives g.X.Words.gives (ends_of c.args.taken).peer g.met.K.Decider.stays g.met.K.Decider.goes_on r.0
     (stream_state (Some (message_of c.args.taken)) c.args.decider.now (Some []) old.clock old.words old.gate)
     (stream_state r.2 c.reply_to-reply.new.decider (Some r.1) new.clock new.words new.gate) r.3

@@ -14,7 +14,7 @@ unfolding OpensPriv
 returns-in_err-message c = record {
   opens =
       passes_on (Reads krb_priv krb_priv_value c.args.bytes.now fault.Malformed)
-      (OpensPriv c.args.strictness c.args.opened.now.subkey c.args.opened.now.seq_number c.args.bytes.now)
+      (OpensPriv c.args.strictness c.args.local c.args.opened.now.subkey c.args.opened.now.seq_number c.args.bytes.now)
       (λ f h. stops f h refl) c.in_err-message.field-0.0 _ c.from_residual.ensures.1 c.in_err-message.ensures;
 }
 
@@ -33,7 +33,7 @@ returns-in_err-part c =
     let is : IsPrivate m = c.is_private.ensures.0 (search rules) in record {
       opens =
           passes_on (OpensPart enc_krb_priv_part enc_krb_priv_part_value c.args.opened.now.subkey usage_krb_priv m.enc_part fault.NotSealed fault.Malformed)
-          (OpensPriv c.args.strictness c.args.opened.now.subkey c.args.opened.now.seq_number c.args.bytes.now)
+          (OpensPriv c.args.strictness c.args.local c.args.opened.now.subkey c.args.opened.now.seq_number c.args.bytes.now)
           (λ f h. goes_on m c.in_ok-message.ensures (met is (stops f h refl)))
           c.in_err-part.field-0.0 _ c.from_residual-in_err-part.ensures.1 c.in_err-part.ensures;
     }
@@ -67,6 +67,6 @@ returns c =
     let is : IsPrivate m = c.is_private.ensures.0 (search rules) in
     let follows : MayFollow c.args.opened.now.seq_number part.seq_number = c.may_follow.ensures.0 (search rules) in
     let yes : c.meets.result ≡ true = search rules in
-    let strict : meets c.args.strictness c.args.opened.now.seq_number part ≡ true = sym c.meets.ensures ∙ yes in record {
+    let strict : meets c.args.strictness c.args.local c.args.opened.now.seq_number part ≡ true = sym c.meets.ensures ∙ yes in record {
       opens = goes_on m c.in_ok-message.ensures (met is (goes_on part c.in_ok-part.ensures (met follows (met strict (ap Ok c.private_of.ensures)))));
     }

@@ -25,4 +25,4 @@ returns-else-wanted_after-eq0-clause-goes c =
     ∙ ap (λ (n : ℕ). take n c.args.bytes.now) (c.wanted_after.ensures.value ∙ ap wanted_after c.deref-in-Reading.ensures.value)))
     (search rules)
     (c.whole_after-room.ensures.value ∙ ap whole_after c.deref.ensures.value)
-    (search rules) refl refl refl refl
+    (search rules) refl refl refl refl refl

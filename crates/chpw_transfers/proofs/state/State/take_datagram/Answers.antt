@@ -12,7 +12,7 @@ pub returns-in-Some-clause-taken : goal.returns-in-Some-clause-taken
 returns-in-Some-clause-taken c =
     takes (bounds_of c.args.self.now.connections) (bounds_of c.accept.new.self) (bounds_of c.length_came.new.self.connections)
     c.args.now (accepted_by c.args.self.now.connections) c.in_ok-slot.slot c.in-Some.worker
-    (workers_of c.args.self.now.connections) c.args.peer c.args.message.now
+    (workers_of c.args.self.now.connections) c.args.ends c.args.message.now
     (slots_of c.args.self.now.connections) (slots_of c.accept.new.self)
     (slots_of c.length_came.new.self.connections) (slots_of c.message_came.new.self.connections)
     c.in_ok-length.ensures.fits
@@ -32,7 +32,7 @@ returns-in-Some-clause-taken c =
 pub returns-in-None-clause-dropped : goal.returns-in-None-clause-dropped
 returns-in-None-clause-dropped c =
     drops (bounds_of c.accept.new.self) (bounds_of c.length_came.new.self.connections) c.args.now
-    (accepted_by c.args.self.now.connections) c.in_ok-slot.slot c.args.peer
+    (accepted_by c.args.self.now.connections) c.in_ok-slot.slot c.args.ends
     c.in_ok-length.length
     c.args.message.now (slots_of c.args.self.now.connections) (slots_of c.accept.new.self) (slots_of c.length_came.new.self.connections)
     (slots_of c.message_came.new.self.connections) (slots_of c.fail.new.self) (slots_of c.remove.new.self)
@@ -45,7 +45,7 @@ returns-in-None-clause-dropped c =
 pub returns-in-None-clause-in_turn : goal.returns-in-None-clause-in_turn
 returns-in-None-clause-in_turn c =
     inr (begins (bounds_of c.accept.new.self) (bounds_of c.length_came.new.self.connections) c.args.now
-    (accepted_by c.args.self.now.connections) c.in_ok-slot.slot c.args.peer
+    (accepted_by c.args.self.now.connections) c.in_ok-slot.slot c.args.ends
     c.in_ok-length.length
     c.args.message.now (slots_of c.args.self.now.connections) (slots_of c.accept.new.self) (slots_of c.length_came.new.self.connections)
     (slots_of c.message_came.new.self.connections) (slots_of c.fail.new.self) (slots_of c.remove.new.self)

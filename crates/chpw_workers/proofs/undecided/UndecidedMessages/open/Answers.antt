@@ -8,7 +8,7 @@ use Rattle.chpw_workers.proofs.undecided.UndecidedMessages.open.Goals.{in-Opened
 
 pub returns-clause-opening : goal.returns-clause-opening
 returns-clause-opening g c =
-    let opens = g.M.Messages.opens c.args.self.now.messages.now c.args.peer c.args.message.now in
+    let opens = g.M.Messages.opens c.args.self.now.messages.now c.args.ends c.args.message.now in
     let found = c.in_ok-refusal.ensures.opening in
     elim c.match-branch-2.branch [
       | in-Opened w ↦ rw w.result-is (of_opened opens w.in-Opened.field-0 w.kdc_out_of_reach.result w.kdc_out_of_reach.ensures.value

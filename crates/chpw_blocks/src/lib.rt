@@ -1,0 +1,9 @@
+//! Byte strings one behind the other, each behind its length.
+#![tactic(auto)]
+
+pub mod laws;
+mod reading;
+mod writing;
+
+pub use reading::read_blocks;
+pub use writing::put_block;

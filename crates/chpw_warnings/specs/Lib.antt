@@ -1,0 +1,4 @@
+pub mod Settings
+pub mod Rules
+pub mod Lines
+pub mod Unread
