@@ -2,7 +2,8 @@
 
 use crate::page::Page;
 use crate::stop::{Stop, called};
-use chpw_commands::{DrillFault, explain_check, run_check, run_drill};
+use chpw_check::{explain_check, run_check};
+use chpw_commands::{DrillFault, run_drill};
 use chpw_config::{ConfigError, read_config};
 use chpw_invocation::{Invocation, command_of};
 use chpw_rules::Config;

@@ -1,4 +1,3 @@
-pub mod Checked
 pub mod Words
 pub mod Setup
 pub mod Asking

@@ -1,8 +1,6 @@
-//! The service's commands that need neither network nor files: the drill and the check.
+//! `drill`: a script of decisions, taken by the machine, and what it prints.
 #![tactic(auto)]
 
-mod check;
 mod drill;
 
-pub use check::{explain_check, run_check, warn_check};
 pub use drill::{DrillFault, run_drill};

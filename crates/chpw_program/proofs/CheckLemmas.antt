@@ -1,6 +1,6 @@
 -- How a check of a file ends.
 use Rattle.std.proofs.Common.{ℕ, List, subst, sym}
-use Rattle.chpw_commands.specs.Checked.{IsCheckFault}
+use Rattle.chpw_check.specs.Checked.{IsCheckFault}
 use Rattle.chpw_program.specs.Checking.{HasChecked, IsChecked}
 use Rattle.chpw_program.specs.NewPasswords.{IsUnread}
 use Rattle.chpw_program.specs.declared.ending.Ending.{Ending}

@@ -1,7 +1,7 @@
 -- How `check` ends, and what it prints.
 use Rattle.std.specs.Prelude.{◌≡◌, ℕ, List, Option}
 use Rattle.std.specs.Io.KnownBytes.{Appends}
-use Rattle.chpw_commands.specs.Checked.{IsCheckFault, checked, line_of_check, status_of}
+use Rattle.chpw_check.specs.Checked.{IsCheckFault, checked, line_of_check, status_of}
 use Rattle.chpw_program.specs.declared.ending.Ending.{Ending}
 use Rattle.chpw_program.specs.declared.ending.Ending.TheVariants.{Good, Faulty, Early, Unread}
 

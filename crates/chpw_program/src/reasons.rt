@@ -5,7 +5,7 @@ ghost use Rattle.chpw_program.specs.Reasons.{cause_of, is_privileged, named_by, 
 
 use crate::ending::Ending;
 use crate::new_password::STANDARD_INPUT;
-use chpw_commands::explain_check;
+use chpw_check::explain_check;
 use chpw_import::KeysFault;
 use chpw_invocation::{Invocation, ListenAddresses, command_of};
 use chpw_start::{LONGEST_CONFIGURATION, ServeFault, read_configuration};

@@ -1,22 +1,17 @@
 -- The whole run of a service, put together from its parts.
 use Rattle.std.proofs.Common.{◌≡◌, ℕ, Bool, List, Option, is_some, length, subst}
-use Rattle.std.specs.declared.fs.File.{File}
 use Rattle.chpw_rules.specs.declared.config.Config.{Config}
 use Rattle.chpw_table.specs.Agreement.{Held}
 use Rattle.chpw_table.specs.declared.times.Moment.{Moment}
 use Rattle.rand_chacha.specs.ChaCha.{key_of}
-use Rattle.chpw_journal.specs.declared.journal_file.Journal.{Journal}
 use Rattle.chpw_book.specs.Passes.{PassView}
 use Rattle.chpw_workers.specs.Clocks.{moment_after}
 use Rattle.chpw_invocation.specs.declared.invocation.ServeOptions.{ServeOptions}
-use Rattle.chpw_start.specs.Opening.{IsOpening}
-use Rattle.chpw_start.specs.Resuming.{IsTakenOver}
-use Rattle.chpw_table.specs.declared.table.resuming.Carried.{Carried}
 use Rattle.chpw_start.specs.Raised.{IsRaisedWhereAsked}
 use Rattle.chpw_desks.specs.ServiceRuns.{RunsTo, gives_moment, new_passes}
 use Rattle.chpw_start.specs.Rules.{AreRulesOf}
 use Rattle.chpw_desks.specs.Staff.{AreStaff, ServiceWorker}
-use Rattle.chpw_service.specs.WholeRuns.{IsServedByNewWorkers, IsServedFrom, IsWholeRun}
+use Rattle.chpw_service.specs.WholeRuns.{IsOpenedFrom, IsServedByNewWorkers, IsServedFrom, IsWholeRun}
 use Rattle.chpw_start.specs.declared.raising.RaiseReport.{RaiseReport}
 use Rattle.chpw_start.specs.declared.rules.Rules.{Rules}
 
@@ -50,23 +45,16 @@ module _ {R L : Type 0} (options : ServeOptions) (key : List ℕ) (rules : Rules
       }
 
 -- and that is what its files say
-pub whole_run : {R L : Type 0} (options : ServeOptions) (config : Config) (rules : Rules) (given : Option (List ℕ)) (started start since : Moment)
-    (found : Journal File) (left : Option Carried) (opened : Held) (seed : List ℕ) (table : Held) → AreRulesOf config options rules
-    → IsOpening gives_moment config given (moment_after 0) started found → IsTakenOver start.seconds found.table left opened
+pub whole_run : {R L : Type 0} (options : ServeOptions) (config : Config) (rules : Rules) (before since : Moment) (opened : Held)
+    (seed : List ℕ) (table : Held) → AreRulesOf config options rules → before ≡ moment_after 0 → IsOpenedFrom config before opened
     → table ≡ opened → IsServedFrom R L options (key_of seed) table rules since → IsWholeRun R L options
-whole_run {R} {L} options config rules given started start since found left opened seed table are opening taken tables served =
+whole_run {R} {L} options config rules before since opened seed table are first opening tables served =
     record {
       config = config;
       rules = rules;
       rules_are = are;
-      started = started;
-      given = given;
-      found = found;
-      opening = opening;
-      start = start;
-      left = left;
       opened = opened;
-      taken = taken;
+      opening = subst (λ (m : Moment). IsOpenedFrom config m opened) first opening;
       seed = seed;
       since = since;
       served = subst (λ (t : Held). IsServedFrom R L options (key_of seed) t rules since) tables served;

@@ -38,20 +38,25 @@ pub record IsServedFrom (R L : Type 0) (options : ServeOptions) (key : List ℕ)
   pub raised : IsRaisedWhereAsked gives_moment opening.state before after (new_passes options.workers) passes options.raise told
   pub served : IsServedByNewWorkers R L (is_some options.kdc) options key options.workers opening passes rules
 
--- there is a configuration that a text sets, by whose rules messages are answered. With its table, restored from what the journal's
--- file gave, the first desk opens, or with that table once it has taken over what a resume file left that fits this start
+-- a table with which the first desk of a service with this configuration opens: restored from what the journal's file gave, at a
+-- moment of a clock, or that table once it has taken over what a resume file left that fits this start
+pub record IsOpenedFrom (config : Config) (before : Moment) (opened : Held) : Type 0 where
+  pub started : Moment
+  pub given : Option (List ℕ)
+  pub found : Journal File
+  pub opening : IsOpening gives_moment config given before started found
+  pub start : Moment
+  pub left : Option Carried
+  pub taken : IsTakenOver start.seconds found.table left opened
+
+-- there is a configuration that a text sets, by whose rules messages are answered; the first desk opens with its table, by a clock
+-- that hasn't given a moment yet; and new workers, with words of one seed, serve from there on
 pub record IsWholeRun (R L : Type 0) (options : ServeOptions) : Type 0 where
   pub config : Config
   pub rules : Rules
   pub rules_are : AreRulesOf config options rules
-  pub started : Moment
-  pub given : Option (List ℕ)
-  pub found : Journal File
-  pub opening : IsOpening gives_moment config given (moment_after 0) started found
-  pub start : Moment
-  pub left : Option Carried
   pub opened : Held
-  pub taken : IsTakenOver start.seconds found.table left opened
+  pub opening : IsOpenedFrom config (moment_after 0) opened
   pub seed : List ℕ
   pub since : Moment
   pub served : IsServedFrom R L options (key_of seed) opened rules since

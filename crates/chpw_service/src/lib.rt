@@ -6,6 +6,7 @@ mod control_socket;
 mod kdc;
 mod late_fault;
 pub mod laws;
+mod opening;
 mod readings;
 mod running;
 mod service_manager;

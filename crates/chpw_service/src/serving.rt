@@ -17,26 +17,22 @@ ghost use Rattle.rand_chacha.specs.ChaCha.{key_of};
 use crate::binding::{BoundSockets, bind};
 use crate::control_socket::{control_socket, take_away};
 use crate::kdc::ControlTerms;
+use crate::opening::{OpenJournal, Settings, open_journal, settings_of};
 use crate::running::{serve_fault_of, serve_from};
 use crate::service_manager::{notify_ready, notify_stopping};
 use chpw_book::{Desk, DeskName, Pass};
 use chpw_desks::{
-    JournalLength, KdcPlace, Opened, Opening, ServiceContext, first_opening, journal_length,
-    start_desk,
+    JournalLength, KdcPlace, Opened, Opening, ServiceContext, first_opening, start_desk,
 };
 use chpw_invocation::{ConnectionLimit, ServeOptions};
-use chpw_journal::{FileSink, Journal};
+use chpw_journal::FileSink;
 use chpw_logging::{Log, Notice, log_of, time_of};
 use chpw_printing::put_time;
 use chpw_reactor::{Engine, PoolOptions, dialog_with};
 use chpw_rules::NamePatterns;
 use chpw_serve::{Clock as _, Messages as _};
 use chpw_sockets::DatagramSockets;
-use chpw_start::{
-    Configuration, Resumption, Rules, ServeFault, SetAside, configuration_of, is_shared, kdc_names,
-    open_table, own_ids, raise_where_asked, read_seed, refuse_exposed, refuse_missing,
-    resume_where_asked, rules_of, standing_at,
-};
+use chpw_start::{Rules, ServeFault, is_shared, own_ids, raise_where_asked, standing_at};
 use chpw_table::{LAST_SECOND, Moment, Table};
 use chpw_transfers::{AcceptLimit, KdcSide};
 use chpw_workers::MachineClock;
@@ -101,43 +97,20 @@ where
     ensures run { OnOk result (IsWholeRun R (LogLines R) options.entry) }
     ensures fault { IfErr result (IsOfService options.entry) }
 {
-    let Configuration { config, text } = configuration_of(rt, options.config)?;
-    let names = kdc_names(rt.alloc(), &text)?;
-    let seed = read_seed(rt, options.seed)?;
-    refuse_exposed(rt, &options)?;
-    refuse_missing(rt, &options)?;
+    let Settings {
+        config,
+        rules,
+        names,
+        seed,
+    } = settings_of(rt, &options)?;
     let log = log_of(rt, rt.alloc(), &options)?;
-    let Ok(rules) = rules_of(rt.alloc(), &config, text, &options) else {
-        return Err(ServeFault::Memory);
-    };
     let sockets = bind(rt, &options, rules.service.realm())?;
     let mut clock = MachineClock::new(time);
-    let Journal {
+    let OpenJournal {
         table,
-        mut sink,
-        found: _,
-        cut_at,
-    } = open_table(
-        rt,
-        rt.alloc(),
-        config,
-        options.journal,
-        options.existing_journal,
-        &mut clock,
-    )?;
-    let start = clock.now();
-    let is_cut = cut_at.is_some();
-    let resumption = resume_where_asked(rt, &options, start, table, sink.file(), is_cut)?;
-    let Resumption { table, set_aside } = resumption;
-    let journal = journal_length(rt.alloc(), options.journal, &mut sink)?;
-    let Ok(marks) = journal.marks() else {
-        return Err(ServeFault::Memory);
-    };
-    log.watch(marks);
-    if let Some(kept) = cut_at {
-        log.tell(Notice::TailCut(options.journal, kept));
-    }
-    tell_set_aside(&log, &options, set_aside);
+        sink,
+        length,
+    } = open_journal(rt, &log, &options, config, &mut clock)?;
     tell_shared(rt, &log, &options);
     let listener = control_socket(rt, options.control)?;
     let since = clock.now();
@@ -149,7 +122,7 @@ where
         options: &options,
         terms: terms_of(&options, seed),
         log: &log,
-        journal,
+        journal: length,
         kdc,
         sockets,
     };
@@ -194,17 +167,6 @@ fn reach_asked(is_asked: bool, wait: u32) -> Option<u64>
         Some(u64::from(wait))
     } else {
         None
-    }
-}
-
-// Reports why the resume file was set aside, if it was.
-fn tell_set_aside<R: Wait + Eprint>(
-    log: &Log<'_, R>,
-    options: &ServeOptions<'_>,
-    set_aside: Option<SetAside>,
-) {
-    if let (Some(path), Some(why)) = (options.resume, set_aside) {
-        log.tell(Notice::SetAside(path, why));
     }
 }
 

@@ -1,5 +1,6 @@
 //! One case of the drill or of the check.
-use chpw_commands::{DrillFault, explain_check, run_check, run_drill};
+use chpw_check::{explain_check, run_check};
+use chpw_commands::{DrillFault, run_drill};
 use hex::decode;
 use std::alloc::Global;
 use std::io::{Error, ErrorKind, Result};

@@ -2,10 +2,10 @@
 ghost use Rattle.std.specs.Prelude.{◌≡◌, Err, IfOk, IfErr, OnOk, is_some, string_bytes, if◌then◌else◌};
 ghost use Rattle.std.specs.Io.KnownBytes.{Appends};
 ghost use Rattle.chpw_config.specs.Faults.{UnlessMemory};
-ghost use Rattle.chpw_commands.specs.Checked.{checked, whole_file, line_of_check, lines_about, status_of, good_line, fault_line, warning_lines, IsCheckFault};
+ghost use Rattle.chpw_check.specs.Checked.{checked, whole_file, line_of_check, lines_about, status_of, good_line, fault_line, warning_lines, IsCheckFault};
 ghost use Rattle.chpw_commands.specs.declared.drill.DrillFault.TheVariants.{Memory};
 
-use crate::drill::DrillFault;
+use chpw_commands::DrillFault;
 use chpw_config::{ConfigError, ConfigFault, explain, read_config, read_kdc};
 use chpw_rules::Config;
 use chpw_warnings::{config_warnings, put_file_warnings};

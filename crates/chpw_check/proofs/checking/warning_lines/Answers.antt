@@ -1,6 +1,6 @@
 use Rattle.std.proofs.Common.{rules}
 use Rattle.chpw_commands.proofs.TextLemmas.{utf8_no, utf8_yes}
-use Rattle.chpw_commands.proofs.check.warning_lines.Goals as goal
+use Rattle.chpw_check.proofs.checking.warning_lines.Goals as goal
 
 pub returns-in-Ok : goal.returns-in-Ok
 returns-in-Ok c = record { value = rw (utf8_yes c.args.text.now c.in-Ok.ensures.cases.1, ← c.in-Ok.ensures.cases.0) c.lines_about.ensures.value }

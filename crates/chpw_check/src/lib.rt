@@ -1,0 +1,6 @@
+//! `check`: what is wrong with the text of a configuration, and what it may not mean.
+#![tactic(auto)]
+
+mod checking;
+
+pub use checking::{explain_check, run_check, warn_check};
