@@ -6,6 +6,8 @@ mod client;
 #[cfg(test)]
 mod command_line;
 #[cfg(test)]
+mod command_lines;
+#[cfg(test)]
 mod control;
 #[cfg(test)]
 mod endings;
