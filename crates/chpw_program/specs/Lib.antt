@@ -3,6 +3,7 @@ pub mod Checking
 pub mod Controlling
 pub mod Endings
 pub mod NewPasswords
+pub mod Overlaps
 pub mod Patience
 pub mod Reasons
 pub mod Running

@@ -2,7 +2,7 @@
 use Rattle.std.specs.Prelude.{ℕ, Bool, List, [], ◌∷◌, ◌++◌, codes, string_bytes, nat_lt, Option, Some, None, option_map, if◌then◌else◌}
 use Rattle.std.specs.Borrow.{Bor}
 use Rattle.std.specs.Fmt.{decimal}
-use Rattle.std.specs.Net.Text.{socket_text}
+use Rattle.std.specs.Net.Text.{ip_text, socket_text}
 use Rattle.std.specs.Str.{bytes_eq}
 use Rattle.chpw_import.specs.declared.fault.KeysFault.TheVariants as keys
 use Rattle.chpw_invocation.specs.declared.invocation.Invocation.{Invocation}
@@ -17,7 +17,7 @@ use Rattle.chpw_program.specs.declared.reasons.Cause.TheVariants.{Unread, Unwrit
 use Rattle.chpw_program.specs.declared.reasons.Named.{Named}
 use Rattle.chpw_program.specs.declared.reasons.Reason.{Reason}
 use Rattle.chpw_program.specs.declared.reasons.Reason.TheVariants.{Missing, NoFolder, Forbidden, Folder, Special, Short, Long}
-use Rattle.chpw_program.specs.declared.reasons.Reason.TheVariants.{Held, InWords, InUse, NoAddress, Privileged}
+use Rattle.chpw_program.specs.declared.reasons.Reason.TheVariants.{Held, InWords, InUse, NoAddress, Privileged, Overlapping}
 
 abbrev pub line_of : Reason → List ℕ
 line_of (Missing file) = file.now ++ codes ": no such file"
@@ -32,6 +32,7 @@ line_of (InWords file words) = file.now ++ (codes ": " ++ string_bytes words)
 line_of (InUse place) = socket_text place ++ codes ": in use"
 line_of (NoAddress place) = socket_text place ++ codes ": no such address on this host"
 line_of (Privileged port) = codes "port " ++ (decimal port ++ codes ": ports below 1024 require a privilege")
+line_of (Overlapping wildcard other) = ip_text wildcard ++ (codes " overlaps " ++ ip_text other)
 
 -- its line, if there is one
 abbrev pub told_of : Option Reason → List ℕ

@@ -10,6 +10,7 @@ mod descriptors;
 mod ending;
 mod journal_reason;
 mod new_password;
+mod overlaps;
 mod patience;
 mod reasons;
 mod running;

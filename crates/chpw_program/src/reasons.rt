@@ -1,10 +1,12 @@
 //! Why a file can't be read, or a port not be listened at, as far as that can be seen: a second line after the fault's.
-ghost use Rattle.std.specs.Prelude.{◌≡◌, ◌≢◌, None, Some, if◌then◌else◌, nat_lt};
+ghost use Rattle.std.specs.Prelude.{◌≡◌, ◌≢◌, All, Contains, IfNone, IfSome, None, Some, if◌then◌else◌, nat_lt};
 ghost use Rattle.std.specs.Net.Socket.{socket_port};
+ghost use Rattle.chpw_program.specs.Overlaps.{Takes};
 ghost use Rattle.chpw_program.specs.Reasons.{cause_of, is_privileged, named_by, of_type, of_unread};
 
 use crate::ending::Ending;
 use crate::new_password::STANDARD_INPUT;
+use crate::overlaps::{Overlap, overlap_of};
 use chpw_check::explain_check;
 use chpw_import::KeysFault;
 use chpw_invocation::{Invocation, ListenAddresses, command_of};
@@ -48,6 +50,8 @@ pub enum Reason<'a> {
     NoAddress(SocketAddr),
     /// The port is one of those that require a privilege.
     Privileged(u16),
+    /// The first address is a wildcard that takes what comes to the second, too.
+    Overlapping(IpAddr, IpAddr),
 }
 
 impl fmt::Display for Reason<'_> {
@@ -72,6 +76,7 @@ impl fmt::Display for Reason<'_> {
             Reason::Privileged(port) => {
                 write!(f, "port {port}: ports below 1024 require a privilege")
             }
+            Reason::Overlapping(wildcard, other) => write!(f, "{wildcard} overlaps {other}"),
         }
     }
 }
@@ -313,15 +318,31 @@ fn in_words<'a, R: Files<File = File> + AllocGlobal>(rt: &R, path: &'a str) -> O
     Some(Reason::InWords(path, words))
 }
 
-// Why one of these addresses can't be listened at: the first that can't.
+// Why these addresses can't be listened at: the first that can't, or else two that can't be at once.
 fn of_places<'a, R: Net<Listener = TcpListener, Stream = TcpStream>>(
     rt: &R,
     addresses: &[IpAddr],
     port: u16,
 ) -> Option<Reason<'a>> {
-    addresses
+    let alone = addresses
         .iter()
-        .find_map(|address| of_place(rt, SocketAddr::new(*address, port)))
+        .find_map(|address| of_place(rt, SocketAddr::new(*address, port)));
+    if alone.is_some() {
+        return alone;
+    }
+    of_overlap(addresses)
+}
+
+// Why these addresses can't be listened at together.
+fn of_overlap<'a>(addresses: &[IpAddr]) -> Option<Reason<'a>>
+    ensures sound { IfSome result (λ reason. (a : IpAddr) × (b : IpAddr) × (reason ≡ Reason.Overlapping a b) × Takes a b
+        × Contains addresses.now a × Contains addresses.now b) }
+    ensures none { IfNone result (All (λ a. All (λ b. ¬ (Takes a b)) addresses.now) addresses.now) }
+{
+    match overlap_of(addresses) {
+        Some(Overlap { wildcard, other }) => Some(Reason::Overlapping(wildcard, other)),
+        None => None,
+    }
 }
 
 // Why an address can't be listened at, over TCP or UDP.
