@@ -15,7 +15,7 @@ use chpw_start::{
     Configuration, Resumption, Rules, ServeFault, SetAside, configuration_of, kdc_names,
     open_table, read_seed, refuse_exposed, refuse_missing, resume_where_asked, rules_of,
 };
-use chpw_table::Table;
+use chpw_table::{JournalSink, Table};
 use chpw_workers::MachineClock;
 use std::fs::{File, Files};
 use std::sync::Wait;
