@@ -1,13 +1,16 @@
-"""Tables of promises: the calls, their clauses and their definitions exist.
+"""Tables of promises: the calls, their clauses and their definitions exist, and no public call is left out.
 
-In a crate's README the calls are the crate's own. In docs/ a row names the crates: `chpw_book: ..` before a call. A table
-that a script makes of the READMEs (docs/promises.md) is left to that script.
+In a crate's README the calls are the crate's own, and each public call with clauses stands there, in a row or a line: as
+`Type::call`, or as `call` where no other type has a public call of that name or the line names the type. Private calls
+may stand there. In docs/ a row names the crates: `chpw_book: ..` before a call. A table that a script makes of the
+READMEs (docs/promises.md) is left to that script.
 """
 
+import collections
 import functools
 import re
 
-from .sources import crate, uses
+from .sources import CRATES, FUNCTION, OWNER, clauses_of, crate, owner_names, uses
 
 MADE = {"docs/promises.md"}
 TICKED = re.compile(r"`([^`]+)`")
@@ -16,6 +19,8 @@ PLACEHOLDERS = {"read_x", "write_x"}
 STANDARD = {"Display", "Debug", "Drop", "Read", "Write", "Error"}
 # Definitions of the libraries, and a trait's clauses as a whole.
 FOREIGN = re.compile(r"\b(?:std|clap|toml|hex|slab|mathlib)'s `?\w+`?|\bthose of `\w+`")
+PUBLIC_MODULE = re.compile(r"^pub mod (\w+);", re.MULTILINE)
+GIVEN_ON = re.compile(r"^pub use \w+(?:::\w+)*::(?:\{([^}]*)\}|(\w+));", re.MULTILINE)
 
 
 def check(tree, faults):
@@ -26,6 +31,58 @@ def check(tree, faults):
             continue
         for number, columns, cells in rows(document):
             Row(tree, own, f"{document.name}:{number}", columns, cells).check(faults)
+        if own:
+            check_whole(document, own, faults)
+
+
+def check_whole(document, name, faults):
+    """Whether the README of a crate names each of its public calls that have clauses."""
+    calls = public_calls(name)
+    owners = collections.Counter(call.rpartition("::")[2] for call in calls)
+    lines = [set(ticked(line)) for _, line in document.prose()]
+    for call in calls:
+        owner, _, last = call.rpartition("::")
+        spans = {call, *(it for it in PLACEHOLDERS if last.startswith(it.rstrip("x")))}
+        is_named = any(spans & line or (last in line and (owners[last] == 1 or owner in types_in(line))) for line in lines)
+        faults.check(is_named, document.name, f"no row or line for {call}")
+
+
+def types_in(spans):
+    """The types and modules of the calls of a line, and what stands in it by itself."""
+    return spans | {it.rpartition("::")[0] for it in spans}
+
+
+def public_calls(name):
+    """The functions of a crate with clauses that others can call, and those of its public traits, as `Type::call`."""
+    folder = CRATES / name / "src"
+    library = folder / "lib.rt"
+    if not library.is_file():
+        return []
+    text = library.read_text()
+    given = {it.strip() for several, single in GIVEN_ON.findall(text) for it in (*several.split(","), single)}
+    modules = set(PUBLIC_MODULE.findall(text))
+    return [call for file in sorted(folder.rglob("*.rt")) for call in public_calls_of(file, modules & set(file_modules(folder, file)), given)]
+
+
+def file_modules(folder, file):
+    """The modules in which a file stands, its own one among them."""
+    return file.relative_to(folder).with_suffix("").parts
+
+
+def public_calls_of(file, modules, given):
+    """Those of a file, in one of these public modules or of names that the library gives on."""
+    text = file.read_text()
+    owners = [(it.start(), text.find("\n}", it.start()), it[1], owner_names(it[1], it[2])) for it in OWNER.finditer(text)]
+    for function in FUNCTION.finditer(text):
+        name, is_open = function[2], function[0].lstrip().startswith("pub ")
+        kind, names = next(((kind, names) for start, end, kind, names in owners if start <= function.start() < end), (None, []))
+        is_public = is_open or kind == "trait"
+        if not clauses_of(text, function) or not is_public or len(names) > 1:
+            continue
+        if names and names[0] in given:
+            yield f"{names[0]}::{name}"
+        elif not names and (modules or name in given):
+            yield "::".join((*modules, name))
 
 
 def rows(document):
