@@ -1,8 +1,8 @@
 """Tables of promises: the calls, their clauses and their definitions exist, and no public call is left out.
 
-In a crate's README the calls are the crate's own, and each public call with clauses stands there, in a row or a line: as
+In a crate's README the calls are the crate's own, and each public call with named clauses is there, in a row or a line: as
 `Type::call`, or as `call` where no other type has a public call of that name or the line names the type. Private calls
-may stand there. In docs/ a row names the crates: `chpw_book: ..` before a call. A table that a script makes of the
+may be there, too. In docs/ a row names the crates: `chpw_book: ..` before a call. A table that a script makes of the
 READMEs (docs/promises.md) is left to that script.
 """
 
@@ -60,29 +60,27 @@ def public_calls(name):
         return []
     text = library.read_text()
     given = {it.strip() for several, single in GIVEN_ON.findall(text) for it in (*several.split(","), single)}
-    modules = set(PUBLIC_MODULE.findall(text))
-    return [call for file in sorted(folder.rglob("*.rt")) for call in public_calls_of(file, modules & set(file_modules(folder, file)), given)]
-
-
-def file_modules(folder, file):
-    """The modules in which a file stands, its own one among them."""
-    return file.relative_to(folder).with_suffix("").parts
+    calls = []
+    for file in sorted(folder.rglob("*.rt")):
+        modules = file.relative_to(folder).with_suffix("").parts
+        calls += public_calls_of(file, set(PUBLIC_MODULE.findall(text)).intersection(modules), given)
+    return calls
 
 
 def public_calls_of(file, modules, given):
     """Those of a file, in one of these public modules or of names that the library gives on."""
     text = file.read_text()
-    owners = [(it.start(), text.find("\n}", it.start()), it[1], owner_names(it[1], it[2])) for it in OWNER.finditer(text)]
+    owners = [(it.start(), text.find("\n}", it.start()), it) for it in OWNER.finditer(text)]
     for function in FUNCTION.finditer(text):
-        name, is_open = function[2], function[0].lstrip().startswith("pub ")
-        kind, names = next(((kind, names) for start, end, kind, names in owners if start <= function.start() < end), (None, []))
-        is_public = is_open or kind == "trait"
-        if not clauses_of(text, function) or not is_public or len(names) > 1:
+        owner = next((it for start, end, it in owners if start <= function.start() < end), None)
+        names = owner_names(owner[1], owner[2]) if owner else []
+        is_public = function[0].lstrip().startswith("pub ") or (owner and owner[1] == "trait")
+        if not is_public or len(names) > 1 or not clauses_of(text, function):
             continue
         if names and names[0] in given:
-            yield f"{names[0]}::{name}"
-        elif not names and (modules or name in given):
-            yield "::".join((*modules, name))
+            yield f"{names[0]}::{function[2]}"
+        elif not names and (modules or function[2] in given):
+            yield "::".join((*modules, function[2]))
 
 
 def rows(document):
