@@ -1,10 +1,12 @@
-"""Which edits were refused, or caught by a test, and over which texts."""
+"""Which edits were refused, or caught by a test: when, and over which texts."""
+import datetime
 import fcntl
 import hashlib
 import os
 import re
 import shutil
 import subprocess
+from typing import NamedTuple
 
 
 def files_of(folder):
@@ -31,8 +33,29 @@ def used_by(script, top):
     return sorted(found)
 
 
+class Verdict(NamedTuple):
+    """The sum of all that a verdict stands on, its day, and the seconds of a processor that it took, if they are known."""
+    sum: str
+    day: str
+    seconds: int | None
+
+    def text(self):
+        return f"{self.sum} {self.day} {'-' if self.seconds is None else self.seconds}"
+
+
+def read_verdict(text):
+    found, day, seconds = text.split()
+    return Verdict(found, day, None if seconds == "-" else int(seconds))
+
+
+def change_in(edit):
+    """What an edit changes, and the test that it names: all its lines but the one that says what it guards."""
+    with open(edit, "rb") as file:
+        return b"".join(it for it in file if not it.startswith(b"guards: "))
+
+
 class Verdicts:
-    """A file with a line for each edit that was refused or caught: its path, and the sum of all that the verdict stands on."""
+    """A file with a line for each edit that was refused or caught: its path and its verdict."""
 
     def __init__(self, path, top, all_below):
         self.path, self.top, self.all_below = path, top, all_below
@@ -45,7 +68,7 @@ class Verdicts:
         if not os.path.exists(self.path):
             return {}
         with open(self.path, encoding="utf-8") as file:
-            return dict(line.split() for line in file)
+            return {edit: read_verdict(rest) for edit, rest in (line.split(" ", 1) for line in file)}
 
     def crate_sum(self, name):
         """The sum of a crate's own files."""
@@ -61,8 +84,8 @@ class Verdicts:
     def sum_of(self, edit, crate, script=None):
         """The sum of an edit, the crate that was checked or tested over it, all below that, a script with what it uses, and
         the toolchain."""
-        found = hashlib.sha256(self.kit)
-        for path in [f"trials/{edit}", *(used_by(script, self.top) if script else [])]:
+        found = hashlib.sha256(self.kit + change_in(f"{self.top}/trials/{edit}"))
+        for path in used_by(script, self.top) if script else []:
             with open(f"{self.top}/{path}", "rb") as file:
                 found.update(file.read())
         for it in sorted(self.all_below(crate) | {crate}):
@@ -71,21 +94,21 @@ class Verdicts:
 
     def has(self, edit, crate, script=None):
         """Whether this edit was refused or caught over the texts as they stand."""
-        return self.lines.get(edit) == self.sum_of(edit, crate, script)
+        return edit in self.lines and self.lines[edit].sum == self.sum_of(edit, crate, script)
 
     def forget(self):
         """All are to be tried again."""
         self.lines = {}
 
-    def note(self, edit, is_good, crate, script=None):
-        """Writes down what came of an edit, beside what another run wrote meanwhile."""
+    def note(self, edit, is_good, crate, script=None, seconds=None):
+        """Writes down what came of an edit, in so many seconds of a processor, beside what another run wrote meanwhile."""
         with open(f"{self.path}.lock", "w", encoding="utf-8") as lock:
             fcntl.flock(lock, fcntl.LOCK_EX)
             lines = self.read()
             lines.pop(edit, None)
             if is_good:
-                lines[edit] = self.sum_of(edit, crate, script)
+                lines[edit] = Verdict(self.sum_of(edit, crate, script), str(datetime.date.today()), seconds)
             there = sorted(it for it in lines.items() if os.path.exists(f"{self.top}/trials/{it[0]}"))
             with open(f"{self.path}.new", "w", encoding="utf-8") as file:
-                file.writelines(f"{it} {found}\n" for it, found in there)
+                file.writelines(f"{it} {found.text()}\n" for it, found in there)
             os.replace(f"{self.path}.new", self.path)

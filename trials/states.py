@@ -1,0 +1,64 @@
+"""What is known of each edit, and why one can't be tried."""
+import pathlib
+from typing import NamedTuple
+
+import guards
+
+
+class State(NamedTuple):
+    """An edit's path, what is known of it, and the day of its verdict or why it is bad."""
+    edit: str
+    word: str
+    more: str
+
+    def line(self):
+        return f"{self.word:8}{self.more:12}{self.edit}"
+
+
+def pairs_of(edit):
+    """The files of an edit, each with a text that has to stand in it once."""
+    file, found = None, []
+    for line in pathlib.Path(edit).read_text(encoding="utf-8").splitlines():
+        word, _, text = line.partition(" ")
+        file = text if word == "file:" else file
+        if word == "old:":
+            found.append((file, text))
+    return found
+
+
+def fault_of(edit, folder, top):
+    """Why an edit of the files of this folder can't be tried, or guards nothing; None if it can, and does."""
+    for file, text in pairs_of(edit):
+        path = pathlib.Path(folder) / str(file)
+        count = path.read_text(encoding="utf-8").count(text) if path.is_file() else 0
+        if count != 1:
+            return f"an `old:` text stands {count} times in {file}"
+    return guards.fault_of(edit, top) if pairs_of(edit) else "it has no `old:` text"
+
+
+def folder_of(edit, top):
+    """The folder whose files an edit changes: that of a crate, or of the agents."""
+    name = edit.split("/")[1]
+    agents = (it for it in ("agent", "kdc/agent") if (top / it / "main.c").is_file())
+    return top / next(agents) if name == "agent" else top / "crates" / name
+
+
+def all_edits(top):
+    """Every edit of must-fail/ and trials/, as a path below the top, but for those by which trials/run is tried itself."""
+    found = [it for folder in ("must-fail", "trials") for it in (top / folder).rglob("*.edit")]
+    return sorted(str(it.relative_to(top)) for it in found if "self_test" not in it.parts)
+
+
+def state_of(edit, top, known):
+    """What is known of an edit. `known` says whether its verdict is of the texts as they stand, and its day, if it has one."""
+    fault = fault_of(top / edit, folder_of(edit, top), top)
+    if fault:
+        return State(edit, "BAD", f"{fault}: ")
+    if edit.startswith("must-fail/"):
+        return State(edit, "gate", "each time")
+    is_of_today, day = known(edit.removeprefix("trials/"))
+    return State(edit, "today" if is_of_today else "before" if day else "none", day or "-")
+
+
+def all_states(top, known):
+    return [state_of(it, pathlib.Path(top), known) for it in all_edits(pathlib.Path(top))]
