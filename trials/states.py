@@ -36,6 +36,17 @@ def fault_of(edit, folder, top):
     return guards.fault_of(edit, top) if pairs_of(edit) else "it has no `old:` text"
 
 
+def test_fault_of(edit, top):
+    """Why what has to notice an edit, by its line `test:`, isn't there: a script, by its path or as a module, or a crate;
+    None if it is there."""
+    head = pathlib.Path(edit).read_text(encoding="utf-8").partition("\n")[0]
+    name = head.removeprefix("test: ").split(" ")[0]
+    module = name.replace(".", "/") + ".py"
+    if head == name or not any((top / it).exists() for it in (f"crates/{name}", name, module)):
+        return f"no {name} to test it"
+    return None
+
+
 def folder_of(edit, top):
     """The folder whose files an edit changes: that of a crate, or of the agents."""
     name = edit.split("/")[1]
@@ -52,6 +63,8 @@ def all_edits(top):
 def state_of(edit, top, known):
     """What is known of an edit. `known` says whether its verdict is of the texts as they stand, and its day, if it has one."""
     fault = fault_of(top / edit, folder_of(edit, top), top)
+    if "/tests/" in edit:
+        fault = fault or test_fault_of(top / edit, top)
     if fault:
         return State(edit, "BAD", f"{fault}: ")
     if edit.startswith("must-fail/"):
