@@ -17,9 +17,8 @@ import subprocess
 import tempfile
 import time
 
-import crafting
-import three_servers
-from siege import Besiegers, Silent, Slow, raise_files
+from bench.siege import Besiegers, Silent, Slow, raise_files
+from harness import crafting, three_servers
 
 # seconds that a client waits for an answer where nobody is hostile
 LONG = 30

@@ -14,13 +14,13 @@ import dataclasses
 import itertools
 import time
 
-import configuration
-from asking import Connection, request_now, said
-from daemons import daemon
-from own_configuration import configured
-from realm import SERVICE
-from served import MOST, Served
-from server import Server, private
+from harness import configuration
+from harness.asking import Connection, request_now, said
+from harness.realm import SERVICE
+from harness.server import Server, private
+from kdc.daemons import daemon
+from kdc.own_configuration import configured
+from kdc.served import MOST, Served
 
 CLIENTS = 1, 16
 WORKERS = 4

@@ -6,7 +6,7 @@
 import sys
 import tempfile
 
-from timing import spent
+from bench.timing import spent
 
 REQUESTS = [2_000, 40_000, 100_000, 1_000_000]
 PRINCIPALS = 200

@@ -8,9 +8,9 @@
 # Last line: N requests over 200 principals in S s.
 # Status: 0; 1 if it can't be measured; 2 if the command line is wrong.
 set -euo pipefail
-. "$(dirname "$0")/../interop/command.sh"
+. "$(dirname "$0")/../harness/command.sh"
 command_line any number "$@"
 cd "$(dirname "$0")/.."
-bench/build chpw_drill
+python3 -m bench.build chpw_drill
 export PYTHONDONTWRITEBYTECODE=1
-exec python3 bench/drill.py crates/chpw_drill/out/chpw_drill "$@"
+exec python3 -m bench.drill crates/chpw_drill/out/chpw_drill "$@"

@@ -8,12 +8,12 @@
 # Last line: | all | PROOFS | TESTS | EDITS |, after such a row for each crate.
 # Status: 0; 1 if anything failed; 2 if the command line is wrong.
 set -euo pipefail
-. "$(dirname "$0")/../interop/command.sh"
+. "$(dirname "$0")/../harness/command.sh"
 command_line any word "$@"
 cd "$(dirname "$0")/.."
 copy=$(mktemp -d)
 trap 'rm -rf "$copy"' EXIT
-tar --exclude='*/out/incremental' -cf - crates crates.txt HANDLES prove trials must-fail interop/command.py interop/topic.py | tar -C "$copy" -xf -
+tar --exclude='*/out/incremental' -cf - crates crates.txt HANDLES prove trials must-fail harness | tar -C "$copy" -xf -
 git -C "$copy" init --quiet
 cd "$copy"
 names=("$@")
@@ -43,7 +43,7 @@ for name in "${names[@]}"; do
     mv "$copy/kept" "$crate/out"
   fi
   rm -rf "$crate/out/incremental"
-  [ ! -d "must-fail/$name" ] || edits=$(spent . trials/run --in must-fail "$name")
+  [ ! -d "must-fail/$name" ] || edits=$(spent . python3 -m trials.run --in must-fail "$name")
   echo "| $name | $proof | $tests | $edits |"
   all=($((all[0] + proof)) $((all[1] + tests)) $((all[2] + edits)))
 done

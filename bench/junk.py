@@ -15,10 +15,8 @@ import tempfile
 import threading
 import time
 
-import changepw_client as wire
-import crafting
-import three_servers
-from siege import CLIENTS, SETTLED, Besiegers, Silent, forged
+from bench.siege import CLIENTS, SETTLED, Besiegers, Silent, forged
+from harness import crafting, three_servers, wire
 
 HERE = pathlib.Path(__file__).resolve().parent
 # users of the client over TCP, and of those over UDP

@@ -13,25 +13,21 @@ import concurrent.futures
 import contextlib
 import itertools
 import os
-import pathlib
 import statistics
 import subprocess
 import sys
 import threading
 import time
 
-TOP = pathlib.Path(__file__).resolve().parent.parent
-sys.path[:0] = [str(TOP / "kdc"), str(TOP / "interop")]
-
-import changes
-import realms
-from agent_process import hexed
-from asking import Connection, request_now
-from cases import Cases, Passed
-from daemons import comes
-from own_configuration import configured
-from realm import REALM
-from served import Served
+from bench import changes
+from harness.asking import Connection, request_now
+from harness.realm import REALM
+from kdc import realms
+from kdc.agent_process import hexed
+from kdc.cases import Cases, Passed
+from kdc.daemons import comes
+from kdc.own_configuration import configured
+from kdc.served import Served
 
 # seconds that the principals may take to be made, and to be taken: each wants two syncs
 PATIENCE = 600

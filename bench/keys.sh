@@ -12,17 +12,17 @@
 # Last line: ratio R, the time of our iteration over OpenSSL's.
 # Status: 0; 1 if it can't be measured; 2 if the command line is wrong.
 set -euo pipefail
-. "$(dirname "$0")/../interop/command.sh"
+. "$(dirname "$0")/../harness/command.sh"
 command_line 1 number "$@"
 cd "$(dirname "$0")/../crates/support_bench"
-export PYTHONPATH=../../bench PYTHONDONTWRITEBYTECODE=1
-../../bench/build support_bench
+export PYTHONPATH=../.. PYTHONDONTWRITEBYTECODE=1
+PYTHONPATH=../.. python3 -m bench.build support_bench
 exec python3 - out/support_bench "${1:-25}" <<'END'
 import hashlib
 import ssl
 import sys
 
-from timing import nanos, spent, spent_here
+from bench.timing import nanos, spent, spent_here
 
 try:
     from cryptography.hazmat.backends.openssl import backend

@@ -9,10 +9,10 @@
 # Last line: lookup N ns, four N ns, beside a held lock N ns.
 # Status: 0; 1 if it can't be measured; 2 if the command line is wrong.
 set -euo pipefail
-. "$(dirname "$0")/../interop/command.sh"
+. "$(dirname "$0")/../harness/command.sh"
 command_line 1 number "$@"
 cd "$(dirname "$0")/../crates/support_bench"
-../../bench/build support_bench
+PYTHONPATH=../.. python3 -m bench.build support_bench
 exec python3 - out/support_bench "${1:-5}" <<'END'
 import re
 import subprocess

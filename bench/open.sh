@@ -8,16 +8,16 @@
 # Last line: open N us.
 # Status: 0; 1 if it can't be measured; 2 if the command line is wrong.
 set -euo pipefail
-. "$(dirname "$0")/../interop/command.sh"
+. "$(dirname "$0")/../harness/command.sh"
 command_line 1 number "$@"
 cd "$(dirname "$0")/../crates/support_bench"
-export PYTHONPATH=../../bench PYTHONDONTWRITEBYTECODE=1
-../../bench/build support_bench
+export PYTHONPATH=../.. PYTHONDONTWRITEBYTECODE=1
+PYTHONPATH=../.. python3 -m bench.build support_bench
 out/support_bench open it 1 <stdin
 exec python3 - out/support_bench stdin "${1:-15}" <<'END'
 import sys
 
-from timing import spent
+from bench.timing import spent
 
 program, messages, rounds = sys.argv[1], sys.argv[2], int(sys.argv[3])
 LOW, HIGH = 200, 4_200

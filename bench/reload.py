@@ -16,12 +16,12 @@ import statistics
 import tempfile
 import time
 
-import asking
-from command import Parser
-from report import Report
-from sample_realm import SERVICE_KEY
-from server import Server
-from sync import Changer
+from bench.sync import Changer
+from harness import asking
+from harness.command import Parser
+from harness.report import Report
+from harness.sample_realm import SERVICE_KEY
+from harness.server import Server
 
 CONNECTIONS = 4_294_967_295
 TOO_SHORT = "code 4 password too short"

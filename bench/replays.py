@@ -9,9 +9,9 @@ import sys
 import tempfile
 import threading
 
-import asking
-from sample_realm import write_configuration
-from server import Server
+from harness import asking
+from harness.sample_realm import write_configuration
+from harness.server import Server
 
 MESSAGES = 60_000
 CONNECTIONS = 16

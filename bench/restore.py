@@ -8,9 +8,9 @@ import resource
 import sys
 import tempfile
 
-from journal import plain_record
-from sample_realm import write_configuration
-from server import Server
+from harness.journal import plain_record
+from harness.sample_realm import write_configuration
+from harness.server import Server
 
 RECORDS = 1_048_576
 PRINCIPALS = [100, 1_000, 10_000]

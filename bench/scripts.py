@@ -12,7 +12,8 @@ import signal
 import subprocess
 import sys
 
-from realm import packages_folder
+from harness.command import TOP
+from harness.realm import packages_folder
 
 HERE = pathlib.Path(__file__).resolve().parent
 # seconds that one may take
@@ -36,8 +37,8 @@ class Script:
 
     def command(self, program, is_quick):
         words = [it.format(program=program) for it in (self.words[0], *(self.quick if is_quick else self.words[1:]))]
-        path = HERE / words[0]
-        return [sys.executable, str(path), *words[1:]] if path.suffix == ".py" else [str(path), *words[1:]]
+        name, ending = words[0].split(".")
+        return [sys.executable, "-m", f"bench.{name}", *words[1:]] if ending == "py" else [str(HERE / words[0]), *words[1:]]
 
     def told(self, is_quick):
         """The command as a reader would type it, without the program's path."""
@@ -79,13 +80,13 @@ SCRIPTS = (
 
 def figures(script, program, is_quick):
     """The lines with figures, and None; or those before it failed, and the reason."""
-    environment = {**os.environ, "PYTHONDONTWRITEBYTECODE": "1", "PYTHONPATH": f"{HERE.parent}/interop:{HERE}"}
+    environment = {**os.environ, "PYTHONDONTWRITEBYTECODE": "1"}
     if script.folder:
         environment["TMPDIR"] = script.folder
         # which the packages are not in
         environment["CHPW_PACKAGES"] = str(packages_folder())
     with subprocess.Popen(script.command(program, is_quick), stdin=subprocess.DEVNULL, stdout=subprocess.PIPE,
-                          stderr=subprocess.PIPE, text=True, env=environment, start_new_session=True) as process:
+                          stderr=subprocess.PIPE, text=True, env=environment, cwd=TOP, start_new_session=True) as process:
         patience = QUICK_PATIENCE if is_quick else PATIENCE
         try:
             out, errors = process.communicate(timeout=patience)

@@ -10,18 +10,18 @@
 # Status: 0; 1 if a round fails, or takes more than a minute and a tenth of a second for each change of a client; 2 if the
 # command line is wrong.
 set -euo pipefail
-. "$(dirname "$0")/../interop/command.sh"
+. "$(dirname "$0")/../harness/command.sh"
 command_line 2 number "$@"
 shopt -s inherit_errexit
 cd "$(dirname "$0")/.."
 rounds=${1:-3} changes=${2:-500}
 limit=$((60 + changes / 10))
-bench/build chpw_server
-bench/build support_bench
+python3 -m bench.build chpw_server
+python3 -m bench.build support_bench
 work=$(mktemp -d)
 trap 'rm -rf "$work"' EXIT
 export PYTHONDONTWRITEBYTECODE=1
-python3 interop/sample_realm.py "$work/config.toml" c{0..15}
+python3 -m harness.sample_realm "$work/config.toml" c{0..15}
 head -c 32 /dev/urandom >"$work/seed"
 
 # Ends a round: the service, if it still runs, and what went wrong.

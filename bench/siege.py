@@ -56,12 +56,11 @@ import tempfile
 import threading
 import time
 
-import asking
-import changepw_client as wire
-from command import Parser
-from report import Report
-from sample_realm import write_configuration
-from server import Server
+from harness import asking, wire
+from harness.command import Parser
+from harness.report import Report
+from harness.sample_realm import write_configuration
+from harness.server import Server
 
 WORKERS = 4
 ENDLESS = 4_294_967_295
@@ -786,7 +785,7 @@ def raise_files(wanted):
 
 def main():
     # it stands on this module
-    import junk
+    from bench import junk
 
     parser = Parser(__doc__, "limits N failed M", "a limit is passed")
     parser.add_program()

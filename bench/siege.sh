@@ -1,6 +1,6 @@
 #!/usr/bin/env bash
 # An honest client of `serve` beside hostile ones, and in peace. siege.py has the rest, and answers --help.
 set -euo pipefail
-here=$(cd "$(dirname "$0")" && pwd)
-export PYTHONPATH="$here/../interop" PYTHONDONTWRITEBYTECODE=1
-exec python3 "$here/siege.py" "$@"
+cd "$(dirname "$0")/.."
+export PYTHONDONTWRITEBYTECODE=1
+exec python3 -m bench.siege "$@"

@@ -10,20 +10,20 @@
 # Last line: answered N us a message.
 # Status: 0; 1 if it can't be measured; 2 if the command line is wrong.
 set -euo pipefail
-. "$(dirname "$0")/../interop/command.sh"
+. "$(dirname "$0")/../harness/command.sh"
 command_line 1 number "$@"
 cd "$(dirname "$0")/../crates/support_bench"
-export PYTHONPATH=../../bench:../../interop PYTHONDONTWRITEBYTECODE=1
+export PYTHONPATH=../.. PYTHONDONTWRITEBYTECODE=1
 room=$(mktemp -d)
 trap 'rm -rf "$room"' EXIT
-../../bench/build support_bench
-python3 ../../bench/stream_input.py 100 1 >"$room/first"
+PYTHONPATH=../.. python3 -m bench.build support_bench
+python3 -m bench.stream_input 100 1 >"$room/first"
 out/support_bench stream serve 1 <"$room/first"
 python3 - out/support_bench "$room" "${1:-5}" <<'END'
 import sys
 
-import stream_input
-from timing import spent
+from bench import stream_input
+from bench.timing import spent
 
 program, room, rounds = sys.argv[1], sys.argv[2], int(sys.argv[3])
 MESSAGES = 2_000

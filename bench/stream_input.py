@@ -5,8 +5,8 @@
 
 import sys
 
-import changepw_client as client
-from sample_realm import configuration
+from harness import wire as client
+from harness.sample_realm import configuration
 
 
 def name_of(number):

@@ -20,14 +20,12 @@ import tempfile
 import threading
 import time
 
-import asking
-import changepw_client as wire
-from command import Parser
-from report import Report
-from sample_realm import write_configuration
-from server import Server
+from harness import asking, wire
+from harness.command import TOP, Parser
+from harness.report import Report
+from harness.sample_realm import write_configuration
+from harness.server import Server
 
-HERE = pathlib.Path(__file__).resolve().parent
 WORKERS = 4
 CONNECTIONS = 4_294_967_295
 CHANGED = "code 0 password changed"
@@ -113,7 +111,7 @@ def main():
     report = Report("limits {} failed {}")
     with tempfile.TemporaryDirectory(prefix="chpw-sync-") as folder:
         library = pathlib.Path(folder) / "slow.so"
-        subprocess.run(["gcc", "-shared", "-fPIC", "-O1", "-o", library, HERE / "../hostile/machine.c"], check=True)
+        subprocess.run(["gcc", "-shared", "-fPIC", "-O1", "-o", library, TOP / "harness/machine.c"], check=True)
         server = Server(arguments.server, pathlib.Path(folder), workers=WORKERS)
         names = [f"changer{number}" for number in range(max(arguments.changers, default=0))]
         write_configuration(server.configuration, ["asker", *names], iterations=16)

@@ -2,6 +2,6 @@
 # How long a request waits while another one's change is written to a journal whose sync is slow. sync.py has the
 # rest, and answers --help.
 set -euo pipefail
-here=$(cd "$(dirname "$0")" && pwd)
-export PYTHONPATH="$here/../interop" PYTHONDONTWRITEBYTECODE=1
-exec python3 "$here/sync.py" "$@"
+cd "$(dirname "$0")/.."
+export PYTHONDONTWRITEBYTECODE=1
+exec python3 -m bench.sync "$@"

@@ -9,8 +9,8 @@ import sys
 import tempfile
 import time
 
-from restore import names_of, write_journal
-from sample_realm import write_configuration
+from bench.restore import names_of, write_journal
+from harness.sample_realm import write_configuration
 
 RECORDS = 1_000_000
 PRINCIPALS = [10_000]

@@ -8,9 +8,9 @@
 # Last line: within the limits, or beyond a limit.
 # Status: 0; 1 if a limit is passed; 2 if the command line is wrong.
 set -euo pipefail
-. "$(dirname "$0")/../interop/command.sh"
+. "$(dirname "$0")/../harness/command.sh"
 command_line any number "$@"
 cd "$(dirname "$0")/.."
-bench/build chpw_server
-export PYTHONPATH=interop PYTHONDONTWRITEBYTECODE=1
-exec python3 bench/table.py crates/chpw_server/out/chpw_server "$@"
+python3 -m bench.build chpw_server
+export PYTHONDONTWRITEBYTECODE=1
+exec python3 -m bench.table crates/chpw_server/out/chpw_server "$@"

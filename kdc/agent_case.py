@@ -7,10 +7,10 @@ import sys
 import tempfile
 import traceback
 
-import realms
-from agent_database import database_of
-from agent_process import keys_of
-from cases import Cases
+from kdc import realms
+from kdc.agent_database import database_of
+from kdc.agent_process import keys_of
+from kdc.cases import Cases
 
 FIRST = realms.FIRST
 

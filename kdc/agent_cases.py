@@ -1,14 +1,14 @@
 """The agents at the KDC's database: kdc/agent."""
 
-from agent_changes import AgentChanges
-from agent_disk import AgentDisk
-from agent_elsewhere import AgentElsewhere
-from agent_entries import HeimdalEntries, MitEntries
-from agent_faults import AgentFaults
-from agent_machine import AgentMachine
-from agent_oddities import HeimdalOddities, MitOddities
-from agent_requests import AgentRequests
-from agent_socket import AgentSocket
+from kdc.agent_changes import AgentChanges
+from kdc.agent_disk import AgentDisk
+from kdc.agent_elsewhere import AgentElsewhere
+from kdc.agent_entries import HeimdalEntries, MitEntries
+from kdc.agent_faults import AgentFaults
+from kdc.agent_machine import AgentMachine
+from kdc.agent_oddities import HeimdalOddities, MitOddities
+from kdc.agent_requests import AgentRequests
+from kdc.agent_socket import AgentSocket
 
 
 class AgentCases:

@@ -10,11 +10,11 @@ import subprocess
 import threading
 import time
 
-from agent_case import FIRST, AgentCase
-from agent_process import Agent, hexed, keys_of, preload, putting
-from daemons import daemon
-from ports import free_ports
-from realm import REALM
+from harness.ports import free_ports
+from harness.realm import REALM
+from kdc.agent_case import FIRST, AgentCase
+from kdc.agent_process import Agent, hexed, keys_of, preload, putting
+from kdc.daemons import daemon
 
 
 class Writer:

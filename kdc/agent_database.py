@@ -4,8 +4,8 @@ import os
 import re
 import shutil
 
-from heimdal_realm import escaped
-from realm import REALM, Failed
+from harness.heimdal_realm import escaped
+from harness.realm import REALM, Failed
 
 FIRST = "Old-pass1"
 

@@ -4,8 +4,8 @@ import contextlib
 import pathlib
 import random
 
-from agent_case import FIRST, AgentCase
-from agent_process import hexed, keys_of, preload
+from kdc.agent_case import FIRST, AgentCase
+from kdc.agent_process import hexed, keys_of, preload
 
 KEYS = "1" * 64 + " " + "2" * 32
 

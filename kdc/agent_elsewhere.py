@@ -8,9 +8,9 @@ import shutil
 import subprocess
 import tempfile
 
-from agent_case import FIRST, AgentCase
-from agent_database import is_root
-from agent_process import Agent, hexed, keys_of, without_rights
+from kdc.agent_case import FIRST, AgentCase
+from kdc.agent_database import is_root
+from kdc.agent_process import Agent, hexed, keys_of, without_rights
 
 READ_ONLY = """\
 #!/bin/sh

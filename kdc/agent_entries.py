@@ -4,10 +4,10 @@ import calendar
 import re
 import time
 
-from agent_case import FIRST, AgentCase
-from agent_database import HISTORY, LAST_CHANGE, LM_OWF, PASSWORD, changed
-from agent_process import Agent, hexed, keys_of, preload, putting
-from realm import REALM
+from harness.realm import REALM
+from kdc.agent_case import FIRST, AgentCase
+from kdc.agent_database import HISTORY, LAST_CHANGE, LM_OWF, PASSWORD, changed
+from kdc.agent_process import Agent, hexed, keys_of, preload, putting
 
 NEW = "New-pass7"
 DAY = 86400

@@ -7,9 +7,9 @@ import re
 import resource
 import struct
 
-from agent_case import AgentCase
-from agent_process import Agent, hexed, keys_of, preload, program_of, putting
-from realm import REALM
+from harness.realm import REALM
+from kdc.agent_case import AgentCase
+from kdc.agent_process import Agent, hexed, keys_of, preload, program_of, putting
 
 LINES = 100_000
 ENDED = "the agent has ended"

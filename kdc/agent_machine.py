@@ -13,10 +13,10 @@ import subprocess
 import tempfile
 import time
 
-from agent_case import FIRST, AgentCase
-from agent_database import is_root
-from agent_process import Agent, hexed, keys_of, preload, putting
-from realm import REALM
+from harness.realm import REALM
+from kdc.agent_case import FIRST, AgentCase
+from kdc.agent_database import is_root
+from kdc.agent_process import Agent, hexed, keys_of, preload, putting
 
 SIOCOUTQ = 0x5411
 # as many as outgrow what a socket holds, by far

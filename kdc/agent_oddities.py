@@ -10,10 +10,10 @@ import sqlite3
 import tempfile
 import time
 
-from agent_case import FIRST, AgentCase
-from agent_database import changed
-from agent_process import Agent, hexed, keys_of, putting
-from realm import REALM, Failed
+from harness.realm import REALM, Failed
+from kdc.agent_case import FIRST, AgentCase
+from kdc.agent_database import changed
+from kdc.agent_process import Agent, hexed, keys_of, putting
 
 ZEROS = "0" * 64
 AES256, AES128 = "aes256-cts-hmac-sha1-96", "aes128-cts-hmac-sha1-96"

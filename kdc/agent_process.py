@@ -11,9 +11,9 @@ import subprocess
 import threading
 import time
 
-from building import built
-from changepw_client import string_to_key
-from realm import REALM
+from harness.realm import REALM
+from harness.wire import string_to_key
+from kdc.building import built
 
 HERE = pathlib.Path(__file__).resolve().parent
 # of prctl(2) and capabilities(7)

@@ -1,8 +1,8 @@
 """Each answer to each request, what is refused, and under which version `put` writes."""
 
-from agent_case import FIRST, AgentCase
-from agent_process import Agent, hexed, keys_of, putting
-from realm import REALM
+from harness.realm import REALM
+from kdc.agent_case import FIRST, AgentCase
+from kdc.agent_process import Agent, hexed, keys_of, putting
 
 RESERVED = ["krbtgt", "kadmin", "K", "WELLKNOWN", "kiprop", "iprop", "hprop", "changepw", "default"]
 

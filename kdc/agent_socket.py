@@ -15,10 +15,10 @@ import sys
 import tempfile
 import time
 
-from agent_case import FIRST, AgentCase
-from agent_database import is_root
-from agent_process import Agent, hexed, keys_of, putting
-from realm import REALM
+from harness.realm import REALM
+from kdc.agent_case import FIRST, AgentCase
+from kdc.agent_database import is_root
+from kdc.agent_process import Agent, hexed, keys_of, putting
 
 NOBODY = "nobody"
 # connects to a socket as another user, and says what comes

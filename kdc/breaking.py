@@ -12,10 +12,10 @@ import threading
 import time
 from concurrent.futures import ThreadPoolExecutor
 
-from agent_process import Agent
-from daemons import comes
-from death_cases import dying_library
-from realms import FIRST, kdc_away
+from kdc.agent_process import Agent
+from kdc.daemons import comes
+from kdc.death_cases import dying_library
+from kdc.realms import FIRST, kdc_away
 
 # seconds between two kills of the service, or of the KDC
 APART = 3, 6

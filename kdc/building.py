@@ -1,4 +1,4 @@
-"""Builds an agent over a project's packages, as interop/fetch.sh has unpacked them."""
+"""Builds an agent over a project's packages, as harness/fetch.sh has unpacked them."""
 
 import pathlib
 import subprocess

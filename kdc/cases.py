@@ -2,10 +2,10 @@
 
 import contextlib
 
-import realms
-from agent_process import Agent
-from daemons import comes
-from report import Report
+from harness.report import Report
+from kdc import realms
+from kdc.agent_process import Agent
+from kdc.daemons import comes
 
 
 class Passed(Report):

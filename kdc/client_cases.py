@@ -7,12 +7,12 @@ time is printed, as docs/RESULTS.md has it.
 import contextlib
 import signal
 
-import configuration
-from cases import Cases
-from clients import HeimdalClient, HeimdalOverUdp, MitClient
-from logins import HeimdalPam, HeimdalPamOverUdp, MitPam, Sssd
-from realms import FIRST
-from served import Served
+from harness import configuration
+from kdc.cases import Cases
+from kdc.clients import HeimdalClient, HeimdalOverUdp, MitClient
+from kdc.logins import HeimdalPam, HeimdalPamOverUdp, MitPam, Sssd
+from kdc.realms import FIRST
+from kdc.served import Served
 
 # less than the two seconds after which Heimdal's clients ask anew
 WAIT = 1500

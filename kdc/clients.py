@@ -13,8 +13,8 @@ import dataclasses
 import os
 import subprocess
 
-from realm import REALM, Project, packages_folder
-from realms import escaped
+from harness.realm import REALM, Project, packages_folder
+from kdc.realms import escaped
 
 
 @dataclasses.dataclass(frozen=True)

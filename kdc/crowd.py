@@ -10,8 +10,8 @@ import selectors
 import socket
 import time
 
-from asking import framed, request_now, said
-from journal import Record, read_journal
+from harness.asking import framed, request_now, said
+from harness.journal import Record, read_journal
 
 PAUSE = 0.002
 DONE = "code 0 password changed"

@@ -3,13 +3,13 @@
 import functools
 from concurrent.futures import ThreadPoolExecutor
 
-from breaking import Breaking
-from cases import Cases
-from crowd import Crowd
-from journal import Record, read_journal
-from own_configuration import configured, keys_of
-from realms import FIRST
-from served import Served
+from harness.journal import Record, read_journal
+from kdc.breaking import Breaking
+from kdc.cases import Cases
+from kdc.crowd import Crowd
+from kdc.own_configuration import configured, keys_of
+from kdc.realms import FIRST
+from kdc.served import Served
 
 USERS = 16
 # milliseconds, as where it isn't given

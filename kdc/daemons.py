@@ -4,8 +4,8 @@ import contextlib
 import subprocess
 import time
 
-from ports import is_open
-from realm import Failed
+from harness.ports import is_open
+from harness.realm import Failed
 
 
 @contextlib.contextmanager

@@ -3,9 +3,9 @@
 import signal
 import subprocess
 
-import realms
-from agent_process import Agent, hexed, keys_of
-from cases import Cases
+from kdc import realms
+from kdc.agent_process import Agent, hexed, keys_of
+from kdc.cases import Cases
 
 # steps after which it has to have answered
 MOST_STEPS = 400

@@ -9,15 +9,14 @@ import socket
 import subprocess
 import time
 
-import asking
-import configuration
-from cases import Cases
-from clients import HeimdalClient, HeimdalOverUdp, MitClient
-from daemons import comes, daemon
-from networks import FAMILIES, Network, addresses, bracketed, why_not
-from realm import SERVICE
-from realms import FIRST, of_keytab
-from served import Served
+from harness import asking, configuration
+from harness.realm import SERVICE
+from kdc.cases import Cases
+from kdc.clients import HeimdalClient, HeimdalOverUdp, MitClient
+from kdc.daemons import comes, daemon
+from kdc.networks import FAMILIES, Network, addresses, bracketed, why_not
+from kdc.realms import FIRST, of_keytab
+from kdc.served import Served
 
 KDC, CHANGEPW = 88, 464
 LOOPBACK = ("127.0.0.1", "::1")

@@ -11,12 +11,12 @@ import itertools
 import random
 import time
 
-from breaking import going_on
-from crowd_cases import OURS, USERS, WAIT, CrowdCases
-from daemons import comes
-from false_agents import KINDS, FalseAgent, says_nothing
-from kill import AHEAD
-from served import FOUND, TOLD
+from harness.ahead import AHEAD
+from kdc.breaking import going_on
+from kdc.crowd_cases import OURS, USERS, WAIT, CrowdCases
+from kdc.daemons import comes
+from kdc.false_agents import KINDS, FalseAgent, says_nothing
+from kdc.served import FOUND, TOLD
 
 # an agent that is to die lives for so long at most once it listens, and somebody has the database
 LIFE = 0.5

@@ -3,10 +3,10 @@
 import os
 import subprocess
 
-from client_cases import ClientCases, User
-from clients import Client, Seen
-from realm import REALM, packages_folder
-from realms import HERE
+from harness.realm import REALM, packages_folder
+from kdc.client_cases import ClientCases, User
+from kdc.clients import Client, Seen
+from kdc.realms import HERE
 
 UNPACKED = packages_folder() / "go"
 

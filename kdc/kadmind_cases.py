@@ -1,11 +1,11 @@
 """The project's kadmind beside the agent: what users and administrators can change past the service."""
 
-from agent_process import hexed
-from cases import Cases
-from daemons import daemon
-from ports import free_ports
-from realm import REALM
-from realms import FIRST
+from harness.ports import free_ports
+from harness.realm import REALM
+from kdc.agent_process import hexed
+from kdc.cases import Cases
+from kdc.daemons import daemon
+from kdc.realms import FIRST
 
 NO_SELF_SERVICE = """\
 [plugins]

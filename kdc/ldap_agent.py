@@ -2,10 +2,10 @@
 
 import time
 
-from agent_case import FIRST, AgentCase
-from agent_process import Agent, hexed, keys_of
-from ldap_realms import CONTAINER, KADMIN
-from realm import REALM
+from harness.realm import REALM
+from kdc.agent_case import FIRST, AgentCase
+from kdc.agent_process import Agent, hexed, keys_of
+from kdc.ldap_realms import CONTAINER, KADMIN
 
 # seconds that a server hangs, and in which an answer comes where none is waited for
 HANGS, AT_ONCE = 2, 1

@@ -1,9 +1,9 @@
 """A KDC whose database is in a directory, with the agent and the service."""
 
-from ldap_agent import LdapAgent
-from ldap_realms import KINDS
-from ldap_service import LdapService
-from realms import FIRST, HERE
+from kdc.ldap_agent import LdapAgent
+from kdc.ldap_realms import KINDS
+from kdc.ldap_service import LdapService
+from kdc.realms import FIRST, HERE
 
 USERS = {name: FIRST for name in ("alice", "admin")}
 

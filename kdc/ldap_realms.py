@@ -8,9 +8,9 @@ import socket
 import subprocess
 import urllib.parse
 
-from daemons import comes
-from realm import MASTER, REALM, Failed, Project, packages_folder
-from realms import Heimdal, Mit
+from harness.realm import MASTER, REALM, Failed, Project, packages_folder
+from kdc.daemons import comes
+from kdc.realms import Heimdal, Mit
 
 BASE = "dc=example,dc=com"
 ADMIN, ADMIN_PASSWORD = f"cn=admin,{BASE}", "Directory-pass1"

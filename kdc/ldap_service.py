@@ -3,10 +3,10 @@
 import itertools
 import time
 
-from agent_case import FIRST
-from daemons import comes
-from realm_cases import CHANGED, RealmCases
-from realms import DONE
+from kdc.agent_case import FIRST
+from kdc.daemons import comes
+from kdc.realm_cases import CHANGED, RealmCases
+from kdc.realms import DONE
 
 # seconds in which the table stays as it is, where nobody tells the service of a change
 STAYS = 2.5

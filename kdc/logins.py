@@ -7,9 +7,9 @@ import pathlib
 import shutil
 import subprocess
 
-from clients import Client, HeimdalClient, HeimdalOverUdp, MitClient, Seen
-from realm import REALM, packages_folder
-from realms import HERE
+from harness.realm import REALM, packages_folder
+from kdc.clients import Client, HeimdalClient, HeimdalOverUdp, MitClient, Seen
+from kdc.realms import HERE
 
 LOGINS = {
     "a login with an expired password": "expired",

@@ -1,7 +1,7 @@
 """A configuration that the tests write themselves, from passwords."""
 
-from changepw_client import string_to_key
-from realm import REALM
+from harness.realm import REALM
+from harness.wire import string_to_key
 
 COUNT = 4096
 
@@ -19,7 +19,7 @@ def stanza(name, kvno, keys):
 
 
 def configured(versions, depth):
-    """Of each name its version and keys, with a service key that no KDC has: interop/changepw_client.py's."""
+    """Of each name its version and keys, with a service key that no KDC has: harness/wire.py's."""
     key = f'[[service.key]]\nkvno = 3\netype = 18\nkey = "{"5a" * 32}"\n'
     policy = f"min_length = 6\nmin_classes = 2\ndepth = {depth}\niterations = {COUNT}\nset_needs_initial = false\n"
     principals = "".join(stanza(name, *it) for name, it in sorted(versions.items()))

@@ -7,14 +7,14 @@ import contextlib
 import signal
 import time
 
-import configuration
-from agent_case import FIRST
-from agent_database import database_of
-from agent_process import without_rights
-from cases import Cases
-from daemons import comes
-from realms import DONE, kdc_away
-from served import Served, TOLD
+from harness import configuration
+from kdc.agent_case import FIRST
+from kdc.agent_database import database_of
+from kdc.agent_process import without_rights
+from kdc.cases import Cases
+from kdc.daemons import comes
+from kdc.realms import DONE, kdc_away
+from kdc.served import Served, TOLD
 
 # milliseconds that a reply waits for the KDC at most
 WAIT = 1500

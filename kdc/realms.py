@@ -22,18 +22,16 @@ import pathlib
 import re
 import signal
 import subprocess
-import sys
 import time
 
 HERE = pathlib.Path(__file__).resolve().parent
-sys.path.insert(0, str(HERE.parent / "interop"))
 
-import agent_process
-import configuration
-from daemons import comes
-from heimdal_realm import HeimdalRealm, escaped
-from ports import is_heard
-from realm import SERVICE, Realm
+from harness import configuration
+from harness.heimdal_realm import HeimdalRealm, escaped
+from harness.ports import is_heard
+from harness.realm import SERVICE, Realm
+from kdc import agent_process
+from kdc.daemons import comes
 
 FIRST = "Old-pass1"
 DONE = "password changed"

@@ -5,12 +5,12 @@ import re
 import socket
 import subprocess
 
-import realms
-from agent_process import hexed
-from cases import Cases
-from daemons import comes, daemon
-from ports import free_ports
-from realm import REALM, Failed, Project, packages_folder
+from harness.ports import free_ports
+from harness.realm import REALM, Failed, Project, packages_folder
+from kdc import realms
+from kdc.agent_process import hexed
+from kdc.cases import Cases
+from kdc.daemons import comes, daemon
 
 # the replica's KDC has an address of its own: clients tell the primary from it by that
 REPLICA = "127.0.0.2"

@@ -5,9 +5,9 @@ import signal
 import subprocess
 import time
 
-from agent_process import Agent
-from daemons import comes
-from server import Server, private
+from harness.server import Server, private
+from kdc.agent_process import Agent
+from kdc.daemons import comes
 
 UNCONFIRMED = "not confirmed by the KDC"
 TOLD = "the KDC did not have a change in time; more are not reported until one is confirmed"

@@ -7,12 +7,12 @@ import subprocess
 import threading
 import time
 
-import configuration
-from cases import Cases
-from daemons import comes
-from kill import clock_ahead
-from realms import DONE, FIRST
-from served import Served
+from harness import configuration
+from harness.ahead import clock_ahead
+from kdc.cases import Cases
+from kdc.daemons import comes
+from kdc.realms import DONE, FIRST
+from kdc.served import Served
 
 PASSWORDS = {name: FIRST for name in ("alice", "bob", "joe blow", "carol/ops", "admin")}
 RULES = [("admin", "bob")]

@@ -15,10 +15,10 @@ Whoever is told that a password is changed has it, until a later one is set.
 
 import math
 
-from breaking import Password
-from crowd_cases import keys_in, keys_once
-from journal import Adopt, Lift, Record
-from realms import FIRST
+from harness.journal import Adopt, Lift, Record
+from kdc.breaking import Password
+from kdc.crowd_cases import keys_in, keys_once
+from kdc.realms import FIRST
 
 
 class Story:

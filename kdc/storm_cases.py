@@ -11,12 +11,12 @@ import random
 import signal
 import time
 
-from breaking import going_on
-from crowd_cases import OURS, USERS, CrowdCases, keys_in, keys_once
-from journal import Record
-from kill import AHEAD
-from served import MISSPOKEN
-from stories import Story
+from harness.ahead import AHEAD
+from harness.journal import Record
+from kdc.breaking import going_on
+from kdc.crowd_cases import OURS, USERS, CrowdCases, keys_in, keys_once
+from kdc.served import MISSPOKEN
+from kdc.stories import Story
 
 # how many passwords of each user are remembered: one whose reply was lost is among them still when it is asked for again
 DEPTH = 16

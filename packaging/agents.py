@@ -3,8 +3,8 @@
 import pathlib
 import subprocess
 
-import building
-import realm
+from harness import realm
+from kdc import building
 
 FETCH = realm.HERE / "fetch.sh"
 FLAGS = ["dpkg-buildflags", "--get"]

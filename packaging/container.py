@@ -2,9 +2,7 @@
 
 import subprocess
 
-import mit
-import root
-import steps
+from packaging import mit, root, steps
 
 # seconds for all of it
 PATIENCE = 900

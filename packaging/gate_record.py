@@ -1,4 +1,3 @@
-#!/usr/bin/env python3
 """The record that the gate leaves beside the program it has proved, by which packaging/deb knows that program.
 
     gate_record.py sources               prints the sum of the sources, when the gate begins

@@ -3,7 +3,7 @@
 import socket
 import time
 
-from root import Failed
+from packaging.root import Failed
 
 KIND, NAME = "mit", "MIT"
 REALM = "EXAMPLE.COM"

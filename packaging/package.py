@@ -8,9 +8,7 @@ import pathlib
 import re
 import subprocess
 
-import gate_record
-import pages
-import version
+from packaging import gate_record, pages, version
 
 HERE = pathlib.Path(__file__).resolve().parent
 TOP = HERE.parent

@@ -10,7 +10,7 @@ import re
 import sys
 import time
 
-import version
+from packaging import version
 
 HERE = pathlib.Path(__file__).resolve().parent
 AGENTS = {

@@ -12,7 +12,7 @@ import subprocess
 import tempfile
 import threading
 
-import unit
+from packaging import unit
 
 SUITE = "bookworm"
 COMMON = ["systemd", "logrotate", "procps"]

@@ -5,7 +5,7 @@ import re
 import subprocess
 import time
 
-from root import Failed
+from packaging.root import Failed
 
 HERE = pathlib.Path(__file__).resolve().parent
 FOLDERS = ("/etc/boddrelyn", "/var/lib/boddrelyn", "/var/log/boddrelyn", "/run/boddrelyn", "/run/boddrelyn-agent")
@@ -305,5 +305,5 @@ def untraced(pid):
 def compile_ahead(folder):
     """The library that sets a program's clock ahead."""
     folder.mkdir(parents=True)
-    source = HERE.parent / "interop/ahead.c"
+    source = HERE.parent / "harness/ahead.c"
     subprocess.run(["gcc", "-O1", "-shared", "-fPIC", f"-DAHEAD={AHEAD}", "-o", folder / "ahead.so", source], check=True)

@@ -9,10 +9,7 @@ import pathlib
 import re
 import shlex
 
-import container
-import mit
-import root
-import steps
+from packaging import container, mit, root, steps
 
 ADMIN = pathlib.Path(__file__).resolve().parent.parent / "docs/ADMIN.md"
 LOG, CHECK = "/var/log/boddrelyn/log", "boddrelyn-check"

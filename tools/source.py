@@ -6,9 +6,8 @@ import pathlib
 import re
 import sys
 
-TOP = pathlib.Path(__file__).resolve().parent.parent
-# command.py has the form of the command line.
-sys.path.append(str(TOP / "interop"))
+from harness.command import TOP
+
 CRATES = TOP / "crates"
 WORD = re.compile(r"[A-Za-z_][A-Za-z0-9_']*")
 FIELD = re.compile(r"\.([a-z_][A-Za-z0-9_]*)")

@@ -9,7 +9,7 @@ import os
 import re
 from typing import NamedTuple
 
-import together
+from trials import together
 
 TYPE = re.compile(r"(?:pub(?:\(\w+\))? )?(?:struct|enum|union) (\w+)")
 IMPL = re.compile(r"impl(?:<(.*?)>)? \w+(?:<([^<>]*)>)? \{")

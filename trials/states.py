@@ -2,7 +2,7 @@
 import pathlib
 from typing import NamedTuple
 
-import guards
+from trials import guards
 
 
 class State(NamedTuple):

@@ -16,20 +16,27 @@ def files_of(folder):
     return sorted([f"{at}/{name}" for part in parts for at, _, names in part for name in names] + cases)
 
 
-# What a script uses: a Python module, or a C source by its name.
-USED = re.compile(r"^(?:from|import) (\w+)|\b(\w+\.c)\b", re.M)
+# What a script uses: names of a module or of a package, or a C source beside it.
+USED = re.compile(r"^from ([\w.]+) import (.+)$|\b(\w+\.c)\b", re.M)
+
+
+def paths_of(folder, package, names, source):
+    """The files that these words of a script in that folder may be: a module, modules of a package, or a C source."""
+    if source:
+        return [f"{folder}/{source}"]
+    place = package.replace(".", "/")
+    return [f"{place}.py", *(f"{place}/{name.split(' ')[0]}.py" for name in names.split(", "))]
 
 
 def used_by(script, top):
-    """A script with all that it uses of its own folder and of the scripts' other folders, in order."""
-    found, left = set(), [script]
+    """The file of a script, named as a module, and all files of the repository that it uses, in order."""
+    found, left = set(), [f"{script.replace('.', '/')}.py"]
     while left:
         path = left.pop()
         found.add(path)
         with open(f"{top}/{path}", encoding="utf-8") as file:
-            names = [source or f"{module}.py" for module, source in USED.findall(file.read())]
-        beside = (f"{folder}/{name}" for folder in (os.path.dirname(path), "interop", "hostile") for name in names)
-        left += [it for it in beside if os.path.exists(f"{top}/{it}") and it not in found]
+            used = [it for words in USED.findall(file.read()) for it in paths_of(os.path.dirname(path), *words)]
+        left += [it for it in used if os.path.exists(f"{top}/{it}") and it not in found]
     return sorted(found)
 
 

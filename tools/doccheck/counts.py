@@ -2,7 +2,7 @@
 
 import re
 
-from topic import lines_of, parts_of
+from harness.topic import lines_of, parts_of
 
 from .tree import TOP
 

@@ -1,6 +1,7 @@
 """What scripts of tools/ write into the documents is as they would write it now."""
 
 import subprocess
+import sys
 
 from .tree import TOP
 
@@ -9,7 +10,7 @@ SCRIPTS = ("promises", "quotes", "picture", "way")
 
 def check(_tree, faults):
     for name in SCRIPTS:
-        script = TOP / "tools" / name
-        if script.is_file():
-            run = subprocess.run([script, "--check"], cwd=TOP, capture_output=True, text=True, check=False)
-            faults.check(run.returncode == 0, f"tools/{name} --check", (run.stdout + run.stderr).strip())
+        if (TOP / "tools" / f"{name}.py").is_file():
+            command = [sys.executable, "-m", f"tools.{name}", "--check"]
+            run = subprocess.run(command, cwd=TOP, capture_output=True, text=True, check=False)
+            faults.check(run.returncode == 0, f"tools.{name} --check", (run.stdout + run.stderr).strip())

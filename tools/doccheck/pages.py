@@ -9,11 +9,8 @@ Its text has the limits as the help has them, `N to N`, and ends with `The defau
 import dataclasses
 import re
 import subprocess
-import sys
 
 from .tree import TOP
-
-sys.path.insert(0, str(TOP / "packaging"))
 
 HELP = TOP / "crates/chpw_invocation/src/program.rt"
 AGENT = TOP / "kdc/agent/main.c"
@@ -183,7 +180,7 @@ class Page:
 def check(tree, faults):
     if not tree.is_whole or not (TOP / "packaging/man").is_dir():
         return
-    import pages  # of packaging/
+    from packaging import pages
 
     server = Page("chpw_server.8", pages.page("chpw_server.8"), faults)
     commands = of_source()

@@ -3,17 +3,18 @@
 import functools
 import re
 import subprocess
+import sys
 
 from .tree import TOP
 
-COMMAND = re.compile(r"tools/believe ([a-z-](?:[\w:+-]+ ?)+)")
+COMMAND = re.compile(r"tools[./]believe ([a-z-](?:[\w:+-]+ ?)+)")
 COUNT = re.compile(r"\d[\d,]* lines in \d[\d,]* definitions")
 
 
 @functools.lru_cache(None)
 def counted(words):
     """The last line of the command."""
-    run = subprocess.run([TOP / "tools/believe", *words.split()], capture_output=True, text=True, check=False)
+    run = subprocess.run([sys.executable, "-m", "tools.believe", *words.split()], cwd=TOP, capture_output=True, text=True, check=False)
     return (run.stdout.splitlines() or [run.stderr.strip()])[-1]
 
 

@@ -5,11 +5,8 @@ which make it the service's user's, and root's shell sends nothing there or take
 """
 
 import shlex
-import sys
 
 from .tree import TOP
-
-sys.path.insert(0, str(TOP / "packaging"))
 
 AS_THE_USER = {"runuser -u boddrelyn --", "setpriv --reuid=boddrelyn --regid=boddrelyn"}
 
@@ -37,7 +34,7 @@ def commands(text):
 def check(tree, faults):
     if not tree.is_whole or not (TOP / "packaging/links.py").is_file():
         return
-    import links  # of packaging/
+    from packaging import links
 
     def is_of_the_user(word):
         return any(word == folder or f"{folder}/" in word for folder in links.FOLDERS)

@@ -1,16 +1,13 @@
 """The tasks of docs/ADMIN.md are those that packaging/try runs: each block that can be copied whole, and no other."""
 
-import sys
 
 from .tree import TOP
-
-sys.path.insert(0, str(TOP / "packaging"))
 
 
 def check(tree, faults):
     if not tree.is_whole or not (TOP / "packaging/tasks.py").is_file():
         return
-    import tasks  # of packaging/
+    from packaging import tasks
 
     printed = set(tasks.printed())
     run = {(it.heading, it.number) for it in tasks.BLOCKS}

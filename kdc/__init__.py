@@ -1,0 +1,1 @@
+"""The agents at a KDC, and their tests."""

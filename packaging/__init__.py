@@ -1,0 +1,1 @@
+"""Debian's packages, and their tests."""

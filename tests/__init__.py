@@ -1,0 +1,1 @@
+"""What tests the built program, in folders by what it tests."""

@@ -1,0 +1,1 @@
+"""The program beside other projects' clients and servers."""

@@ -1,0 +1,1 @@
+"""The program among hostile clients and faults."""

@@ -1,0 +1,486 @@
+"""A journal that is replaced by a compact one while the service runs.
+
+What `compact` is answered is what docs/PROTOCOL has (Compact), and what a compact journal holds, too (A compact journal).
+Journals are replaced during changes, reloads and histories that fill, and while the service is killed. The clock of the
+day stands still where a case sets it (machine.c). Needs gcc.
+"""
+
+import collections
+import concurrent.futures
+import itertools
+import os
+import pathlib
+import stat
+import subprocess
+import sys
+import threading
+import time
+
+from harness.asking import request_now
+from harness.controlling import OK, Caller, ask, entries_of, rewrite, start, status, tell_end, tell_stop, told, written
+from harness.false_agent import Agent, hexed
+from harness.journal import Base, Raise, Realm, read_journal, realm_record
+from harness.kept import keys_of
+from harness.killing import QUIET, killed_amid
+from harness.server import private
+from harness.serving import CHANGED, REPLAYED, START, Client, SetClock, request, run
+
+USED = "code 4 password used before"
+FULL = "code 2 error 60 history full"
+FAILED = "code 2 journal failed"
+CHANGED_FILE = ("error: the configuration has changed: reload it first\n", 1)
+NO_GAIN = "error: nothing to gain\n"
+# how many keys the configuration keeps of each principal
+DEPTH = 3
+# how often the service is killed
+KILLS = 20
+# under how many iterations keys are made here
+ITERATIONS = 4
+
+
+def table(case, *words):
+    """What `table` prints of the files."""
+    command = [case.server.program, "table", "--config", case.server.configuration, "--journal", case.server.journal, *words]
+    return subprocess.run(command, capture_output=True, text=True, timeout=60).stdout
+
+
+def records_of(case):
+    """The journal's records: of a raise its count, of a key its kind, its name and its version."""
+    records, torn = read_journal(case.server.journal.read_bytes())
+    assert torn == b""
+    return [
+        it.iterations if isinstance(it, Raise) else ("base" if isinstance(it, Base) else "change", it.name, it.kvno)
+        for it in records
+    ]
+
+
+def beside(case):
+    """Whether something is left beside the journal."""
+    return os.path.lexists(f"{case.server.journal}.new")
+
+
+def grow(case, client, first=1):
+    """Changes of alice, so many that a compact journal is shorter."""
+    for number in range(first, first + DEPTH + 1):
+        case.tell("a change", client.ask(request_now("alice", f"Pass-{number}", number)), CHANGED)
+
+
+def left(case, before):
+    """Whether the journal is as it was, and a copy is there."""
+    return case.server.journal.read_bytes() == before, (case.folder / "copy").exists()
+
+
+def made(case):
+    """The journal has one record of each key that is held and that the configuration doesn't have, and what is held
+    stays, also behind a restart. The copy is the configuration that is held."""
+    clock = SetClock(case.folder)
+    start(case, CLOCK=clock.file)
+    client = case.client()
+    for turn in range(5):
+        case.tell("a change", client.ask(request("alice", START, f"Pass-{turn}", turn)), CHANGED)
+    former, held, copied = records_of(case), table(case, "--as", "keys"), table(case, "--as", "configuration")
+    case.tell("records", former, [("change", "alice", 2 + turn) for turn in range(5)])
+    case.tell("compact", told(case, "compact", "copy"), (OK, 0))
+    copy = case.folder / "copy"
+    case.tell("the copy", (copy.read_text(), oct(stat.S_IMODE(copy.stat().st_mode))), (copied, "0o600"))
+    mode = oct(stat.S_IMODE(case.server.journal.stat().st_mode))
+    case.tell("the journal's mode, and what is beside it", (mode, beside(case)), ("0o600", False))
+    shorter = [it for it in records_of(case) if isinstance(it, tuple)]
+    case.tell("a compact journal", shorter, [("base", "alice", 4), ("change", "alice", 5), ("change", "alice", 6)])
+    case.tell("what is held", table(case, "--as", "keys"), held)
+    case.tell("its bytes", status(case)["journal-bytes"], str(case.server.journal.stat().st_size))
+    case.tell("a former request", client.ask(request("alice", START, "Pass-0", 0)), REPLAYED)
+    case.tell("a held password", client.ask(request("alice", START, "Pass-2", 11)), USED)
+    case.tell("one more change", client.ask(request("bob", START, "Pass-9", 12)), CHANGED)
+    case.tell("it goes on behind", records_of(case)[-1], ("change", "bob", 2))
+    held = table(case, "--as", "keys")
+    tell_end(case, "entries 5 changes 5", "entries 3 changes 1")
+    clock.set(START + QUIET + 1)
+    start(case, CLOCK=clock.file)
+    case.tell("behind a restart", table(case, "--as", "keys"), held)
+    clock.set(START + 2 * QUIET + 2)
+    client = case.client()
+    case.tell("a held password", client.ask(request("alice", START + 2 * QUIET + 2, "Pass-2", 1)), USED)
+    tell_end(case, "entries 1 changes 0")
+    case.server.configuration.write_text(copy.read_text())
+    case.server.journal.unlink()
+    keys = table_of_copy(case)
+    case.tell("the copy alone", keys, [line for line in held.splitlines() if line.startswith("alice")])
+
+
+def named(case):
+    """A journal that begins with the record of its realm keeps it, and its history goes on behind."""
+    record, clock, late = realm_record("EXAMPLE.COM"), SetClock(case.folder), START + QUIET + 1
+    private(case.server.journal).write_bytes(record)
+    start(case, CLOCK=clock.file)
+    clock.set(late)
+    client = case.client()
+    for turn in range(5):
+        case.tell("a change", client.ask(request("alice", late, f"Pass-{turn}", turn)), CHANGED)
+    held = table(case, "--as", "keys")
+    case.tell("compact", told(case, "compact", "copy"), (OK, 0))
+    case.tell("one more change", client.ask(request("bob", late, "Pass-9", 12)), CHANGED)
+    records, torn = read_journal(case.server.journal.read_bytes())
+    case.tell("its records", (records[0], len(records), torn), (Realm("EXAMPLE.COM"), 5, b""))
+    case.tell("what is held", [line for line in table(case, "--as", "keys").splitlines() if line.startswith("alice")],
+              [line for line in held.splitlines() if line.startswith("alice")])
+    case.tell("reload", told(case, "reload"), (OK, 0))
+    tell_stop(case)
+
+
+def table_of_copy(case):
+    """Alice's keys, by the copy and an empty journal."""
+    private(case.server.journal)
+    return [line for line in table(case, "--as", "keys").splitlines() if line.startswith("alice")]
+
+
+def refused(case):
+    """Where there is no copy, or no journal, all stays as it was, and no file is left."""
+    start(case)
+    client = case.client()
+    grow(case, client)
+    before = case.server.journal.read_bytes()
+    (case.folder / "there").write_text("kept")
+    folder = pathlib.Path(f"{case.server.journal}.new")
+    folder.mkdir()
+    for name, answer in (
+        ("there", "error: cannot write there\n"),
+        ("missing/copy", "error: cannot write missing/copy\n"),
+        ("copy", f"error: cannot write {case.server.journal}\n"),
+    ):
+        case.tell(name, told(case, "compact", name), (answer, 1))
+        case.tell("  what is left", left(case, before), (True, False))
+    case.tell("what was there", (case.folder / "there").read_text(), "kept")
+    folder.rmdir()
+    answer = (f"error: cannot write {case.server.journal}\n", 1)
+    case.tell("a copy in its way", told(case, "compact", f"{case.server.journal}.new"), answer)
+    case.tell("  what is left", (left(case, before)[0], beside(case)), (True, False))
+    case.server.configuration.unlink()
+    answer = f"error: cannot read {case.server.configuration}\n"
+    case.tell("no configuration", told(case, "compact", "copy"), (answer, 1))
+    case.tell("it goes on", client.ask(request_now("alice", "Pass-9", 9)), CHANGED)
+    case.tell("behind the former records", records_of(case), [("change", "alice", 2 + turn) for turn in range(DEPTH + 2)])
+    tell_stop(case)
+
+
+def changed_file(case):
+    """A configuration with other text than the start or the last reload read is to be reloaded first, whatever is other in
+    it; also one that can't be, or that has a fault. With the former text it is the one in force again."""
+    start(case)
+    client = case.client()
+    grow(case, client)
+    before = case.server.journal.read_bytes()
+    former = case.server.configuration.read_text()
+    carol = ["alice", "bob", "carol"]
+    for what, names, change in (
+        ("other keys", ["alice", "bob"], [("kvno = 1", "kvno = 9")]),
+        ("no bob", ["alice"], []),
+        ("no such principal", ["bob"], []),
+        ("other service keys", ["alice", "bob"], [("kvno = 3", "kvno = 7")]),
+        ("another rule", ["alice", "bob"], [("min_length = 6", "min_length = 7")]),
+        ("another realm", carol, [("EXAMPLE.COM", "EXAMPLE.ORG")]),
+        ("a fault", carol, [("depth = 3", "depth = -1")]),
+        ("a comment", ["alice", "bob"], [("realm", "# ours\nrealm")]),
+    ):
+        case.server.configuration.write_text(only_first(former, names, change))
+        case.tell(what, told(case, "compact", "copy"), CHANGED_FILE)
+        case.tell("  what is left", left(case, before), (True, False))
+    case.server.configuration.write_text(former)
+    for number, (what, names, change) in enumerate((
+        ("one more", carol, []),
+        ("another depth", carol, [("depth = 3", "depth = 2")]),
+        ("a greater count", carol, [("iterations = 4\nset", "iterations = 5\nset")]),
+    ), 1):
+        rewrite(case, names, change)
+        case.tell(what, told(case, "compact", "copy"), CHANGED_FILE)
+        case.tell("  what is left", left(case, before), (True, False))
+        case.tell("  reload", ask(case, "reload").splitlines()[-1:], ["ok"])
+        case.tell("  compact", told(case, "compact", "copy"), (OK, 0))
+        (case.folder / "copy").unlink()
+        grow(case, client, first=20 * number)
+        before = case.server.journal.read_bytes()
+    case.tell("the former file again", (case.server.configuration.write_text(former) > 0, told(case, "compact", "copy")),
+              (True, CHANGED_FILE))
+    tell_stop(case)
+
+
+def only_first(former, names, change):
+    """The configuration with these names, each text of the change replaced once."""
+    text = written(names)
+    for old, new in change:
+        assert old in text, old
+        text = text.replace(old, new, 1)
+    assert text != former
+    return text
+
+
+def no_gain(case):
+    """Where a compact journal would have as many bytes as the present one, or more, it isn't made."""
+    start(case)
+    client = case.client()
+    before = case.server.journal.read_bytes()
+    for number in range(1, DEPTH + 2):
+        case.tell("compact", told(case, "compact", "copy"), (NO_GAIN, 1))
+        case.tell("  what is left", (*left(case, before), beside(case)), (True, False, False))
+        case.tell("a change", client.ask(request_now("alice", f"Pass-{number}", number)), CHANGED)
+        before = case.server.journal.read_bytes()
+    case.tell("compact", told(case, "compact", "copy"), (OK, 0))
+    case.tell("it is shorter", case.server.journal.stat().st_size < len(before), True)
+    before = case.server.journal.read_bytes()
+    case.tell("once more", told(case, "compact", "again"), (NO_GAIN, 1))
+    case.tell("what is left", (left(case, before)[0], (case.folder / "again").exists()), (True, False))
+    case.tell("one more", client.ask(request_now("alice", "Pass-20", 20)), CHANGED)
+    tell_stop(case)
+
+
+def unsynced(case):
+    """A folder that can't be synced: for the copy and for the compact journal beside the present one all stays as it was;
+    behind the rename no further change is taken, and the next start finds what was held."""
+    # the first sync is that of the journal's own name
+    for number, name, is_left, then in (
+        (2, "copy", False, CHANGED), (3, case.server.journal, False, CHANGED), (4, case.server.journal, True, FAILED),
+    ):
+        case.server.journal.unlink(missing_ok=True)
+        start(case, FOLDERS=number)
+        client = case.client()
+        grow(case, client, 10 * number)
+        held = table(case, "--as", "keys")
+        case.tell("  compact", told(case, "compact", "copy"), (f"error: cannot write {name}\n", 1))
+        case.tell("  what is left", ((case.folder / "copy").exists(), beside(case)), (is_left, False))
+        case.tell("  one more", client.ask(request_now("alice", "Pass-1", 9 + 10 * number)), then)
+        case.tell("  how it stands", status(case)["journal"], "good" if then == CHANGED else "failed: its name may be lost")
+        if then == FAILED:
+            case.tell("  compact behind that", told(case, "compact", "other"), ("error: journal failed\n", 1))
+            case.tell("  its copy", (case.folder / "other").exists(), False)
+        tell_stop(case)
+    case.tell("behind a restart", table(case, "--as", "keys"), held)
+
+
+def unmade(case):
+    """Where the copy can't be synced, or the compact journal not be synced or renamed, the caller is told so, the journal
+    stays as it was, nothing is left, and changes go on. A later compact journal is made."""
+    # the syncs before are those of the changes, and behind them that of the copy
+    made = DEPTH + 1
+    for number, (fault, name) in enumerate((
+        (f"sync {made + 1} 5", "copy"), (f"sync {made + 2} 28", case.server.journal), ("rename 1 5", case.server.journal),
+    ), 1):
+        case.server.journal.unlink(missing_ok=True)
+        start(case, FAILS=fault)
+        client = case.client()
+        grow(case, client, 10 * number)
+        before = case.server.journal.read_bytes()
+        case.tell(fault, told(case, "compact", "copy"), (f"error: cannot write {name}\n", 1))
+        case.tell("  what is left", (*left(case, before), beside(case)), (True, False, False))
+        case.tell("  one more", client.ask(request_now("alice", "Pass-1", 9 + 10 * number)), CHANGED)
+        case.tell("  compact behind that", told(case, "compact", "copy"), (OK, 0))
+        (case.folder / "copy").unlink()
+        tell_stop(case)
+
+
+def synced_folders(case):
+    """What is synced is the folder of the file that is new there: the journal's, the copy's, and the journal's again for
+    the compact one beside it and for its rename."""
+    here = pathlib.Path(os.path.realpath(case.folder))
+    for name in "below", "away":
+        (here / name).mkdir()
+    case.server.journal = here / "below/journal"
+    start(case, SYNCED="synced")
+    grow(case, case.client())
+    case.tell("compact", told(case, "compact", "away/copy"), (OK, 0))
+    tell_stop(case)
+    wanted = [here / name for name in ("below", "away", "below", "below")]
+    case.tell("folders", (here / "synced").read_text().splitlines(), list(map(str, wanted)))
+    (here / "synced").unlink()
+    case.server.journal = pathlib.Path("journal")
+    start(case, SYNCED="synced")
+    tell_stop(case)
+    case.tell("the folder of a bare name", (here / "synced").read_text().splitlines(), [str(here)])
+
+
+def confirmed_again(case):
+    """A compact journal changes nothing at the KDC: the next change goes there over the same connection, and isn't answered
+    before."""
+    agent = Agent(case)
+    start(case, options=agent.options(60_000))
+    client = case.client()
+    sent = [request_now("alice", f"Pass-{turn}", 1 + turn) for turn in range(DEPTH + 2)]
+    with agent.in_step() as link:
+        for turn in range(DEPTH + 1):
+            client.send(sent[turn])
+            link.confirm("alice", 2 + turn, f"Pass-{turn}")
+            case.tell("a change", client.told(sent[turn]), CHANGED)
+        case.tell("compact", told(case, "compact", "copy"), (OK, 0))
+        client.send(sent[-1])
+        link.is_to_put("alice", DEPTH + 3, f"Pass-{DEPTH + 1}")
+        case.tell("no reply yet", client.is_silent(), True)
+        link.say(f"put {hexed('alice')} {DEPTH + 3}\n")
+        case.tell("the reply", client.told(sent[-1]), CHANGED)
+        tell_stop(case)
+
+
+def behind_replies(case):
+    """A compact journal while a reply waits for the KDC: the reply waits on, and comes when the KDC has the change."""
+    agent = Agent(case)
+    start(case, options=agent.options(60_000))
+    client = case.client()
+    sent = [request_now("alice", f"Pass-{turn}", 1 + turn) for turn in range(DEPTH + 1)]
+    with agent.in_step() as link:
+        for turn in range(DEPTH):
+            client.send(sent[turn])
+            link.confirm("alice", 2 + turn, f"Pass-{turn}")
+            case.tell("a change", client.told(sent[turn]), CHANGED)
+        client.send(sent[-1])
+        link.is_to_put("alice", DEPTH + 2, f"Pass-{DEPTH}")
+        case.tell("compact", told(case, "compact", "copy"), (OK, 0))
+        case.tell("no reply yet", client.is_silent(), True)
+        link.say(f"put {hexed('alice')} {DEPTH + 2}\n")
+        case.tell("the reply", client.told(sent[-1]), CHANGED)
+        tell_stop(case)
+
+
+def left_over(case):
+    """What a run that was ended in the midst has left beside the journal is taken away."""
+    start(case)
+    grow(case, case.client())
+    private(pathlib.Path(f"{case.server.journal}.new")).write_bytes(b"half a jour")
+    case.tell("compact", told(case, "compact", "copy"), (OK, 0))
+    case.tell("what is beside it", beside(case), False)
+    keys = [it for it in records_of(case) if isinstance(it, tuple)]
+    case.tell("records", keys, [("base", "alice", 3), ("change", "alice", 4), ("change", "alice", 5)])
+    tell_stop(case)
+
+
+def twice_at_once(case):
+    """Each is answered; of the compact journals one is made, with its copy, since no further one is shorter."""
+    start(case)
+    grow(case, case.client())
+    held = table(case, "--as", "keys")
+    callers = [Caller(case) for _ in range(8)]
+    for number, caller in enumerate(callers):
+        caller.send(f"compact copy{number}\n" if number % 2 == 0 else "reload\n")
+    case.tell("answers", [caller.answer() for caller in callers], [OK, OK] + [NO_GAIN, OK] * 3)
+    case.tell("copies", [(case.folder / f"copy{number}").exists() for number in range(8)], [True] + [False] * 7)
+    case.tell("what is held", table(case, "--as", "keys"), held)
+    tell_stop(case)
+
+
+def amid_changes(case):
+    """Sixteen clients change sixteen passwords while histories fill, configurations are read anew and journals are
+    replaced: each request is answered once, and what is held at the end is what was accepted."""
+    names = [f"user{number:02}" for number in range(16)]
+    rewrite(case, names, max_entries=7)
+    start(case, workers=16)
+    done, answers = threading.Event(), []
+    asker = threading.Thread(target=compact_until, args=(case, done, answers))
+    asker.start()
+    with concurrent.futures.ThreadPoolExecutor(16) as pool:
+        found = list(pool.map(lambda number: many_changes(case, names[number], number), range(16)))
+    done.set()
+    asker.join()
+    others = {answer for it in found for answer in it} - {CHANGED, FULL}
+    case.tell("answers", ([len(it) for it in found], others), ([20] * 16, set()))
+    case.tell("compactions", (answers.count(OK) > 2, set(answers) - {OK, NO_GAIN}), (True, set()))
+    changed = {name: sum(answer == CHANGED for answer in it) for name, it in zip(names, found)}
+    newest = {name: versions[0][0] for name, versions in held(case).items()}
+    case.tell("what is held", newest, {name: 1 + number for name, number in changed.items()})
+    lines = tell_stop(case)
+    case.tell("changes", entries_of(lines)[1], sum(changed.values()))
+
+
+def held(case):
+    """Of each principal the versions that it has and their keys of etype 18, newest first."""
+    found = collections.defaultdict(list)
+    for line in table(case, "--as", "keys").splitlines():
+        name, kvno, etype, _, key, _ = line.split(" ")
+        if etype == "18":
+            found[name.split("@")[0]].append((int(kvno), key))
+    return found
+
+
+def compact_until(case, done, answers):
+    for number in itertools.count():
+        if done.is_set():
+            return
+        answers.append(ask(case, f"compact copy{number}" if number % 3 else "reload"))
+        time.sleep(0.02)
+
+
+def many_changes(case, name, number):
+    client = Client(case.server)
+    answers = []
+    for turn in range(20):
+        answers.append(client.ask(request_now(name, f"Pass-{turn:02}", 1 + 20 * number + turn)))
+    client.close()
+    return answers
+
+
+class Compactor(threading.Thread):
+    """Has the journal replaced, and in between the configuration read anew, until the service is gone."""
+
+    def __init__(self, case, number):
+        super().__init__()
+        self.case = case
+        self.number = number
+        self.answers = []
+        self.last = OK
+
+    def run(self):
+        while self.last in (OK, NO_GAIN):
+            turn = len(self.answers)
+            try:
+                self.last = ask(self.case, f"compact copy{self.number}-{turn}" if turn % 4 else "reload")
+            except OSError:
+                self.last = ""
+            self.answers.append(self.last)
+
+
+def wrong_in_table(changers, before, after):
+    """What is wrong with what is held behind a run, a line each."""
+    for it in changers:
+        (newest, _), *_ = before[it.name]
+        count = after[it.name][0][0] - newest
+        if not it.answered <= count <= len(it.asked):
+            yield f"{it.name}: {len(it.asked)} asked, {it.answered} answered, {count} held"
+            continue
+        wanted = [keys_of(it.name, word, ITERATIONS)[1].hex() for word in reversed(it.asked[:count])][:DEPTH]
+        if [key for _, key in after[it.name][: len(wanted)]] != wanted:
+            yield f"{it.name}: other keys than those that were asked for"
+        versions = [kvno for kvno, _ in after[it.name]]
+        if versions != list(range(versions[0], versions[0] - len(versions), -1)):
+            yield f"{it.name}: versions {versions}"
+
+
+def kills(case):
+    """Twenty kills in the midst of changes and compactions: at the next start what was answered is held."""
+    clock = SetClock(case.folder)
+    rewrite(case, [f"user{it}" for it in range(4)])
+    private(case.server.journal)
+    before, answered, made, cut, faults = held(case), 0, 0, 0, []
+    for number in range(KILLS):
+        changers, answers, early = killed_amid(case, number, clock, Compactor(case, number))
+        faults += [f"run {number}: before the kill: {it}" for it in early]
+        start(case, CLOCK=clock.file)
+        after = held(case)
+        faults += [f"run {number}: {it}" for it in wrong_in_table(changers, before, after)]
+        faults += [f"run {number}: {it!r}" for it in answers if it not in (OK, NO_GAIN, "")]
+        told(case, "stop")
+        case.server.last_words()
+        before = after
+        answered += sum(it.answered for it in changers)
+        made += answers.count(OK)
+        cut += answers[-1] == ""
+    case.tell(f"{answered} changes and {made} orders answered, {cut} orders cut off: faults", faults, [])
+    case.tell("changes, and kills amid orders", (answered >= KILLS, cut > KILLS / 2), (True, True))
+
+
+CASES = [
+    ("made", made), ("refused", refused), ("a changed configuration", changed_file), ("left over", left_over),
+    ("nothing to gain", no_gain), ("a named journal", named),
+    ("a folder that can't be synced", unsynced), ("folders that are synced", synced_folders),
+    ("no rename or sync", unmade),
+    ("confirmed again", confirmed_again), ("behind replies", behind_replies),
+    ("twice at once", twice_at_once), ("amid changes", amid_changes), ("kills", kills),
+]
+
+if __name__ == "__main__":
+    sys.exit(run(__doc__, CASES))

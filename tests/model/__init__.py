@@ -1,0 +1,1 @@
+"""Independent models: what the programs of cases have to answer."""

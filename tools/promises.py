@@ -1,0 +1,65 @@
+"""Writes docs/promises.md: all promises, from the tables of the crates' READMEs, in the order of crates.txt.
+
+A table of promises is the first one of a README whose heading begins with `Promise`:
+`| Promise | Call | Clause | Spec |`, or the same with `Call, clause` in one column or `Definition` for `Spec`.
+"""
+
+import re
+import sys
+
+sys.dont_write_bytecode = True
+
+from harness.command import Parser
+from tools.source import CRATES, TOP, crates
+
+FILE = TOP / "docs" / "promises.md"
+HEAD = """# All promises
+
+Made by `tools/promises` from the tables in the crates' READMEs, in the order of [crates.txt](../crates.txt): edit them
+there. [PROOFS](PROOFS.md) says what a contract and a clause are, and which of them make up the main theorem. A file of
+definitions without a path is that of `specs/` in the same crate.
+"""
+
+
+def table_of(text):
+    """The lines of the first table of promises; none where there is none."""
+    lines = text.splitlines()
+    start = next((it for it, line in enumerate(lines) if re.match(r"\| Promise\b", line)), None)
+    if start is None:
+        return []
+    end = next((it for it in range(start, len(lines)) if not lines[it].startswith("|")), len(lines))
+    return lines[start:end]
+
+
+def relinked(line, crate):
+    """A line with its relative links as they are from docs/."""
+    return re.sub(r"\]\((?!https?:|#|/)([^)]+)\)", rf"](../crates/{crate}/\1)", line)
+
+
+def document():
+    parts, without = [HEAD], []
+    for crate in crates():
+        table = table_of((CRATES / crate / "README.md").read_text())
+        if table:
+            lines = "\n".join(relinked(line, crate) for line in table)
+            parts.append(f"## {crate}\n\n{lines}\n")
+        else:
+            without.append(f"[{crate}](../crates/{crate}/README.md)")
+    if without:
+        parts.append(f"## Crates without promises\n\nPrograms, cases and tests: {', '.join(without)}.\n")
+    return "\n".join(parts)
+
+
+def main():
+    parser = Parser(__doc__, None, "the file differs, with --check")
+    parser.add_argument("--check", action="store_true", help="change nothing, and report whether the file differs")
+    given = parser.parse_args()
+    text = document()
+    if not given.check:
+        FILE.write_text(text)
+    elif not FILE.is_file() or FILE.read_text() != text:
+        sys.exit("docs/promises.md differs from the crates' READMEs: run tools/promises")
+
+
+if __name__ == "__main__":
+    main()

@@ -1,0 +1,1 @@
+"""Wrong bodies, which the prover or a test has to refuse."""
