@@ -5,15 +5,12 @@ them say is read by harness/asking.py.
 """
 
 import os
-import pathlib
 import select
-import tempfile
 import time
 
 from harness import asking, wire
-from harness.command import Parser
+from harness.cases import Case
 from harness.machine import machine
-from harness.report import Report
 from harness.sample_realm import write_configuration
 from harness.server import Server
 
@@ -144,16 +141,15 @@ class Hold:
         self.held.unlink()
 
 
-class Case:
-    """A case with a name, its folder, and the service that it starts there."""
+class ServiceCase(Case):
+    """A case with a service that it starts in its folder."""
 
-    def __init__(self, report, name, program, folder):
-        self.report = report
-        self.name = name
-        self.folder = folder
-        self.server = Server(program, folder, workers=1)
+    def setUp(self):
+        super().setUp()
+        self.server = Server(self.program, self.folder, workers=1)
         # the same words in each run: a number of theirs stands in an AP-REP, in as many bytes as it needs
         self.server.seed.write_bytes(bytes([7] * 32))
+        self.addCleanup(self.server.end)
         self.clients = []
         self.realm()
 
@@ -177,7 +173,7 @@ class Case:
         return self.clients[-1]
 
     def tell(self, what, found, wanted):
-        self.report.tell(f"{self.name}: {what}", found, wanted)
+        super().tell(f"{self.name}: {what}", found, wanted)
 
     def tell_within(self, seconds, watch):
         """It was over by then."""
@@ -192,27 +188,3 @@ class Case:
 
     def tell_end(self, *lines):
         self.tell("its end", self.last_lines(), (list(lines), 0))
-
-
-def run(text, cases):
-    """Runs the cases of a script with this text at its head, each with a folder of its own, and gives the status."""
-    parser = Parser(text)
-    parser.add_program("--program")
-    parser.add_argument("case", nargs="?", default="", metavar="CASE", help="the cases whose name begins so; by default all")
-    words = parser.parse_args()
-    report = Report()
-    for name, body in cases:
-        if name.startswith(words.case):
-            with tempfile.TemporaryDirectory(prefix="chpw-case-") as folder:
-                run_one(Case(report, name, words.program, pathlib.Path(folder)), body)
-    return report.status()
-
-
-def run_one(case, body):
-    """A case that goes wrong in whatever way has failed, and the others go on."""
-    try:
-        body(case)
-    except Exception as fault:
-        case.tell("went wrong", repr(fault), "nothing")
-    finally:
-        case.server.end()

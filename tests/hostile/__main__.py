@@ -15,7 +15,7 @@ from harness.command import TOP, Parser
 
 SCRIPTS = ("allocations", "outputs", "lines", "connections", "crowds", "datagrams", "addresses", "shares", "advisories", "agents",
            "agent_calls", "failing_lists", "logs", "starts", "resumes", "restarts", "options", "control", "reloads", "compactions",
-           "endings", "faults", "threads")
+           "endings", "endings_import", "endings_client", "endings_serve", "faults", "threads")
 
 
 def main():

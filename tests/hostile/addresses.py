@@ -6,12 +6,12 @@ on the loopback interface; no other interface is used.
 
 import ipaddress
 import socket
-import sys
 
+from harness.cases import main
 from harness.asking import request_now, said, sender
 from harness.journal import plain_record
 from harness.server import private
-from harness.serving import CHANGED, PATIENCE, Client, both_requests, run
+from harness.serving import CHANGED, PATIENCE, Client, both_requests, ServiceCase
 
 ELSEWHERE = "code 3 error 38 authentication failed"
 BOTH = ("127.0.0.1", "::1")
@@ -52,19 +52,17 @@ def place(address, port):
     return f"[{address}]:{port}" if ":" in address else f"{address}:{port}"
 
 
-def without_a_trace(starts):
+def without_a_trace(case, starts):
     """Starts that are refused make no journal, and leave a journal and a resume file as they are, though a start that isn't refused
     would cut off the one's torn end and remove the other."""
-    def body(case):
-        resume = case.folder / "resume"
-        starts(case, ["--resume", str(resume)])
-        case.tell("no journal is made", case.server.journal.exists(), False)
-        private(case.server.journal).write_bytes(TORN)
-        private(resume).write_bytes(LEFT)
-        starts(case, ["--resume", str(resume)])
-        case.tell("the journal stays", case.server.journal.read_bytes() == TORN, True)
-        case.tell("the resume file stays", resume.read_bytes() == LEFT, True)
-    return body
+    resume = case.folder / "resume"
+    starts(case, ["--resume", str(resume)])
+    case.tell("no journal is made", case.server.journal.exists(), False)
+    private(case.server.journal).write_bytes(TORN)
+    private(resume).write_bytes(LEFT)
+    starts(case, ["--resume", str(resume)])
+    case.tell("the journal stays", case.server.journal.read_bytes() == TORN, True)
+    case.tell("the resume file stays", resume.read_bytes() == LEFT, True)
 
 
 def refused(case, options):
@@ -100,7 +98,7 @@ def twice_taken(case, options):
 
 
 def in_use(kind):
-    """Another socket has one of the ports."""
+    """Starts while another socket has one of the ports."""
     def starts(case, options):
         other = socket.socket(socket.AF_INET6, kind)
         with other:
@@ -110,7 +108,7 @@ def in_use(kind):
             case.launch(1, options=["--udp", *options, *listening(*BOTH)])
             there = place("::1", case.server.port)
             case.tell("it says which", case.last_lines(), (["cannot listen", f"{there}: in use"], 1))
-    return without_a_trace(starts)
+    return starts
 
 
 def begin(case, connections, *addresses, options=()):
@@ -134,72 +132,71 @@ def tell_changes(case):
         case.tell(f"over {host}", (client.said(sent, reply), sender(reply)), (CHANGED, host))
 
 
-def both_families(case):
-    """Clients over TCP, each by one family; the reply has the address that was asked, the log where each came from."""
-    begin(case, 2, *BOTH, options=["--log", str(case.server.journal.with_name("log"))])
-    tell_changes(case)
-    case.tell_end("entries 2 changes 2")
-    case.tell("the log has the peers", peers(case), list(BOTH))
+class Addresses(ServiceCase):
+    def test_addresses_that_are_refused(self):
+        without_a_trace(self, refused)
 
+    def test_addresses_of_no_interface(self):
+        without_a_trace(self, nowhere)
 
-def datagrams(case):
-    """The same over UDP: a client's socket takes a datagram from the address alone that it asked."""
-    begin(case, 2, *BOTH, options=["--udp"])
-    for sent, host in zip(both_requests(), BOTH):
-        family = socket.AF_INET6 if ":" in host else socket.AF_INET
-        with socket.socket(family, socket.SOCK_DGRAM) as client:
-            client.settimeout(PATIENCE)
-            client.connect((host, case.server.port))
-            client.send(sent.message)
-            reply = client.recv(65_535)
-            case.tell(f"over {host}", (said(sent, reply), sender(reply)), (CHANGED, host))
-    case.tell_end("entries 2 changes 2")
+    def test_a_wildcard_and_an_address(self):
+        without_a_trace(self, twice_taken)
 
+    def test_a_port_in_use_over_TCP(self):
+        without_a_trace(self, in_use(socket.SOCK_STREAM))
 
-def tickets(case):
-    """A ticket that names ::1 is taken from there alone; one that names 127.0.0.1 in sixteen bytes, from nowhere."""
-    begin(case, 4, *BOTH)
-    own = ipaddress.ip_address("::1").packed
-    mapped = ipaddress.ip_address("::ffff:127.0.0.1").packed
-    asked = [("::1", own, CHANGED), ("127.0.0.1", own, ELSEWHERE), ("127.0.0.1", mapped, ELSEWHERE), ("::1", 1, ELSEWHERE)]
-    for number, (host, address, wanted) in enumerate(asked):
-        sent = request_now("alice", f"New-pass{number}", 7 + number, addresses=[address])
-        case.tell(f"from {host}", case.client(host=host).ask(sent), wanted)
-    case.tell_end("entries 1 changes 1")
+    def test_a_port_in_use_over_UDP(self):
+        without_a_trace(self, in_use(socket.SOCK_DGRAM))
 
+    def test_both_families(self):
+        """Clients over TCP, each by one family; the reply has the address that was asked, the log where each came from."""
+        begin(self, 2, *BOTH, options=["--log", str(self.server.journal.with_name("log"))])
+        tell_changes(self)
+        self.tell_end("entries 2 changes 2")
+        self.tell("the log has the peers", peers(self), list(BOTH))
 
-def wildcards(case):
-    """`::` takes clients of both families. Each has its own address in the log, and the one that it asked in the reply: no mapped
-    ones."""
-    begin(case, 2, "::", options=["--log", str(case.server.journal.with_name("log"))])
-    tell_changes(case)
-    case.tell_end("entries 2 changes 2")
-    case.tell("the log has the peers", peers(case), list(BOTH))
+    def test_datagrams_of_both_families(self):
+        """The same over UDP: a client's socket takes a datagram from the address alone that it asked."""
+        begin(self, 2, *BOTH, options=["--udp"])
+        for sent, host in zip(both_requests(), BOTH):
+            family = socket.AF_INET6 if ":" in host else socket.AF_INET
+            with socket.socket(family, socket.SOCK_DGRAM) as client:
+                client.settimeout(PATIENCE)
+                client.connect((host, self.server.port))
+                client.send(sent.message)
+                reply = client.recv(65_535)
+                self.tell(f"over {host}", (said(sent, reply), sender(reply)), (CHANGED, host))
+        self.tell_end("entries 2 changes 2")
 
+    def test_tickets_with_addresses(self):
+        """A ticket that names ::1 is taken from there alone; one that names 127.0.0.1 in sixteen bytes, from nowhere."""
+        begin(self, 4, *BOTH)
+        own = ipaddress.ip_address("::1").packed
+        mapped = ipaddress.ip_address("::ffff:127.0.0.1").packed
+        asked = [("::1", own, CHANGED), ("127.0.0.1", own, ELSEWHERE), ("127.0.0.1", mapped, ELSEWHERE), ("::1", 1, ELSEWHERE)]
+        for number, (host, address, wanted) in enumerate(asked):
+            sent = request_now("alice", f"New-pass{number}", 7 + number, addresses=[address])
+            self.tell(f"from {host}", self.client(host=host).ask(sent), wanted)
+        self.tell_end("entries 1 changes 1")
 
-def in_turn(case):
-    """A crowd at one address keeps nobody out at the other."""
-    begin(case, 201, *BOTH)
-    crowd = [Client(case.server) for _ in range(200)]
-    alice, _ = both_requests()
-    case.tell("behind 200 at the other", case.client(host="::1").ask(alice), CHANGED)
-    for client in crowd:
-        client.close()
-    case.tell_end("entries 1 changes 1")
+    def test_the_wildcard_of_IPv6(self):
+        """`::` takes clients of both families. Each has its own address in the log, and the one that it asked in the reply: no mapped
+        ones."""
+        begin(self, 2, "::", options=["--log", str(self.server.journal.with_name("log"))])
+        tell_changes(self)
+        self.tell_end("entries 2 changes 2")
+        self.tell("the log has the peers", peers(self), list(BOTH))
 
+    def test_a_crowd_at_one_of_two_addresses(self):
+        """A crowd at one address keeps nobody out at the other."""
+        begin(self, 201, *BOTH)
+        crowd = [Client(self.server) for _ in range(200)]
+        alice, _ = both_requests()
+        self.tell("behind 200 at the other", self.client(host="::1").ask(alice), CHANGED)
+        for client in crowd:
+            client.close()
+        self.tell_end("entries 1 changes 1")
 
-CASES = [
-    ("addresses that are refused", without_a_trace(refused)),
-    ("addresses of no interface", without_a_trace(nowhere)),
-    ("a wildcard and an address", without_a_trace(twice_taken)),
-    ("a port in use over TCP", in_use(socket.SOCK_STREAM)),
-    ("a port in use over UDP", in_use(socket.SOCK_DGRAM)),
-    ("both families", both_families),
-    ("datagrams of both families", datagrams),
-    ("tickets with addresses", tickets),
-    ("the wildcard of IPv6", wildcards),
-    ("a crowd at one of two addresses", in_turn),
-]
 
 if __name__ == "__main__":
-    sys.exit(run(__doc__, CASES))
+    main(__doc__)

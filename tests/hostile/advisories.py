@@ -8,13 +8,13 @@ The requests are those of harness/crafting.py; each case ends with a change that
 
 import dataclasses
 import socket
-import sys
 import time
 
 from harness import wire
+from harness.cases import main
 from harness.asking import elements, request_now, said
 from harness.crafting import Draft, over_tcp, told
-from harness.serving import CHANGED, NO_REQUEST, PATIENCE, run
+from harness.serving import CHANGED, NO_REQUEST, PATIENCE, ServiceCase
 
 MALFORMED, BAD_VERSION = "code 1 error 60", "code 6 error 60"
 BAD_TICKET = BAD_AUTHENTICATOR = "code 3 error 31"
@@ -67,26 +67,23 @@ def nested_without_lengths(length):
     return b"\x30\x80" * count + b"\0\0" * count
 
 
-def deep(form):
-    def body(case):
-        begin(case)
-        long, sealed = form(LONG), form(SEALED)
-        ask(case, "in place of the AP-REQ", MALFORMED, ap_cut=lambda _: long)
-        ask(case, "in it", MALFORMED, ap_cut=lambda _: wire.application(14, long))
-        ask(case, "in place of its ticket", MALFORMED, ap_cut=lambda message: with_field(message, 3, long))
-        ask(case, "in the ticket's sealed part", BAD_TICKET, tkt_inner=wire.application(3, sealed))
-        ask(case, "in the authenticator", BAD_AUTHENTICATOR, auth_inner=wire.application(2, sealed))
-        for number, plain, part in ((10, "tkt_inner", 0), (8, "auth_inner", 1)):
-            inner = with_field(plains(draft(case))[part], number, sealed)
-            ask(case, f"as authorization data, {plain}", BAD_TICKET, **{plain: inner})
-        ask(case, "in place of the KRB-PRIV", BAD_BODY, priv_cut=lambda _: long)
-        ask(case, "in it", BAD_BODY, priv_cut=lambda _: wire.application(21, long))
-        ask(case, "in its sealed part", BAD_BODY, priv_inner=wire.application(28, sealed))
-        ask(case, "as the ChangePasswdData", BAD_BODY, data=sealed)
-        ask(case, "in a field behind its own, which is skipped", DONE, more=wire.field(3, sealed))
-        go_on(case)
-
-    return body
+def deep(case, form):
+    begin(case)
+    long, sealed = form(LONG), form(SEALED)
+    ask(case, "in place of the AP-REQ", MALFORMED, ap_cut=lambda _: long)
+    ask(case, "in it", MALFORMED, ap_cut=lambda _: wire.application(14, long))
+    ask(case, "in place of its ticket", MALFORMED, ap_cut=lambda message: with_field(message, 3, long))
+    ask(case, "in the ticket's sealed part", BAD_TICKET, tkt_inner=wire.application(3, sealed))
+    ask(case, "in the authenticator", BAD_AUTHENTICATOR, auth_inner=wire.application(2, sealed))
+    for number, plain, part in ((10, "tkt_inner", 0), (8, "auth_inner", 1)):
+        inner = with_field(plains(draft(case))[part], number, sealed)
+        ask(case, f"as authorization data, {plain}", BAD_TICKET, **{plain: inner})
+    ask(case, "in place of the KRB-PRIV", BAD_BODY, priv_cut=lambda _: long)
+    ask(case, "in it", BAD_BODY, priv_cut=lambda _: wire.application(21, long))
+    ask(case, "in its sealed part", BAD_BODY, priv_inner=wire.application(28, sealed))
+    ask(case, "as the ChangePasswdData", BAD_BODY, data=sealed)
+    ask(case, "in a field behind its own, which is skipped", DONE, more=wire.field(3, sealed))
+    go_on(case)
 
 
 # ---- messages that can't be read behind a field that could
@@ -131,24 +128,6 @@ def spoiled(message):
         yield f"field {number - 0xA0}", put_together(tag, [*fields[:place], (number, NULL), *fields[place + 1 :]])
 
 
-def unreadable(case):
-    begin(case)
-    it = draft(case)
-    of_ticket, of_authenticator, of_private = plains(it)
-    for what, message, change, wanted in (
-        ("AP-REQ", it.ap_req(), "ap_cut", MALFORMED), ("EncTicketPart", of_ticket, "tkt_inner", BAD_TICKET),
-        ("Authenticator", of_authenticator, "auth_inner", BAD_AUTHENTICATOR), ("KRB-PRIV", it.krb_priv(), "priv_cut", BAD_BODY),
-        ("EncKrbPrivPart", of_private, "priv_inner", BAD_BODY),
-    ):
-        for where, bytes_ in spoiled(message):
-            value = (lambda _, b=bytes_: b) if change.endswith("_cut") else bytes_
-            ask(case, f"{what}, {where}", wanted, **{change: value})
-    for where, bytes_ in spoiled(wire.application(0, it.user_data())):
-        [(_, data)] = elements(bytes_)
-        ask(case, f"ChangePasswdData, {where}", BAD_BODY, data=data)
-    go_on(case)
-
-
 # ---- times that are none
 
 
@@ -157,54 +136,10 @@ TIMES = [
 ] + [b"\x18\x80", b"\x18\x0f2026", b"\x18\x84\xff\xff\xff\xff", wire.tlv(0x17, b"20260101000000Z")]
 
 
-def times(case):
-    begin(case)
-    of_ticket, of_authenticator, of_private = plains(draft(case))
-    ask(case, "the ticket's times as they should be", DONE, tkt_inner=of_ticket)
-    ask(case, "the KRB-PRIV without a time", DONE, priv_inner=of_private)
-    for time_ in TIMES:
-        what = time_[:17].hex()
-        for number in (5, 6, 7, 8):
-            ask(case, f"{what} of the ticket ({number})", BAD_TICKET, tkt_inner=with_field(of_ticket, number, time_))
-        ask(case, f"{what} of the authenticator", BAD_AUTHENTICATOR, auth_inner=with_field(of_authenticator, 5, time_))
-        ask(case, f"{what} of the KRB-PRIV", BAD_BODY, priv_inner=with_field(of_private, 1, time_))
-    go_on(case)
-
-
 # ---- requests that fail at each check
 
 
-def each_check(case):
-    begin(case)
-    for what, wanted, changes in (
-        ("no length", MALFORMED, {"cut": lambda _: b""}),
-        ("another length", MALFORMED, {"longer": 1}),
-        ("another version", BAD_VERSION, {"version": 2}),
-        ("no AP-REQ", MALFORMED, {"ap_length": lambda *_: 0}),
-        ("an AP-REQ that reaches past the end", MALFORMED, {"ap_length": lambda ap, private: len(ap) + len(private) + 1}),
-        ("an AP-REQ that isn't whole", MALFORMED, {"ap_length": lambda ap, _: len(ap) - 1}),
-        ("nothing behind it", BAD_BODY, {"priv_cut": lambda _: b""}),
-        ("a KRB-PRIV under another key", "code 3", {"priv_key": b"\x45" * 32}),
-        ("a KRB-PRIV that isn't sealed", "code 3", {"priv_open": True}),
-    ):
-        ask(case, what, wanted, **changes)
-    go_on(case)
-
-
 # ---- tickets under keys that aren't the service's
-
-
-def other_keys(case):
-    """The service knows the keys of each user, and makes a session's; a ticket under one of them is none, whatever name
-    and version it has."""
-    begin(case)
-    for what, key in (("a user's key", OF_USERS), ("the session's key", wire.SESSION)):
-        ask(case, f"{what}, with the service's version", BAD_TICKET, tkt_key=key)
-        ask(case, f"{what}, with its own version", NO_KEY, tkt_key=key, tkt_kvno=1)
-        ask(case, f"{what}, without a version", BAD_TICKET, tkt_key=key, tkt_kvno=None)
-        ask(case, f"{what}, in the user's name", NOT_US, tkt_key=key, sname=(b"bob",))
-        ask(case, f"{what}, in the KDC's name", NOT_US, tkt_key=key, sname=(b"krbtgt", wire.REALM))
-    go_on(case)
 
 
 # ---- what it answers comes back
@@ -222,38 +157,93 @@ def answer_at(address, port, server, message, seconds=A_WHILE):
             return None
 
 
-def to_itself(case):
-    """An error, an answer, or even a request from the port of such a service gets no answer; from any other it does."""
-    begin(case, options=["--udp"])
-    alice, bob = request_now("alice", "New-pass2", 1), request_now("bob", "New-pass2", 1)
-    answer = answer_at("127.0.0.1", 0, case.server, alice.message, PATIENCE)
-    case.tell("a change", said(alice, answer), CHANGED)
-    error = wire.error_reply(1, 60, b"malformed", alice.ctime)
-    for what, message in (("an error", error), ("a bare error", error[6:]), ("a frame without a request", NO_REQUEST)):
-        case.tell(what, answer_at("127.0.0.1", 0, case.server, message), None)
-    ports = [case.server.port]
-    try:
-        answer_at("127.0.0.2", 464, case.server, error)
-        ports.append(464)
-    except OSError:
-        case.tell("port 464 can't be had", True, True)
-    for port in ports:
-        for what, message in (("an error", error), ("its own answer", answer), ("a request", bob.message)):
-            where = "464" if port == 464 else "its own port"
-            case.tell(f"{what} from {where}", answer_at("127.0.0.2", port, case.server, message), None)
-    answer = answer_at("127.0.0.2", 0, case.server, bob.message, PATIENCE)
-    case.tell("the same request from another one", said(bob, answer), CHANGED)
+class Advisories(ServiceCase):
+    def test_values_within_values(self):
+        deep(self, nested)
 
+    def test_values_within_values_without_lengths(self):
+        deep(self, nested_without_lengths)
 
-CASES = [
-    ("values within values", deep(nested)),
-    ("values within values without lengths", deep(nested_without_lengths)),
-    ("messages unreadable in each field", unreadable),
-    ("times that are none", times),
-    ("a request that fails at each check", each_check),
-    ("tickets under other keys", other_keys),
-    ("what it answers comes back", to_itself),
-]
+    def test_messages_unreadable_in_each_field(self):
+        begin(self)
+        it = draft(self)
+        of_ticket, of_authenticator, of_private = plains(it)
+        for what, message, change, wanted in (
+            ("AP-REQ", it.ap_req(), "ap_cut", MALFORMED), ("EncTicketPart", of_ticket, "tkt_inner", BAD_TICKET),
+            ("Authenticator", of_authenticator, "auth_inner", BAD_AUTHENTICATOR), ("KRB-PRIV", it.krb_priv(), "priv_cut", BAD_BODY),
+            ("EncKrbPrivPart", of_private, "priv_inner", BAD_BODY),
+        ):
+            for where, bytes_ in spoiled(message):
+                value = (lambda _, b=bytes_: b) if change.endswith("_cut") else bytes_
+                ask(self, f"{what}, {where}", wanted, **{change: value})
+        for where, bytes_ in spoiled(wire.application(0, it.user_data())):
+            [(_, data)] = elements(bytes_)
+            ask(self, f"ChangePasswdData, {where}", BAD_BODY, data=data)
+        go_on(self)
+
+    def test_times_that_are_none(self):
+        begin(self)
+        of_ticket, of_authenticator, of_private = plains(draft(self))
+        ask(self, "the ticket's times as they should be", DONE, tkt_inner=of_ticket)
+        ask(self, "the KRB-PRIV without a time", DONE, priv_inner=of_private)
+        for time_ in TIMES:
+            what = time_[:17].hex()
+            for number in (5, 6, 7, 8):
+                ask(self, f"{what} of the ticket ({number})", BAD_TICKET, tkt_inner=with_field(of_ticket, number, time_))
+            ask(self, f"{what} of the authenticator", BAD_AUTHENTICATOR, auth_inner=with_field(of_authenticator, 5, time_))
+            ask(self, f"{what} of the KRB-PRIV", BAD_BODY, priv_inner=with_field(of_private, 1, time_))
+        go_on(self)
+
+    def test_a_request_that_fails_at_each_check(self):
+        begin(self)
+        for what, wanted, changes in (
+            ("no length", MALFORMED, {"cut": lambda _: b""}),
+            ("another length", MALFORMED, {"longer": 1}),
+            ("another version", BAD_VERSION, {"version": 2}),
+            ("no AP-REQ", MALFORMED, {"ap_length": lambda *_: 0}),
+            ("an AP-REQ that reaches past the end", MALFORMED, {"ap_length": lambda ap, private: len(ap) + len(private) + 1}),
+            ("an AP-REQ that isn't whole", MALFORMED, {"ap_length": lambda ap, _: len(ap) - 1}),
+            ("nothing behind it", BAD_BODY, {"priv_cut": lambda _: b""}),
+            ("a KRB-PRIV under another key", "code 3", {"priv_key": b"\x45" * 32}),
+            ("a KRB-PRIV that isn't sealed", "code 3", {"priv_open": True}),
+        ):
+            ask(self, what, wanted, **changes)
+        go_on(self)
+
+    def test_tickets_under_other_keys(self):
+        """The service knows the keys of each user, and makes a session's; a ticket under one of them is none, whatever name
+        and version it has."""
+        begin(self)
+        for what, key in (("a user's key", OF_USERS), ("the session's key", wire.SESSION)):
+            ask(self, f"{what}, with the service's version", BAD_TICKET, tkt_key=key)
+            ask(self, f"{what}, with its own version", NO_KEY, tkt_key=key, tkt_kvno=1)
+            ask(self, f"{what}, without a version", BAD_TICKET, tkt_key=key, tkt_kvno=None)
+            ask(self, f"{what}, in the user's name", NOT_US, tkt_key=key, sname=(b"bob",))
+            ask(self, f"{what}, in the KDC's name", NOT_US, tkt_key=key, sname=(b"krbtgt", wire.REALM))
+        go_on(self)
+
+    def test_what_it_answers_comes_back(self):
+        """An error, an answer, or even a request from the port of such a service gets no answer; from any other it does."""
+        begin(self, options=["--udp"])
+        alice, bob = request_now("alice", "New-pass2", 1), request_now("bob", "New-pass2", 1)
+        answer = answer_at("127.0.0.1", 0, self.server, alice.message, PATIENCE)
+        self.tell("a change", said(alice, answer), CHANGED)
+        error = wire.error_reply(1, 60, b"malformed", alice.ctime)
+        for what, message in (("an error", error), ("a bare error", error[6:]), ("a frame without a request", NO_REQUEST)):
+            self.tell(what, answer_at("127.0.0.1", 0, self.server, message), None)
+        ports = [self.server.port]
+        try:
+            answer_at("127.0.0.2", 464, self.server, error)
+            ports.append(464)
+        except OSError:
+            self.tell("port 464 can't be had", True, True)
+        for port in ports:
+            for what, message in (("an error", error), ("its own answer", answer), ("a request", bob.message)):
+                where = "464" if port == 464 else "its own port"
+                self.tell(f"{what} from {where}", answer_at("127.0.0.2", port, self.server, message), None)
+        answer = answer_at("127.0.0.2", 0, self.server, bob.message, PATIENCE)
+        self.tell("the same request from another one", said(bob, answer), CHANGED)
+
 
 if __name__ == "__main__":
-    sys.exit(run(__doc__, CASES))
+    main(__doc__)

@@ -5,10 +5,10 @@ before it misspeaks doesn't help. After one with a list that ends otherwise the 
 owes an answer is given up after thirty seconds without a line of it; `changed` is none.
 """
 
-import sys
 
+from harness.cases import main, named
 from harness.false_agent import Agent
-from harness.serving import CHANGED, Watch, both_requests, run
+from harness.serving import CHANGED, Watch, both_requests, ServiceCase
 
 WAIT = 300  # milliseconds that a reply waits
 # seconds in which calls are counted, and how many there are: at once, then after pauses of 0.1, 0.2, 0.4, 0.8 and 1.6 seconds
@@ -35,29 +35,17 @@ def tell_end(case, client, is_misspoken):
     case.tell("status", status, 0)
 
 
-def seldom(ending, has_listed, is_misspoken):
+def seldom(case, ending, has_listed, is_misspoken):
     """The agent answers each list or not, and ends the connection like this."""
-    def body(case):
-        # beside a connection the service looks ten times a second whether it is to call
-        agent, client, watch, calls = start(case), case.client(), Watch(), 0
-        while watch.spent() < COUNTED:
-            with agent.in_step() if has_listed else agent.called() as link:
-                calls += watch.spent() < COUNTED
-                ending(case, link)
-        agent.end()
-        case.tell(f"calls in {COUNTED} s ({calls})", calls in CALLS, True)
-        tell_end(case, client, is_misspoken)
-    return body
-
-
-def often(case):
-    """The agent answers each list, and hangs up."""
-    agent, client, watch = start(case), case.client(), Watch()
-    for _ in range(OFTEN):
-        agent.in_step().end()
-    case.tell_within(COUNTED, watch)
+    # beside a connection the service looks ten times a second whether it is to call
+    agent, client, watch, calls = start(case), case.client(), Watch(), 0
+    while watch.spent() < COUNTED:
+        with agent.in_step() if has_listed else agent.called() as link:
+            calls += watch.spent() < COUNTED
+            ending(case, link)
     agent.end()
-    tell_end(case, client, False)
+    case.tell(f"calls in {COUNTED} s ({calls})", calls in CALLS, True)
+    tell_end(case, client, is_misspoken)
 
 
 def misspeaking(case, link):
@@ -67,38 +55,6 @@ def misspeaking(case, link):
 
 def hanging_up(_case, link):
     link.end()
-
-
-def behaving_again(case):
-    """The pauses have grown; after a connection with a list and without a fault the agent is called sooner."""
-    agent, client = start(case), case.client()
-    for _ in range(3):
-        with agent.in_step() as link:
-            misspeaking(case, link)
-    watch = Watch()
-    with agent.in_step() as link:
-        case.tell(f"the pause before ({watch.spent():.2f} s)", watch.spent() > 0.3, True)
-        link.say("changed\n")
-        link.is_asked("list keys")
-        link.end()
-    watch = Watch()
-    with agent.in_step():
-        case.tell_within(SOON, watch)
-        agent.end()
-    tell_end(case, client, True)
-
-
-def owing(case):
-    """The agent says each second that something changed, and never answers."""
-    agent = start(case)
-    with agent.called() as link:
-        watch = Watch()
-        link.connection.settimeout(1)
-        while watch.spent() < LATER and not is_given_up(link):
-            link.say("changed\n")
-        agent.end()
-    case.tell(f"given up after 30 s ({watch.spent():.1f})", ANSWER_TIME - 1 < watch.spent() < LATER, True)
-    tell_end(case, case.client(), True)
 
 
 def is_given_up(link):
@@ -111,13 +67,53 @@ def is_given_up(link):
         return True
 
 
-CASES = [
-    ("an agent that misspeaks behind each list", seldom(misspeaking, True, True)),
-    ("an agent that hangs up before each list", seldom(hanging_up, False, False)),
-    ("an agent that hangs up behind each list", often),
-    ("an agent that behaves again", behaving_again),
-    ("an agent that says that something changed, and no answer", owing),
-]
+class AgentCalls(ServiceCase):
+    def test_an_agent_that_misspeaks_behind_each_list(self):
+        seldom(self, misspeaking, True, True)
+
+    def test_an_agent_that_hangs_up_before_each_list(self):
+        seldom(self, hanging_up, False, False)
+
+    def test_an_agent_that_hangs_up_behind_each_list(self):
+        """The agent answers each list, and hangs up."""
+        agent, client, watch = start(self), self.client(), Watch()
+        for _ in range(OFTEN):
+            agent.in_step().end()
+        self.tell_within(COUNTED, watch)
+        agent.end()
+        tell_end(self, client, False)
+
+    def test_an_agent_that_behaves_again(self):
+        """The pauses have grown; after a connection with a list and without a fault the agent is called sooner."""
+        agent, client = start(self), self.client()
+        for _ in range(3):
+            with agent.in_step() as link:
+                misspeaking(self, link)
+        watch = Watch()
+        with agent.in_step() as link:
+            self.tell(f"the pause before ({watch.spent():.2f} s)", watch.spent() > 0.3, True)
+            link.say("changed\n")
+            link.is_asked("list keys")
+            link.end()
+        watch = Watch()
+        with agent.in_step():
+            self.tell_within(SOON, watch)
+            agent.end()
+        tell_end(self, client, True)
+
+    @named("an agent that says that something changed, and no answer")
+    def test_an_agent_that_says_that_something_changed_and_no_answer(self):
+        """The agent says each second that something changed, and never answers."""
+        agent = start(self)
+        with agent.called() as link:
+            watch = Watch()
+            link.connection.settimeout(1)
+            while watch.spent() < LATER and not is_given_up(link):
+                link.say("changed\n")
+            agent.end()
+        self.tell(f"given up after 30 s ({watch.spent():.1f})", ANSWER_TIME - 1 < watch.spent() < LATER, True)
+        tell_end(self, self.client(), True)
+
 
 if __name__ == "__main__":
-    sys.exit(run(__doc__, CASES))
+    main(__doc__)

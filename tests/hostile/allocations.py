@@ -17,8 +17,6 @@ import subprocess
 import sys
 import tempfile
 
-HERE = pathlib.Path(__file__).resolve().parent
-
 from harness.command import TOP, Parser
 
 CRATE = TOP / "crates/cases_allocations"
@@ -42,7 +40,7 @@ def library(folder):
     """The library that refuses an allocation, made by gcc."""
     made = f"{folder}/refusing.so"
     words = ["gcc", "-std=gnu11", "-O1", "-Wall", "-shared", "-fPIC", "-o", made]
-    subprocess.run([*words, HERE / "refusing.c"], check=True)
+    subprocess.run([*words, pathlib.Path(__file__).with_name("refusing.c")], check=True)
     return made
 
 

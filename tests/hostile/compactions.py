@@ -12,10 +12,10 @@ import os
 import pathlib
 import stat
 import subprocess
-import sys
 import threading
 import time
 
+from harness.cases import main, named
 from harness.asking import request_now
 from harness.controlling import OK, Caller, ask, entries_of, rewrite, start, status, tell_end, tell_stop, told, written
 from harness.false_agent import Agent, hexed
@@ -23,7 +23,7 @@ from harness.journal import Base, Raise, Realm, read_journal, realm_record
 from harness.kept import keys_of
 from harness.killing import QUIET, killed_amid
 from harness.server import private
-from harness.serving import CHANGED, REPLAYED, START, Client, SetClock, request, run
+from harness.serving import CHANGED, REPLAYED, START, Client, SetClock, request, ServiceCase
 
 USED = "code 4 password used before"
 FULL = "code 2 error 60 history full"
@@ -108,100 +108,10 @@ def made(case):
     case.tell("the copy alone", keys, [line for line in held.splitlines() if line.startswith("alice")])
 
 
-def named(case):
-    """A journal that begins with the record of its realm keeps it, and its history goes on behind."""
-    record, clock, late = realm_record("EXAMPLE.COM"), SetClock(case.folder), START + QUIET + 1
-    private(case.server.journal).write_bytes(record)
-    start(case, CLOCK=clock.file)
-    clock.set(late)
-    client = case.client()
-    for turn in range(5):
-        case.tell("a change", client.ask(request("alice", late, f"Pass-{turn}", turn)), CHANGED)
-    held = table(case, "--as", "keys")
-    case.tell("compact", told(case, "compact", "copy"), (OK, 0))
-    case.tell("one more change", client.ask(request("bob", late, "Pass-9", 12)), CHANGED)
-    records, torn = read_journal(case.server.journal.read_bytes())
-    case.tell("its records", (records[0], len(records), torn), (Realm("EXAMPLE.COM"), 5, b""))
-    case.tell("what is held", [line for line in table(case, "--as", "keys").splitlines() if line.startswith("alice")],
-              [line for line in held.splitlines() if line.startswith("alice")])
-    case.tell("reload", told(case, "reload"), (OK, 0))
-    tell_stop(case)
-
-
 def table_of_copy(case):
     """Alice's keys, by the copy and an empty journal."""
     private(case.server.journal)
     return [line for line in table(case, "--as", "keys").splitlines() if line.startswith("alice")]
-
-
-def refused(case):
-    """Where there is no copy, or no journal, all stays as it was, and no file is left."""
-    start(case)
-    client = case.client()
-    grow(case, client)
-    before = case.server.journal.read_bytes()
-    (case.folder / "there").write_text("kept")
-    folder = pathlib.Path(f"{case.server.journal}.new")
-    folder.mkdir()
-    for name, answer in (
-        ("there", "error: cannot write there\n"),
-        ("missing/copy", "error: cannot write missing/copy\n"),
-        ("copy", f"error: cannot write {case.server.journal}\n"),
-    ):
-        case.tell(name, told(case, "compact", name), (answer, 1))
-        case.tell("  what is left", left(case, before), (True, False))
-    case.tell("what was there", (case.folder / "there").read_text(), "kept")
-    folder.rmdir()
-    answer = (f"error: cannot write {case.server.journal}\n", 1)
-    case.tell("a copy in its way", told(case, "compact", f"{case.server.journal}.new"), answer)
-    case.tell("  what is left", (left(case, before)[0], beside(case)), (True, False))
-    case.server.configuration.unlink()
-    answer = f"error: cannot read {case.server.configuration}\n"
-    case.tell("no configuration", told(case, "compact", "copy"), (answer, 1))
-    case.tell("it goes on", client.ask(request_now("alice", "Pass-9", 9)), CHANGED)
-    case.tell("behind the former records", records_of(case), [("change", "alice", 2 + turn) for turn in range(DEPTH + 2)])
-    tell_stop(case)
-
-
-def changed_file(case):
-    """A configuration with other text than the start or the last reload read is to be reloaded first, whatever is other in
-    it; also one that can't be, or that has a fault. With the former text it is the one in force again."""
-    start(case)
-    client = case.client()
-    grow(case, client)
-    before = case.server.journal.read_bytes()
-    former = case.server.configuration.read_text()
-    carol = ["alice", "bob", "carol"]
-    for what, names, change in (
-        ("other keys", ["alice", "bob"], [("kvno = 1", "kvno = 9")]),
-        ("no bob", ["alice"], []),
-        ("no such principal", ["bob"], []),
-        ("other service keys", ["alice", "bob"], [("kvno = 3", "kvno = 7")]),
-        ("another rule", ["alice", "bob"], [("min_length = 6", "min_length = 7")]),
-        ("another realm", carol, [("EXAMPLE.COM", "EXAMPLE.ORG")]),
-        ("a fault", carol, [("depth = 3", "depth = -1")]),
-        ("a comment", ["alice", "bob"], [("realm", "# ours\nrealm")]),
-    ):
-        case.server.configuration.write_text(only_first(former, names, change))
-        case.tell(what, told(case, "compact", "copy"), CHANGED_FILE)
-        case.tell("  what is left", left(case, before), (True, False))
-    case.server.configuration.write_text(former)
-    for number, (what, names, change) in enumerate((
-        ("one more", carol, []),
-        ("another depth", carol, [("depth = 3", "depth = 2")]),
-        ("a greater count", carol, [("iterations = 4\nset", "iterations = 5\nset")]),
-    ), 1):
-        rewrite(case, names, change)
-        case.tell(what, told(case, "compact", "copy"), CHANGED_FILE)
-        case.tell("  what is left", left(case, before), (True, False))
-        case.tell("  reload", ask(case, "reload").splitlines()[-1:], ["ok"])
-        case.tell("  compact", told(case, "compact", "copy"), (OK, 0))
-        (case.folder / "copy").unlink()
-        grow(case, client, first=20 * number)
-        before = case.server.journal.read_bytes()
-    case.tell("the former file again", (case.server.configuration.write_text(former) > 0, told(case, "compact", "copy")),
-              (True, CHANGED_FILE))
-    tell_stop(case)
 
 
 def only_first(former, names, change):
@@ -212,179 +122,6 @@ def only_first(former, names, change):
         text = text.replace(old, new, 1)
     assert text != former
     return text
-
-
-def no_gain(case):
-    """Where a compact journal would have as many bytes as the present one, or more, it isn't made."""
-    start(case)
-    client = case.client()
-    before = case.server.journal.read_bytes()
-    for number in range(1, DEPTH + 2):
-        case.tell("compact", told(case, "compact", "copy"), (NO_GAIN, 1))
-        case.tell("  what is left", (*left(case, before), beside(case)), (True, False, False))
-        case.tell("a change", client.ask(request_now("alice", f"Pass-{number}", number)), CHANGED)
-        before = case.server.journal.read_bytes()
-    case.tell("compact", told(case, "compact", "copy"), (OK, 0))
-    case.tell("it is shorter", case.server.journal.stat().st_size < len(before), True)
-    before = case.server.journal.read_bytes()
-    case.tell("once more", told(case, "compact", "again"), (NO_GAIN, 1))
-    case.tell("what is left", (left(case, before)[0], (case.folder / "again").exists()), (True, False))
-    case.tell("one more", client.ask(request_now("alice", "Pass-20", 20)), CHANGED)
-    tell_stop(case)
-
-
-def unsynced(case):
-    """A folder that can't be synced: for the copy and for the compact journal beside the present one all stays as it was;
-    behind the rename no further change is taken, and the next start finds what was held."""
-    # the first sync is that of the journal's own name
-    for number, name, is_left, then in (
-        (2, "copy", False, CHANGED), (3, case.server.journal, False, CHANGED), (4, case.server.journal, True, FAILED),
-    ):
-        case.server.journal.unlink(missing_ok=True)
-        start(case, FOLDERS=number)
-        client = case.client()
-        grow(case, client, 10 * number)
-        held = table(case, "--as", "keys")
-        case.tell("  compact", told(case, "compact", "copy"), (f"error: cannot write {name}\n", 1))
-        case.tell("  what is left", ((case.folder / "copy").exists(), beside(case)), (is_left, False))
-        case.tell("  one more", client.ask(request_now("alice", "Pass-1", 9 + 10 * number)), then)
-        case.tell("  how it stands", status(case)["journal"], "good" if then == CHANGED else "failed: its name may be lost")
-        if then == FAILED:
-            case.tell("  compact behind that", told(case, "compact", "other"), ("error: journal failed\n", 1))
-            case.tell("  its copy", (case.folder / "other").exists(), False)
-        tell_stop(case)
-    case.tell("behind a restart", table(case, "--as", "keys"), held)
-
-
-def unmade(case):
-    """Where the copy can't be synced, or the compact journal not be synced or renamed, the caller is told so, the journal
-    stays as it was, nothing is left, and changes go on. A later compact journal is made."""
-    # the syncs before are those of the changes, and behind them that of the copy
-    made = DEPTH + 1
-    for number, (fault, name) in enumerate((
-        (f"sync {made + 1} 5", "copy"), (f"sync {made + 2} 28", case.server.journal), ("rename 1 5", case.server.journal),
-    ), 1):
-        case.server.journal.unlink(missing_ok=True)
-        start(case, FAILS=fault)
-        client = case.client()
-        grow(case, client, 10 * number)
-        before = case.server.journal.read_bytes()
-        case.tell(fault, told(case, "compact", "copy"), (f"error: cannot write {name}\n", 1))
-        case.tell("  what is left", (*left(case, before), beside(case)), (True, False, False))
-        case.tell("  one more", client.ask(request_now("alice", "Pass-1", 9 + 10 * number)), CHANGED)
-        case.tell("  compact behind that", told(case, "compact", "copy"), (OK, 0))
-        (case.folder / "copy").unlink()
-        tell_stop(case)
-
-
-def synced_folders(case):
-    """What is synced is the folder of the file that is new there: the journal's, the copy's, and the journal's again for
-    the compact one beside it and for its rename."""
-    here = pathlib.Path(os.path.realpath(case.folder))
-    for name in "below", "away":
-        (here / name).mkdir()
-    case.server.journal = here / "below/journal"
-    start(case, SYNCED="synced")
-    grow(case, case.client())
-    case.tell("compact", told(case, "compact", "away/copy"), (OK, 0))
-    tell_stop(case)
-    wanted = [here / name for name in ("below", "away", "below", "below")]
-    case.tell("folders", (here / "synced").read_text().splitlines(), list(map(str, wanted)))
-    (here / "synced").unlink()
-    case.server.journal = pathlib.Path("journal")
-    start(case, SYNCED="synced")
-    tell_stop(case)
-    case.tell("the folder of a bare name", (here / "synced").read_text().splitlines(), [str(here)])
-
-
-def confirmed_again(case):
-    """A compact journal changes nothing at the KDC: the next change goes there over the same connection, and isn't answered
-    before."""
-    agent = Agent(case)
-    start(case, options=agent.options(60_000))
-    client = case.client()
-    sent = [request_now("alice", f"Pass-{turn}", 1 + turn) for turn in range(DEPTH + 2)]
-    with agent.in_step() as link:
-        for turn in range(DEPTH + 1):
-            client.send(sent[turn])
-            link.confirm("alice", 2 + turn, f"Pass-{turn}")
-            case.tell("a change", client.told(sent[turn]), CHANGED)
-        case.tell("compact", told(case, "compact", "copy"), (OK, 0))
-        client.send(sent[-1])
-        link.is_to_put("alice", DEPTH + 3, f"Pass-{DEPTH + 1}")
-        case.tell("no reply yet", client.is_silent(), True)
-        link.say(f"put {hexed('alice')} {DEPTH + 3}\n")
-        case.tell("the reply", client.told(sent[-1]), CHANGED)
-        tell_stop(case)
-
-
-def behind_replies(case):
-    """A compact journal while a reply waits for the KDC: the reply waits on, and comes when the KDC has the change."""
-    agent = Agent(case)
-    start(case, options=agent.options(60_000))
-    client = case.client()
-    sent = [request_now("alice", f"Pass-{turn}", 1 + turn) for turn in range(DEPTH + 1)]
-    with agent.in_step() as link:
-        for turn in range(DEPTH):
-            client.send(sent[turn])
-            link.confirm("alice", 2 + turn, f"Pass-{turn}")
-            case.tell("a change", client.told(sent[turn]), CHANGED)
-        client.send(sent[-1])
-        link.is_to_put("alice", DEPTH + 2, f"Pass-{DEPTH}")
-        case.tell("compact", told(case, "compact", "copy"), (OK, 0))
-        case.tell("no reply yet", client.is_silent(), True)
-        link.say(f"put {hexed('alice')} {DEPTH + 2}\n")
-        case.tell("the reply", client.told(sent[-1]), CHANGED)
-        tell_stop(case)
-
-
-def left_over(case):
-    """What a run that was ended in the midst has left beside the journal is taken away."""
-    start(case)
-    grow(case, case.client())
-    private(pathlib.Path(f"{case.server.journal}.new")).write_bytes(b"half a jour")
-    case.tell("compact", told(case, "compact", "copy"), (OK, 0))
-    case.tell("what is beside it", beside(case), False)
-    keys = [it for it in records_of(case) if isinstance(it, tuple)]
-    case.tell("records", keys, [("base", "alice", 3), ("change", "alice", 4), ("change", "alice", 5)])
-    tell_stop(case)
-
-
-def twice_at_once(case):
-    """Each is answered; of the compact journals one is made, with its copy, since no further one is shorter."""
-    start(case)
-    grow(case, case.client())
-    held = table(case, "--as", "keys")
-    callers = [Caller(case) for _ in range(8)]
-    for number, caller in enumerate(callers):
-        caller.send(f"compact copy{number}\n" if number % 2 == 0 else "reload\n")
-    case.tell("answers", [caller.answer() for caller in callers], [OK, OK] + [NO_GAIN, OK] * 3)
-    case.tell("copies", [(case.folder / f"copy{number}").exists() for number in range(8)], [True] + [False] * 7)
-    case.tell("what is held", table(case, "--as", "keys"), held)
-    tell_stop(case)
-
-
-def amid_changes(case):
-    """Sixteen clients change sixteen passwords while histories fill, configurations are read anew and journals are
-    replaced: each request is answered once, and what is held at the end is what was accepted."""
-    names = [f"user{number:02}" for number in range(16)]
-    rewrite(case, names, max_entries=7)
-    start(case, workers=16)
-    done, answers = threading.Event(), []
-    asker = threading.Thread(target=compact_until, args=(case, done, answers))
-    asker.start()
-    with concurrent.futures.ThreadPoolExecutor(16) as pool:
-        found = list(pool.map(lambda number: many_changes(case, names[number], number), range(16)))
-    done.set()
-    asker.join()
-    others = {answer for it in found for answer in it} - {CHANGED, FULL}
-    case.tell("answers", ([len(it) for it in found], others), ([20] * 16, set()))
-    case.tell("compactions", (answers.count(OK) > 2, set(answers) - {OK, NO_GAIN}), (True, set()))
-    changed = {name: sum(answer == CHANGED for answer in it) for name, it in zip(names, found)}
-    newest = {name: versions[0][0] for name, versions in held(case).items()}
-    case.tell("what is held", newest, {name: 1 + number for name, number in changed.items()})
-    lines = tell_stop(case)
-    case.tell("changes", entries_of(lines)[1], sum(changed.values()))
 
 
 def held(case):
@@ -450,37 +187,284 @@ def wrong_in_table(changers, before, after):
             yield f"{it.name}: versions {versions}"
 
 
-def kills(case):
-    """Twenty kills in the midst of changes and compactions: at the next start what was answered is held."""
-    clock = SetClock(case.folder)
-    rewrite(case, [f"user{it}" for it in range(4)])
-    private(case.server.journal)
-    before, answered, made, cut, faults = held(case), 0, 0, 0, []
-    for number in range(KILLS):
-        changers, answers, early = killed_amid(case, number, clock, Compactor(case, number))
-        faults += [f"run {number}: before the kill: {it}" for it in early]
-        start(case, CLOCK=clock.file)
-        after = held(case)
-        faults += [f"run {number}: {it}" for it in wrong_in_table(changers, before, after)]
-        faults += [f"run {number}: {it!r}" for it in answers if it not in (OK, NO_GAIN, "")]
-        told(case, "stop")
-        case.server.last_words()
-        before = after
-        answered += sum(it.answered for it in changers)
-        made += answers.count(OK)
-        cut += answers[-1] == ""
-    case.tell(f"{answered} changes and {made} orders answered, {cut} orders cut off: faults", faults, [])
-    case.tell("changes, and kills amid orders", (answered >= KILLS, cut > KILLS / 2), (True, True))
+class Compactions(ServiceCase):
+    def test_made(self):
+        made(self)
 
+    def test_refused(self):
+        """Where there is no copy, or no journal, all stays as it was, and no file is left."""
+        start(self)
+        client = self.client()
+        grow(self, client)
+        before = self.server.journal.read_bytes()
+        (self.folder / "there").write_text("kept")
+        folder = pathlib.Path(f"{self.server.journal}.new")
+        folder.mkdir()
+        for name, answer in (
+            ("there", "error: cannot write there\n"),
+            ("missing/copy", "error: cannot write missing/copy\n"),
+            ("copy", f"error: cannot write {self.server.journal}\n"),
+        ):
+            self.tell(name, told(self, "compact", name), (answer, 1))
+            self.tell("  what is left", left(self, before), (True, False))
+        self.tell("what was there", (self.folder / "there").read_text(), "kept")
+        folder.rmdir()
+        answer = (f"error: cannot write {self.server.journal}\n", 1)
+        self.tell("a copy in its way", told(self, "compact", f"{self.server.journal}.new"), answer)
+        self.tell("  what is left", (left(self, before)[0], beside(self)), (True, False))
+        self.server.configuration.unlink()
+        answer = f"error: cannot read {self.server.configuration}\n"
+        self.tell("no configuration", told(self, "compact", "copy"), (answer, 1))
+        self.tell("it goes on", client.ask(request_now("alice", "Pass-9", 9)), CHANGED)
+        self.tell("behind the former records", records_of(self), [("change", "alice", 2 + turn) for turn in range(DEPTH + 2)])
+        tell_stop(self)
 
-CASES = [
-    ("made", made), ("refused", refused), ("a changed configuration", changed_file), ("left over", left_over),
-    ("nothing to gain", no_gain), ("a named journal", named),
-    ("a folder that can't be synced", unsynced), ("folders that are synced", synced_folders),
-    ("no rename or sync", unmade),
-    ("confirmed again", confirmed_again), ("behind replies", behind_replies),
-    ("twice at once", twice_at_once), ("amid changes", amid_changes), ("kills", kills),
-]
+    def test_a_changed_configuration(self):
+        """A configuration with other text than the start or the last reload read is to be reloaded first, whatever is other in
+        it; also one that can't be, or that has a fault. With the former text it is the one in force again."""
+        start(self)
+        client = self.client()
+        grow(self, client)
+        before = self.server.journal.read_bytes()
+        former = self.server.configuration.read_text()
+        carol = ["alice", "bob", "carol"]
+        for what, names, change in (
+            ("other keys", ["alice", "bob"], [("kvno = 1", "kvno = 9")]),
+            ("no bob", ["alice"], []),
+            ("no such principal", ["bob"], []),
+            ("other service keys", ["alice", "bob"], [("kvno = 3", "kvno = 7")]),
+            ("another rule", ["alice", "bob"], [("min_length = 6", "min_length = 7")]),
+            ("another realm", carol, [("EXAMPLE.COM", "EXAMPLE.ORG")]),
+            ("a fault", carol, [("depth = 3", "depth = -1")]),
+            ("a comment", ["alice", "bob"], [("realm", "# ours\nrealm")]),
+        ):
+            self.server.configuration.write_text(only_first(former, names, change))
+            self.tell(what, told(self, "compact", "copy"), CHANGED_FILE)
+            self.tell("  what is left", left(self, before), (True, False))
+        self.server.configuration.write_text(former)
+        for number, (what, names, change) in enumerate((
+            ("one more", carol, []),
+            ("another depth", carol, [("depth = 3", "depth = 2")]),
+            ("a greater count", carol, [("iterations = 4\nset", "iterations = 5\nset")]),
+        ), 1):
+            rewrite(self, names, change)
+            self.tell(what, told(self, "compact", "copy"), CHANGED_FILE)
+            self.tell("  what is left", left(self, before), (True, False))
+            self.tell("  reload", ask(self, "reload").splitlines()[-1:], ["ok"])
+            self.tell("  compact", told(self, "compact", "copy"), (OK, 0))
+            (self.folder / "copy").unlink()
+            grow(self, client, first=20 * number)
+            before = self.server.journal.read_bytes()
+        self.tell("the former file again", (self.server.configuration.write_text(former) > 0, told(self, "compact", "copy")),
+                  (True, CHANGED_FILE))
+        tell_stop(self)
+
+    def test_left_over(self):
+        """What a run that was ended in the midst has left beside the journal is taken away."""
+        start(self)
+        grow(self, self.client())
+        private(pathlib.Path(f"{self.server.journal}.new")).write_bytes(b"half a jour")
+        self.tell("compact", told(self, "compact", "copy"), (OK, 0))
+        self.tell("what is beside it", beside(self), False)
+        keys = [it for it in records_of(self) if isinstance(it, tuple)]
+        self.tell("records", keys, [("base", "alice", 3), ("change", "alice", 4), ("change", "alice", 5)])
+        tell_stop(self)
+
+    def test_nothing_to_gain(self):
+        """Where a compact journal would have as many bytes as the present one, or more, it isn't made."""
+        start(self)
+        client = self.client()
+        before = self.server.journal.read_bytes()
+        for number in range(1, DEPTH + 2):
+            self.tell("compact", told(self, "compact", "copy"), (NO_GAIN, 1))
+            self.tell("  what is left", (*left(self, before), beside(self)), (True, False, False))
+            self.tell("a change", client.ask(request_now("alice", f"Pass-{number}", number)), CHANGED)
+            before = self.server.journal.read_bytes()
+        self.tell("compact", told(self, "compact", "copy"), (OK, 0))
+        self.tell("it is shorter", self.server.journal.stat().st_size < len(before), True)
+        before = self.server.journal.read_bytes()
+        self.tell("once more", told(self, "compact", "again"), (NO_GAIN, 1))
+        self.tell("what is left", (left(self, before)[0], (self.folder / "again").exists()), (True, False))
+        self.tell("one more", client.ask(request_now("alice", "Pass-20", 20)), CHANGED)
+        tell_stop(self)
+
+    def test_a_named_journal(self):
+        """A journal that begins with the record of its realm keeps it, and its history goes on behind."""
+        record, clock, late = realm_record("EXAMPLE.COM"), SetClock(self.folder), START + QUIET + 1
+        private(self.server.journal).write_bytes(record)
+        start(self, CLOCK=clock.file)
+        clock.set(late)
+        client = self.client()
+        for turn in range(5):
+            self.tell("a change", client.ask(request("alice", late, f"Pass-{turn}", turn)), CHANGED)
+        held = table(self, "--as", "keys")
+        self.tell("compact", told(self, "compact", "copy"), (OK, 0))
+        self.tell("one more change", client.ask(request("bob", late, "Pass-9", 12)), CHANGED)
+        records, torn = read_journal(self.server.journal.read_bytes())
+        self.tell("its records", (records[0], len(records), torn), (Realm("EXAMPLE.COM"), 5, b""))
+        self.tell("what is held", [line for line in table(self, "--as", "keys").splitlines() if line.startswith("alice")],
+                  [line for line in held.splitlines() if line.startswith("alice")])
+        self.tell("reload", told(self, "reload"), (OK, 0))
+        tell_stop(self)
+
+    @named("a folder that can't be synced")
+    def test_a_folder_that_can_t_be_synced(self):
+        """A folder that can't be synced: for the copy and for the compact journal beside the present one all stays as it was;
+        behind the rename no further change is taken, and the next start finds what was held."""
+        # the first sync is that of the journal's own name
+        for number, name, is_left, then in (
+            (2, "copy", False, CHANGED), (3, self.server.journal, False, CHANGED), (4, self.server.journal, True, FAILED),
+        ):
+            self.server.journal.unlink(missing_ok=True)
+            start(self, FOLDERS=number)
+            client = self.client()
+            grow(self, client, 10 * number)
+            held = table(self, "--as", "keys")
+            self.tell("  compact", told(self, "compact", "copy"), (f"error: cannot write {name}\n", 1))
+            self.tell("  what is left", ((self.folder / "copy").exists(), beside(self)), (is_left, False))
+            self.tell("  one more", client.ask(request_now("alice", "Pass-1", 9 + 10 * number)), then)
+            self.tell("  how it stands", status(self)["journal"], "good" if then == CHANGED else "failed: its name may be lost")
+            if then == FAILED:
+                self.tell("  compact behind that", told(self, "compact", "other"), ("error: journal failed\n", 1))
+                self.tell("  its copy", (self.folder / "other").exists(), False)
+            tell_stop(self)
+        self.tell("behind a restart", table(self, "--as", "keys"), held)
+
+    def test_folders_that_are_synced(self):
+        """What is synced is the folder of the file that is new there: the journal's, the copy's, and the journal's again for
+        the compact one beside it and for its rename."""
+        here = pathlib.Path(os.path.realpath(self.folder))
+        for name in "below", "away":
+            (here / name).mkdir()
+        self.server.journal = here / "below/journal"
+        start(self, SYNCED="synced")
+        grow(self, self.client())
+        self.tell("compact", told(self, "compact", "away/copy"), (OK, 0))
+        tell_stop(self)
+        wanted = [here / name for name in ("below", "away", "below", "below")]
+        self.tell("folders", (here / "synced").read_text().splitlines(), list(map(str, wanted)))
+        (here / "synced").unlink()
+        self.server.journal = pathlib.Path("journal")
+        start(self, SYNCED="synced")
+        tell_stop(self)
+        self.tell("the folder of a bare name", (here / "synced").read_text().splitlines(), [str(here)])
+
+    def test_no_rename_or_sync(self):
+        """Where the copy can't be synced, or the compact journal not be synced or renamed, the caller is told so, the journal
+        stays as it was, nothing is left, and changes go on. A later compact journal is made."""
+        # the syncs before are those of the changes, and behind them that of the copy
+        made = DEPTH + 1
+        for number, (fault, name) in enumerate((
+            (f"sync {made + 1} 5", "copy"), (f"sync {made + 2} 28", self.server.journal), ("rename 1 5", self.server.journal),
+        ), 1):
+            self.server.journal.unlink(missing_ok=True)
+            start(self, FAILS=fault)
+            client = self.client()
+            grow(self, client, 10 * number)
+            before = self.server.journal.read_bytes()
+            self.tell(fault, told(self, "compact", "copy"), (f"error: cannot write {name}\n", 1))
+            self.tell("  what is left", (*left(self, before), beside(self)), (True, False, False))
+            self.tell("  one more", client.ask(request_now("alice", "Pass-1", 9 + 10 * number)), CHANGED)
+            self.tell("  compact behind that", told(self, "compact", "copy"), (OK, 0))
+            (self.folder / "copy").unlink()
+            tell_stop(self)
+
+    def test_confirmed_again(self):
+        """A compact journal changes nothing at the KDC: the next change goes there over the same connection, and isn't answered
+        before."""
+        agent = Agent(self)
+        start(self, options=agent.options(60_000))
+        client = self.client()
+        sent = [request_now("alice", f"Pass-{turn}", 1 + turn) for turn in range(DEPTH + 2)]
+        with agent.in_step() as link:
+            for turn in range(DEPTH + 1):
+                client.send(sent[turn])
+                link.confirm("alice", 2 + turn, f"Pass-{turn}")
+                self.tell("a change", client.told(sent[turn]), CHANGED)
+            self.tell("compact", told(self, "compact", "copy"), (OK, 0))
+            client.send(sent[-1])
+            link.is_to_put("alice", DEPTH + 3, f"Pass-{DEPTH + 1}")
+            self.tell("no reply yet", client.is_silent(), True)
+            link.say(f"put {hexed('alice')} {DEPTH + 3}\n")
+            self.tell("the reply", client.told(sent[-1]), CHANGED)
+            tell_stop(self)
+
+    def test_behind_replies(self):
+        """A compact journal while a reply waits for the KDC: the reply waits on, and comes when the KDC has the change."""
+        agent = Agent(self)
+        start(self, options=agent.options(60_000))
+        client = self.client()
+        sent = [request_now("alice", f"Pass-{turn}", 1 + turn) for turn in range(DEPTH + 1)]
+        with agent.in_step() as link:
+            for turn in range(DEPTH):
+                client.send(sent[turn])
+                link.confirm("alice", 2 + turn, f"Pass-{turn}")
+                self.tell("a change", client.told(sent[turn]), CHANGED)
+            client.send(sent[-1])
+            link.is_to_put("alice", DEPTH + 2, f"Pass-{DEPTH}")
+            self.tell("compact", told(self, "compact", "copy"), (OK, 0))
+            self.tell("no reply yet", client.is_silent(), True)
+            link.say(f"put {hexed('alice')} {DEPTH + 2}\n")
+            self.tell("the reply", client.told(sent[-1]), CHANGED)
+            tell_stop(self)
+
+    def test_twice_at_once(self):
+        """Each is answered; of the compact journals one is made, with its copy, since no further one is shorter."""
+        start(self)
+        grow(self, self.client())
+        held = table(self, "--as", "keys")
+        callers = [Caller(self) for _ in range(8)]
+        for number, caller in enumerate(callers):
+            caller.send(f"compact copy{number}\n" if number % 2 == 0 else "reload\n")
+        self.tell("answers", [caller.answer() for caller in callers], [OK, OK] + [NO_GAIN, OK] * 3)
+        self.tell("copies", [(self.folder / f"copy{number}").exists() for number in range(8)], [True] + [False] * 7)
+        self.tell("what is held", table(self, "--as", "keys"), held)
+        tell_stop(self)
+
+    def test_amid_changes(self):
+        """Sixteen clients change sixteen passwords while histories fill, configurations are read anew and journals are
+        replaced: each request is answered once, and what is held at the end is what was accepted."""
+        names = [f"user{number:02}" for number in range(16)]
+        rewrite(self, names, max_entries=7)
+        start(self, workers=16)
+        done, answers = threading.Event(), []
+        asker = threading.Thread(target=compact_until, args=(self, done, answers))
+        asker.start()
+        with concurrent.futures.ThreadPoolExecutor(16) as pool:
+            found = list(pool.map(lambda number: many_changes(self, names[number], number), range(16)))
+        done.set()
+        asker.join()
+        others = {answer for it in found for answer in it} - {CHANGED, FULL}
+        self.tell("answers", ([len(it) for it in found], others), ([20] * 16, set()))
+        self.tell("compactions", (answers.count(OK) > 2, set(answers) - {OK, NO_GAIN}), (True, set()))
+        changed = {name: sum(answer == CHANGED for answer in it) for name, it in zip(names, found)}
+        newest = {name: versions[0][0] for name, versions in held(self).items()}
+        self.tell("what is held", newest, {name: 1 + number for name, number in changed.items()})
+        lines = tell_stop(self)
+        self.tell("changes", entries_of(lines)[1], sum(changed.values()))
+
+    def test_kills(self):
+        """Twenty kills in the midst of changes and compactions: at the next start what was answered is held."""
+        clock = SetClock(self.folder)
+        rewrite(self, [f"user{it}" for it in range(4)])
+        private(self.server.journal)
+        before, answered, made, cut, faults = held(self), 0, 0, 0, []
+        for number in range(KILLS):
+            changers, answers, early = killed_amid(self, number, clock, Compactor(self, number))
+            faults += [f"run {number}: before the kill: {it}" for it in early]
+            start(self, CLOCK=clock.file)
+            after = held(self)
+            faults += [f"run {number}: {it}" for it in wrong_in_table(changers, before, after)]
+            faults += [f"run {number}: {it!r}" for it in answers if it not in (OK, NO_GAIN, "")]
+            told(self, "stop")
+            self.server.last_words()
+            before = after
+            answered += sum(it.answered for it in changers)
+            made += answers.count(OK)
+            cut += answers[-1] == ""
+        self.tell(f"{answered} changes and {made} orders answered, {cut} orders cut off: faults", faults, [])
+        self.tell("changes, and kills amid orders", (answered >= KILLS, cut > KILLS / 2), (True, True))
+
 
 if __name__ == "__main__":
-    sys.exit(run(__doc__, CASES))
+    main(__doc__)

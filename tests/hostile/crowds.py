@@ -8,29 +8,17 @@ each of many steps. A worker is made slow, or is held, by its look at the clock 
 """
 
 import socket
-import sys
 import threading
 import time
 
-from harness.serving import CHANGED, LONGEST, NO_REQUEST, Hold, Watch, behind_length, both_requests, run
+from harness.cases import main
+from harness.serving import CHANGED, LONGEST, NO_REQUEST, Hold, Watch, behind_length, both_requests, ServiceCase
 
 # milliseconds that a slow worker needs for its look at the clock
 SLOW = 5
 ONE_CHANGE = "entries 1 changes 1"
 TWO_CHANGES = "entries 2 changes 2"
 NO_CHANGE = "entries 0 changes 0"
-
-
-def silent_ones(case):
-    """33 that keep silent, every second one in the midst of a message, and one behind them."""
-    alice, _ = both_requests()
-    case.start(34)
-    for number in range(33):
-        silent = case.client()
-        if number % 2 == 0:
-            silent.send_bytes(b"\0\0\1\0\1")
-    case.tell("one behind 33 silent ones", case.client().ask(alice), CHANGED)
-    case.tell_end(ONE_CHANGE)
 
 
 def drip(client, turns):
@@ -45,35 +33,6 @@ def drip(client, turns):
         time.sleep(0.1)
 
 
-def dripping(case):
-    """One sends a byte each tenth of a second, and is ended a second after it came; another is answered meanwhile."""
-    alice, _ = both_requests()
-    case.start(2, options=["--idle", "1"])
-    watch = Watch()
-    slow = case.client()
-    slow.send_bytes(b"\0\0\xff\xff")
-    drip(slow, 2)
-    case.tell("another one", case.client().ask(alice), CHANGED)
-    drip(slow, 58)
-    case.tell("not before a second", watch.spent() >= 1, True)
-    case.tell_within(3, watch)
-    case.tell_end(ONE_CHANGE)
-
-
-def one_too_many(case):
-    """Two may be there: for the third the first one ends, which has waited the longest. A reply shows that both are
-    there."""
-    alice, bob = both_requests()
-    case.start(3, options=["--clients", "2"])
-    first, second = case.client(), case.client()
-    case.tell("the second", second.ask(alice), CHANGED)
-    case.tell("the third", case.client().ask(bob), CHANGED)
-    case.tell("the first is ended", first.is_ended(), True)
-    second.send_messages(NO_REQUEST)
-    case.tell("the second again", second.has_reply(), True)
-    case.tell_end(TWO_CHANGES)
-
-
 def send_almost(client, size):
     """A message of so many bytes but for the last one, as far as the service takes it."""
     try:
@@ -82,177 +41,41 @@ def send_almost(client, size):
         pass
 
 
-def too_many_bytes(case):
-    """280 messages that lack a byte hold more than a MiB: those that have waited the longest end for one that is
-    whole."""
-    alice, _ = both_requests()
-    case.start(281, options=["--buffers", "1"])
-    held = [case.client() for _ in range(280)]
-    for client in held:
-        send_almost(client, 4_096)
-    case.tell("a whole message", case.client().ask(alice), CHANGED)
-    case.tell("the first is ended", held[0].is_ended(), True)
-    case.tell_end(ONE_CHANGE)
-
-
-def large_ones(case):
-    """Large messages that aren't whole hold half of the MiB and no more: a small one is answered beside them, and a
-    large one of another client, for which the one that has waited the longest is ended."""
-    alice, _ = both_requests()
-    case.start(22, options=["--buffers", "1"])
-    watch = Watch()
-    held = [case.client() for _ in range(20)]
-    for client in held:
-        send_almost(client, LONGEST)
-    case.tell("a small one", case.client().ask(alice), CHANGED)
-    large = case.client()
-    large.send_messages(bytes(LONGEST))
-    case.tell("a large one", large.has_reply(), True)
-    case.tell("the first is ended", held[0].is_ended(), True)
-    case.tell_within(5, watch)
-    case.tell_end(ONE_CHANGE)
-
-
-def reading_late(case):
-    """One sends 300 messages, and reads no reply until another one has its own."""
-    alice, _ = both_requests()
-    case.start(2)
-    watch = Watch()
-    first, second = case.client(), case.client()
-    for _ in range(300):
-        first.send_messages(NO_REQUEST)
-    case.tell("the other one", second.ask(alice), CHANGED)
-    first.socket.shutdown(socket.SHUT_WR)
-    case.tell("replies", sum(first.has_reply() for _ in range(300)), 300)
-    case.tell("and then the end", first.is_ended(), True)
-    case.tell_within(15, watch)
-    case.tell_end(ONE_CHANGE)
-
-
-def one_after_the_other(case):
-    """Thirty messages over one connection, each behind the reply to the one before, to a worker that is slow."""
-    case.start(1, TICK=SLOW)
-    client = case.client()
-    watch = Watch()
-    replies = 0
-    for _ in range(30):
-        client.send_messages(NO_REQUEST)
-        replies += client.has_reply()
-    case.tell("replies", replies, 30)
-    case.tell_within(1.5, watch)
-    case.tell_end(NO_CHANGE)
-
-
-def twenty_for_one_place(case):
-    """One may be there: of twenty clients each has its reply before the next one has the place. The worker is slow."""
-    case.start(20, options=["--clients", "1"], TICK=SLOW)
-    watch = Watch()
-    clients = []
-    for _ in range(20):
-        clients.append(case.client())
-        clients[-1].send_messages(NO_REQUEST)
-    case.tell("replies", sum(client.has_reply() for client in clients), 20)
-    case.tell_within(1, watch)
-    case.tell_end(NO_CHANGE)
-
-
-def behind_the_last_reply(case):
-    """A message that is too long: behind its reply the client sees at once that the service has closed its side. The
-    connection itself would be closed a second behind the reply."""
-    case.start(1)
-    client = case.client()
-    watch = Watch()
-    client.send_bytes(b"\0\1\0\0")
-    case.tell("a reply", client.has_reply(), True)
-    case.tell("the end", client.is_ended(), True)
-    case.tell_within(0.8, watch)
-    case.tell_end(NO_CHANGE)
-
-
-def large_ones_in_turn(case):
-    """Fourteen have each sent sixteen messages of the greatest length before the first is answered. There is room for
-    seven at a time: all have room in turn, so none waits for long, and none ends for another."""
-    worker = Hold(case.folder, "worker")
-    case.start(14, options=["--buffers", "1", "--idle", "3"], HELD=worker.file)
-    worker.hold()
-    # whose replies came, in their order
-    order = []
-
-    def hear(number, client):
-        for _ in range(16):
-            if client.has_reply():
-                order.append(number)
-
-    clients = [case.client() for _ in range(14)]
-    sending = [threading.Thread(target=client.send_messages, args=[bytes(LONGEST)] * 16) for client in clients]
-    hearing = [threading.Thread(target=hear, args=numbered) for numbered in enumerate(clients)]
-    for thread in sending + hearing:
-        thread.start()
-    worker.wait()
-    time.sleep(0.3)
-    worker.free()
-    for thread in sending + hearing:
-        thread.join()
-    case.tell("replies", [order.count(number) for number in range(14)], [16] * 14)
-    case.tell("those with a reply in the first half of all", len(set(order[:112])), 14)
-    case.tell_end(NO_CHANGE)
-
-
-def two_for_one_place(case):
-    """One may be there, and its message is being answered: the second is kept until the first has its reply."""
-    alice, bob = both_requests()
-    worker = Hold(case.folder, "worker")
-    case.start(2, options=["--clients", "1"], HELD=worker.file)
-    worker.hold()
-    first = case.client()
-    first.send(alice)
-    worker.wait()
-    second = case.client()
-    second.send(bob)
-    time.sleep(0.3)
-    worker.free()
-    case.tell("the first", first.told(alice), CHANGED)
-    case.tell("the second", second.told(bob), CHANGED)
-    case.tell_end(TWO_CHANGES)
-
-
-def given_up(patience, are_sending, *dropped):
+def given_up(case, patience, are_sending, *dropped):
     """Alice gives her request up after so many seconds, while the only worker has bob's. It isn't decided: the same
     bytes change her password later. A reply that she hasn't read makes her end a reset. 300 others each send a message
     of the greatest length meanwhile, or leave at once."""
-    def body(case):
-        alice, bob = both_requests()
-        worker = Hold(case.folder, "worker")
-        case.start(303, HELD=worker.file)
-        first = case.client()
-        first.send_messages(NO_REQUEST)
-        first.socket.recv(1, socket.MSG_PEEK)
-        worker.hold()
-        second = case.client()
-        second.send(bob)
-        worker.wait()
-        first.send(alice)
-        time.sleep(0.3 + patience)
-        first.close()
-        others = [case.client() for _ in range(300)]
-        for other in others:
-            if are_sending:
-                other.send_messages(bytes(LONGEST))
-            else:
-                other.close()
-        time.sleep(0.3)
-        worker.free()
-        case.tell("what was held", second.told(bob), CHANGED)
+    alice, bob = both_requests()
+    worker = Hold(case.folder, "worker")
+    case.start(303, HELD=worker.file)
+    first = case.client()
+    first.send_messages(NO_REQUEST)
+    first.socket.recv(1, socket.MSG_PEEK)
+    worker.hold()
+    second = case.client()
+    second.send(bob)
+    worker.wait()
+    first.send(alice)
+    time.sleep(0.3 + patience)
+    first.close()
+    others = [case.client() for _ in range(300)]
+    for other in others:
         if are_sending:
-            left = next((number for number, other in enumerate(others) if not answered_or_ended(other)), None)
-            case.tell("of the others the first that is neither answered nor ended", left, None)
-        case.tell("the same bytes later", case.client().ask(alice), CHANGED)
-        if are_sending:
-            lines, status = case.last_lines()
-            case.tell("its end", (lines[0], status), (TWO_CHANGES, 0))
+            other.send_messages(bytes(LONGEST))
         else:
-            case.tell_end(TWO_CHANGES, *dropped)
-    return body
+            other.close()
+    time.sleep(0.3)
+    worker.free()
+    case.tell("what was held", second.told(bob), CHANGED)
+    if are_sending:
+        left = next((number for number, other in enumerate(others) if not answered_or_ended(other)), None)
+        case.tell("of the others the first that is neither answered nor ended", left, None)
+    case.tell("the same bytes later", case.client().ask(alice), CHANGED)
+    if are_sending:
+        lines, status = case.last_lines()
+        case.tell("its end", (lines[0], status), (TWO_CHANGES, 0))
+    else:
+        case.tell_end(TWO_CHANGES, *dropped)
 
 
 def answered_or_ended(client):
@@ -263,22 +86,180 @@ def answered_or_ended(client):
         return False
 
 
-CASES = [
-    ("34 connections at one worker", silent_ones),
-    ("a client that drips", dripping),
-    ("more clients than may be", one_too_many),
-    ("more bytes than may be", too_many_bytes),
-    ("large messages leave room", large_ones),
-    ("a client that reads late", reading_late),
-    ("answers that come at once", one_after_the_other),
-    ("newcomers one after the other", twenty_for_one_place),
-    ("the end behind the last reply", behind_the_last_reply),
-    ("large messages in turn", large_ones_in_turn),
-    ("a newcomer waits for room", two_for_one_place),
-    ("a reset connection", given_up(0, False)),
-    ("a message that waits too long", given_up(5.5, False, "messages dropped after waiting 5 seconds for a worker: 1")),
-    ("whole large messages", given_up(0, True)),
-]
+class Crowds(ServiceCase):
+    def test_34_connections_at_one_worker(self):
+        """33 that keep silent, every second one in the midst of a message, and one behind them."""
+        alice, _ = both_requests()
+        self.start(34)
+        for number in range(33):
+            silent = self.client()
+            if number % 2 == 0:
+                silent.send_bytes(b"\0\0\1\0\1")
+        self.tell("one behind 33 silent ones", self.client().ask(alice), CHANGED)
+        self.tell_end(ONE_CHANGE)
+
+    def test_a_client_that_drips(self):
+        """One sends a byte each tenth of a second, and is ended a second after it came; another is answered meanwhile."""
+        alice, _ = both_requests()
+        self.start(2, options=["--idle", "1"])
+        watch = Watch()
+        slow = self.client()
+        slow.send_bytes(b"\0\0\xff\xff")
+        drip(slow, 2)
+        self.tell("another one", self.client().ask(alice), CHANGED)
+        drip(slow, 58)
+        self.tell("not before a second", watch.spent() >= 1, True)
+        self.tell_within(3, watch)
+        self.tell_end(ONE_CHANGE)
+
+    def test_more_clients_than_may_be(self):
+        """Two may be there: for the third the first one ends, which has waited the longest. A reply shows that both are
+        there."""
+        alice, bob = both_requests()
+        self.start(3, options=["--clients", "2"])
+        first, second = self.client(), self.client()
+        self.tell("the second", second.ask(alice), CHANGED)
+        self.tell("the third", self.client().ask(bob), CHANGED)
+        self.tell("the first is ended", first.is_ended(), True)
+        second.send_messages(NO_REQUEST)
+        self.tell("the second again", second.has_reply(), True)
+        self.tell_end(TWO_CHANGES)
+
+    def test_more_bytes_than_may_be(self):
+        """280 messages that lack a byte hold more than a MiB: those that have waited the longest end for one that is
+        whole."""
+        alice, _ = both_requests()
+        self.start(281, options=["--buffers", "1"])
+        held = [self.client() for _ in range(280)]
+        for client in held:
+            send_almost(client, 4_096)
+        self.tell("a whole message", self.client().ask(alice), CHANGED)
+        self.tell("the first is ended", held[0].is_ended(), True)
+        self.tell_end(ONE_CHANGE)
+
+    def test_large_messages_leave_room(self):
+        """Large messages that aren't whole hold half of the MiB and no more: a small one is answered beside them, and a
+        large one of another client, for which the one that has waited the longest is ended."""
+        alice, _ = both_requests()
+        self.start(22, options=["--buffers", "1"])
+        watch = Watch()
+        held = [self.client() for _ in range(20)]
+        for client in held:
+            send_almost(client, LONGEST)
+        self.tell("a small one", self.client().ask(alice), CHANGED)
+        large = self.client()
+        large.send_messages(bytes(LONGEST))
+        self.tell("a large one", large.has_reply(), True)
+        self.tell("the first is ended", held[0].is_ended(), True)
+        self.tell_within(5, watch)
+        self.tell_end(ONE_CHANGE)
+
+    def test_a_client_that_reads_late(self):
+        """One sends 300 messages, and reads no reply until another one has its own."""
+        alice, _ = both_requests()
+        self.start(2)
+        watch = Watch()
+        first, second = self.client(), self.client()
+        for _ in range(300):
+            first.send_messages(NO_REQUEST)
+        self.tell("the other one", second.ask(alice), CHANGED)
+        first.socket.shutdown(socket.SHUT_WR)
+        self.tell("replies", sum(first.has_reply() for _ in range(300)), 300)
+        self.tell("and then the end", first.is_ended(), True)
+        self.tell_within(15, watch)
+        self.tell_end(ONE_CHANGE)
+
+    def test_answers_that_come_at_once(self):
+        """Thirty messages over one connection, each behind the reply to the one before, to a worker that is slow."""
+        self.start(1, TICK=SLOW)
+        client = self.client()
+        watch = Watch()
+        replies = 0
+        for _ in range(30):
+            client.send_messages(NO_REQUEST)
+            replies += client.has_reply()
+        self.tell("replies", replies, 30)
+        self.tell_within(1.5, watch)
+        self.tell_end(NO_CHANGE)
+
+    def test_newcomers_one_after_the_other(self):
+        """One may be there: of twenty clients each has its reply before the next one has the place. The worker is slow."""
+        self.start(20, options=["--clients", "1"], TICK=SLOW)
+        watch = Watch()
+        clients = []
+        for _ in range(20):
+            clients.append(self.client())
+            clients[-1].send_messages(NO_REQUEST)
+        self.tell("replies", sum(client.has_reply() for client in clients), 20)
+        self.tell_within(1, watch)
+        self.tell_end(NO_CHANGE)
+
+    def test_the_end_behind_the_last_reply(self):
+        """A message that is too long: behind its reply the client sees at once that the service has closed its side. The
+        connection itself would be closed a second behind the reply."""
+        self.start(1)
+        client = self.client()
+        watch = Watch()
+        client.send_bytes(b"\0\1\0\0")
+        self.tell("a reply", client.has_reply(), True)
+        self.tell("the end", client.is_ended(), True)
+        self.tell_within(0.8, watch)
+        self.tell_end(NO_CHANGE)
+
+    def test_large_messages_in_turn(self):
+        """Fourteen have each sent sixteen messages of the greatest length before the first is answered. There is room for
+        seven at a time: all have room in turn, so none waits for long, and none ends for another."""
+        worker = Hold(self.folder, "worker")
+        self.start(14, options=["--buffers", "1", "--idle", "3"], HELD=worker.file)
+        worker.hold()
+        # whose replies came, in their order
+        order = []
+
+        def hear(number, client):
+            for _ in range(16):
+                if client.has_reply():
+                    order.append(number)
+
+        clients = [self.client() for _ in range(14)]
+        sending = [threading.Thread(target=client.send_messages, args=[bytes(LONGEST)] * 16) for client in clients]
+        hearing = [threading.Thread(target=hear, args=numbered) for numbered in enumerate(clients)]
+        for thread in sending + hearing:
+            thread.start()
+        worker.wait()
+        time.sleep(0.3)
+        worker.free()
+        for thread in sending + hearing:
+            thread.join()
+        self.tell("replies", [order.count(number) for number in range(14)], [16] * 14)
+        self.tell("those with a reply in the first half of all", len(set(order[:112])), 14)
+        self.tell_end(NO_CHANGE)
+
+    def test_a_newcomer_waits_for_room(self):
+        """One may be there, and its message is being answered: the second is kept until the first has its reply."""
+        alice, bob = both_requests()
+        worker = Hold(self.folder, "worker")
+        self.start(2, options=["--clients", "1"], HELD=worker.file)
+        worker.hold()
+        first = self.client()
+        first.send(alice)
+        worker.wait()
+        second = self.client()
+        second.send(bob)
+        time.sleep(0.3)
+        worker.free()
+        self.tell("the first", first.told(alice), CHANGED)
+        self.tell("the second", second.told(bob), CHANGED)
+        self.tell_end(TWO_CHANGES)
+
+    def test_a_reset_connection(self):
+        given_up(self, 0, False)
+
+    def test_a_message_that_waits_too_long(self):
+        given_up(self, 5.5, False, "messages dropped after waiting 5 seconds for a worker: 1")
+
+    def test_whole_large_messages(self):
+        given_up(self, 0, True)
+
 
 if __name__ == "__main__":
-    sys.exit(run(__doc__, CASES))
+    main(__doc__)

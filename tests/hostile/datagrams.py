@@ -7,15 +7,15 @@ What is answered, what counts as a connection, what has a place and what is said
 import os
 import resource
 import socket
-import sys
 import threading
 import time
 
 from harness import wire
+from harness.cases import main
 from harness.asking import request_now, said
 from harness.controlling import OK, ask
 from harness.false_agent import Agent, hexed
-from harness.serving import CHANGED, PATIENCE, REPLAYED, Hold, SetClock, Watch, both_requests, run
+from harness.serving import CHANGED, PATIENCE, REPLAYED, Hold, SetClock, Watch, both_requests, ServiceCase
 
 LONGEST = 65_507
 KPASSWD = 464
@@ -111,92 +111,6 @@ class Client:
         raise TimeoutError("no reply")
 
 
-def the_same_again(case):
-    """A datagram changes the password; sent once more it has the very same reply, and nothing is decided; from another
-    port, and over TCP, it is a replay. The one that is said again doesn't count."""
-    alice, _ = both_requests()
-    case.start(3, options=["--udp"])
-    client = Client(case.server)
-    reply = client.ask(alice)
-    case.tell("a change", said(alice, reply), CHANGED)
-    case.tell("its bytes again", client.ask(alice) == reply, True)
-    case.tell("from another port", said(alice, Client(case.server).ask(alice)), REPLAYED)
-    case.tell("over TCP", case.client().ask(alice), REPLAYED)
-    case.tell_end("entries 3 changes 1")
-
-
-def once_each_time(case):
-    """What is said again is said once for each time that it is asked for."""
-    alice, bob = both_requests()
-    case.start(2, options=["--udp"])
-    client = Client(case.server)
-    client.socket.send(alice.message)
-    reply = client.later()
-    case.tell("a change", said(alice, reply), CHANGED)
-    for what in ("once", "twice"):
-        client.socket.send(alice.message)
-        case.tell(f"{what} again", client.later() == reply, True)
-        case.tell(f"{what} again, and nothing behind it", client.reply(b""), None)
-    case.tell("a change behind", said(bob, client.ask(bob)), CHANGED)
-    case.tell_end("entries 2 changes 2")
-
-
-def without_an_answer(case):
-    """None of them has an answer or a place; the service takes two, one before them and one behind, beside the one that
-    is decided."""
-    alice, bob = both_requests()
-    case.start(2 + DECIDED, options=["--udp"])
-    case.tell("a change before", said(alice, Client(case.server).ask(alice)), CHANGED)
-    # its socket may have the reply once more, where it asked twice
-    client = Client(case.server)
-    for what, datagram in UNANSWERED:
-        case.tell(what, client.reply(bytes.fromhex(datagram)), None)
-    case.tell("a change behind", said(bob, client.ask(bob)), CHANGED)
-    case.tell_end("entries 2 changes 2")
-
-
-def no_longer_than_asked(case):
-    """The same AP-REQ in a datagram as long as the answer is answered; one byte less, and it isn't. The clock stands
-    still, since an answer has its microseconds in as many bytes as they need."""
-    case.start(3, options=["--udp"], CLOCK=SetClock(case.folder).file)
-    client = Client(case.server)
-    client.socket.send(tailed(presenting(), bytes(100)))
-    reply = client.later()
-    case.tell("a longer one is answered", reply is not None, True)
-    spare = len(reply) - len(tailed(presenting()))
-    case.tell("its answer is longer than the shortest", spare > 0, True)
-    case.tell("as long", len(client.reply(tailed(presenting(), bytes(spare))) or b""), len(reply))
-    case.tell("a byte less", client.reply(tailed(presenting(), bytes(spare - 1))), None)
-    case.tell_end("entries 0 changes 0")
-
-
-def behind_junk(case):
-    """In one burst: what is dropped doesn't hold up what stands behind it, though that is sent once."""
-    alice, _ = both_requests()
-    case.start(1, options=["--udp"])
-    client = Client(case.server)
-    for at in range(BURST):
-        client.socket.send(bytes.fromhex(UNANSWERED[at % (len(UNANSWERED) - DECIDED)][1]))
-    client.socket.send(alice.message)
-    case.tell("the change", said(alice, client.later() or b""), CHANGED)
-    case.tell_end("entries 1 changes 1")
-
-
-def flood(case):
-    """Datagrams come faster than they can be read, and hold up nobody else."""
-    case.start(2, options=["--udp", "--control", "control"], DRIPS=DRIP)
-    done = threading.Event()
-    sending = threading.Thread(target=send_until, args=(Client(case.server), done))
-    sending.start()
-    time.sleep(0.3)
-    watch = Watch()
-    case.tell("status meanwhile", ask(case, "status").endswith(f"\n{OK}"), True)
-    spent = watch.spent()
-    done.set()
-    sending.join()
-    case.tell(f"within {TURN} s ({spent:.2f})", spent < TURN, True)
-
-
 def send_until(client, done):
     """Junk, for as long as a case waits at the most."""
     watch = Watch()
@@ -205,107 +119,171 @@ def send_until(client, done):
         time.sleep(FLOOD / 1_000)
 
 
-def two_at_once(case):
-    """Both changes wait for the KDC. Once it has them, each client has the reply to its own."""
-    agent = Agent(case)
-    case.start(2, workers=2, options=["--udp", *agent.options(60_000)])
-    requests = both_requests()
-    clients = [Client(case.server) for _ in requests]
-    with agent.in_step() as link:
-        agent.end()
-        clients[0].socket.send(requests[0].message)
-        link.is_to_put("alice", 2)
-        clients[1].socket.send(requests[1].message)
-        case.tell("the second has nothing yet", clients[1].reply(requests[1].message), None)
-        case.tell("nor has the first", clients[0].reply(requests[0].message), None)
-        link.say(f"put {hexed('alice')} 2\n")
-        link.confirm("bob", 2)
-        for what, client, sent in zip(("the first", "the second"), clients, requests):
-            case.tell(what, said(sent, client.later() or b""), CHANGED)
-    case.tell("its status", case.last_lines()[1], 0)
+class Datagrams(ServiceCase):
+    def test_a_datagram_and_the_same_again(self):
+        """A datagram changes the password; sent once more it has the very same reply, and nothing is decided; from another
+        port, and over TCP, it is a replay. The one that is said again doesn't count."""
+        alice, _ = both_requests()
+        self.start(3, options=["--udp"])
+        client = Client(self.server)
+        reply = client.ask(alice)
+        self.tell("a change", said(alice, reply), CHANGED)
+        self.tell("its bytes again", client.ask(alice) == reply, True)
+        self.tell("from another port", said(alice, Client(self.server).ask(alice)), REPLAYED)
+        self.tell("over TCP", self.client().ask(alice), REPLAYED)
+        self.tell_end("entries 3 changes 1")
 
+    def test_a_reply_once_each_time(self):
+        """What is said again is said once for each time that it is asked for."""
+        alice, bob = both_requests()
+        self.start(2, options=["--udp"])
+        client = Client(self.server)
+        client.socket.send(alice.message)
+        reply = client.later()
+        self.tell("a change", said(alice, reply), CHANGED)
+        for what in ("once", "twice"):
+            client.socket.send(alice.message)
+            self.tell(f"{what} again", client.later() == reply, True)
+            self.tell(f"{what} again, and nothing behind it", client.reply(b""), None)
+        self.tell("a change behind", said(bob, client.ask(bob)), CHANGED)
+        self.tell_end("entries 2 changes 2")
 
-def from_ports(case):
-    """A client's port may be a low one; whoever has the port of a service isn't answered."""
-    alice, bob = both_requests()
-    case.start(2, options=["--udp"])
-    own = Client(case.server, ("127.0.0.2", case.server.port))
-    case.tell("from the service's own port", own.reply(alice.message), None)
-    if os.geteuid() == 0:
-        case.tell("from port 464", Client(case.server, ("127.0.0.2", KPASSWD)).reply(alice.message), None)
-    low = ("127.0.0.2", KPASSWD + 100) if os.geteuid() == 0 else ("127.0.0.2", 0)
-    case.tell("from another one", said(alice, Client(case.server, low).ask(alice)), CHANGED)
-    case.tell("and a change behind", said(bob, Client(case.server).ask(bob)), CHANGED)
-    case.tell_end("entries 2 changes 2")
+    def test_datagrams_without_an_answer(self):
+        """None of them has an answer or a place; the service takes two, one before them and one behind, beside the one that
+        is decided."""
+        alice, bob = both_requests()
+        self.start(2 + DECIDED, options=["--udp"])
+        self.tell("a change before", said(alice, Client(self.server).ask(alice)), CHANGED)
+        # its socket may have the reply once more, where it asked twice
+        client = Client(self.server)
+        for what, datagram in UNANSWERED:
+            self.tell(what, client.reply(bytes.fromhex(datagram)), None)
+        self.tell("a change behind", said(bob, client.ask(bob)), CHANGED)
+        self.tell_end("entries 2 changes 2")
 
+    def test_an_answer_no_longer_than_its_question(self):
+        """The same AP-REQ in a datagram as long as the answer is answered; one byte less, and it isn't. The clock stands
+        still, since an answer has its microseconds in as many bytes as they need."""
+        self.start(3, options=["--udp"], CLOCK=SetClock(self.folder).file)
+        client = Client(self.server)
+        client.socket.send(tailed(presenting(), bytes(100)))
+        reply = client.later()
+        self.tell("a longer one is answered", reply is not None, True)
+        spare = len(reply) - len(tailed(presenting()))
+        self.tell("its answer is longer than the shortest", spare > 0, True)
+        self.tell("as long", len(client.reply(tailed(presenting(), bytes(spare))) or b""), len(reply))
+        self.tell("a byte less", client.reply(tailed(presenting(), bytes(spare - 1))), None)
+        self.tell_end("entries 0 changes 0")
 
-def beside_silent_ones(case):
-    """As many connections as there may be say nothing. Each request over UDP is answered all the same, at once, and so is
-    one over TCP."""
-    _, most = resource.getrlimit(resource.RLIMIT_NOFILE)
-    resource.setrlimit(resource.RLIMIT_NOFILE, (most, most))
-    case.start(SILENT + ASKS + 1, options=["--udp"])
-    silent = [case.client() for _ in range(SILENT)]
-    for number in range(ASKS):
-        sent = request_now("alice", f"New-pass{number}", number)
-        client = Client(case.server)
-        client.socket.send(sent.message)
-        case.tell(f"request {number}", said(sent, client.later() or b""), CHANGED)
-    _, bob = both_requests()
-    case.tell("over TCP", case.client().ask(bob), CHANGED)
-    case.tell("the first of the silent ones has ended", silent[0].is_ended(), True)
-    case.tell_end(f"entries {ASKS + 1} changes {ASKS + 1}")
+    def test_a_request_behind_junk(self):
+        """In one burst: what is dropped doesn't hold up what stands behind it, though that is sent once."""
+        alice, _ = both_requests()
+        self.start(1, options=["--udp"])
+        client = Client(self.server)
+        for at in range(BURST):
+            client.socket.send(bytes.fromhex(UNANSWERED[at % (len(UNANSWERED) - DECIDED)][1]))
+        client.socket.send(alice.message)
+        self.tell("the change", said(alice, client.later() or b""), CHANGED)
+        self.tell_end("entries 1 changes 1")
 
+    def test_a_flood(self):
+        """Datagrams come faster than they can be read, and hold up nobody else."""
+        self.start(2, options=["--udp", "--control", "control"], DRIPS=DRIP)
+        done = threading.Event()
+        sending = threading.Thread(target=send_until, args=(Client(self.server), done))
+        sending.start()
+        time.sleep(0.3)
+        watch = Watch()
+        self.tell("status meanwhile", ask(self, "status").endswith(f"\n{OK}"), True)
+        spent = watch.spent()
+        done.set()
+        sending.join()
+        self.tell(f"within {TURN} s ({spent:.2f})", spent < TURN, True)
 
-def shares(case):
-    """Of four places one is for datagrams alone: the fourth connection over TCP ends the first. Without --udp it
-    doesn't."""
-    for options, ends in (["--udp"], True), ([], False):
-        case.start(4, options=["--clients", "4", *options])
-        silent = [case.client() for _ in range(4)]
-        if ends:
-            case.tell("the first ends", silent[0].is_ended(), True)
-        else:
-            time.sleep(A_WHILE)
-            case.tell("without --udp nobody ends", all(it.is_silent() for it in silent), True)
-        case.tell_end("entries 0 changes 0")
+    def test_two_at_once(self):
+        """Both changes wait for the KDC. Once it has them, each client has the reply to its own."""
+        agent = Agent(self)
+        self.start(2, workers=2, options=["--udp", *agent.options(60_000)])
+        requests = both_requests()
+        clients = [Client(self.server) for _ in requests]
+        with agent.in_step() as link:
+            agent.end()
+            clients[0].socket.send(requests[0].message)
+            link.is_to_put("alice", 2)
+            clients[1].socket.send(requests[1].message)
+            self.tell("the second has nothing yet", clients[1].reply(requests[1].message), None)
+            self.tell("nor has the first", clients[0].reply(requests[0].message), None)
+            link.say(f"put {hexed('alice')} 2\n")
+            link.confirm("bob", 2)
+            for what, client, sent in zip(("the first", "the second"), clients, requests):
+                self.tell(what, said(sent, client.later() or b""), CHANGED)
+        self.tell("its status", self.last_lines()[1], 0)
 
+    def test_ports_of_clients_and_of_services(self):
+        """A client's port may be a low one; whoever has the port of a service isn't answered."""
+        alice, bob = both_requests()
+        self.start(2, options=["--udp"])
+        own = Client(self.server, ("127.0.0.2", self.server.port))
+        self.tell("from the service's own port", own.reply(alice.message), None)
+        if os.geteuid() == 0:
+            self.tell("from port 464", Client(self.server, ("127.0.0.2", KPASSWD)).reply(alice.message), None)
+        low = ("127.0.0.2", KPASSWD + 100) if os.geteuid() == 0 else ("127.0.0.2", 0)
+        self.tell("from another one", said(alice, Client(self.server, low).ask(alice)), CHANGED)
+        self.tell("and a change behind", said(bob, Client(self.server).ask(bob)), CHANGED)
+        self.tell_end("entries 2 changes 2")
 
-def half_of_the_places(case):
-    """Of four places datagrams have two. While the worker is held, the third is dropped; a connection over TCP still has a
-    place, and is answered."""
-    worker = Hold(case.folder, "worker")
-    case.start(4, options=["--udp", "--clients", "4"], HELD=worker.file)
-    worker.hold()
-    sent = [request_now("alice", f"New-pass{number}", number) for number in range(4)]
-    clients = [Client(case.server) for _ in range(3)]
-    clients[0].socket.send(sent[0].message)
-    worker.wait()
-    for client, it in zip(clients[1:], sent[1:]):
-        case.tell("no answer yet", client.reply(it.message), None)
-    over_tcp = case.client()
-    over_tcp.send(sent[3])
-    worker.free()
-    case.tell("the first", said(sent[0], clients[0].later() or b""), CHANGED)
-    case.tell("the second", said(sent[1], clients[1].later() or b""), CHANGED)
-    case.tell("over TCP", over_tcp.told(sent[3]), CHANGED)
-    case.tell("the third was dropped", clients[2].reply(b""), None)
-    case.tell("and is answered when it comes again", said(sent[2], clients[2].ask(sent[2])), CHANGED)
-    case.tell_end("entries 4 changes 4")
+    def test_beside_silent_connections(self):
+        """As many connections as there may be say nothing. Each request over UDP is answered all the same, at once, and so is
+        one over TCP."""
+        _, most = resource.getrlimit(resource.RLIMIT_NOFILE)
+        resource.setrlimit(resource.RLIMIT_NOFILE, (most, most))
+        self.start(SILENT + ASKS + 1, options=["--udp"])
+        silent = [self.client() for _ in range(SILENT)]
+        for number in range(ASKS):
+            sent = request_now("alice", f"New-pass{number}", number)
+            client = Client(self.server)
+            client.socket.send(sent.message)
+            self.tell(f"request {number}", said(sent, client.later() or b""), CHANGED)
+        _, bob = both_requests()
+        self.tell("over TCP", self.client().ask(bob), CHANGED)
+        self.tell("the first of the silent ones has ended", silent[0].is_ended(), True)
+        self.tell_end(f"entries {ASKS + 1} changes {ASKS + 1}")
 
+    def test_half_of_the_places(self):
+        """Of four places datagrams have two. While the worker is held, the third is dropped; a connection over TCP still has a
+        place, and is answered."""
+        worker = Hold(self.folder, "worker")
+        self.start(4, options=["--udp", "--clients", "4"], HELD=worker.file)
+        worker.hold()
+        sent = [request_now("alice", f"New-pass{number}", number) for number in range(4)]
+        clients = [Client(self.server) for _ in range(3)]
+        clients[0].socket.send(sent[0].message)
+        worker.wait()
+        for client, it in zip(clients[1:], sent[1:]):
+            self.tell("no answer yet", client.reply(it.message), None)
+        over_tcp = self.client()
+        over_tcp.send(sent[3])
+        worker.free()
+        self.tell("the first", said(sent[0], clients[0].later() or b""), CHANGED)
+        self.tell("the second", said(sent[1], clients[1].later() or b""), CHANGED)
+        self.tell("over TCP", over_tcp.told(sent[3]), CHANGED)
+        self.tell("the third was dropped", clients[2].reply(b""), None)
+        self.tell("and is answered when it comes again", said(sent[2], clients[2].ask(sent[2])), CHANGED)
+        self.tell_end("entries 4 changes 4")
 
-CASES = [
-    ("a datagram and the same again", the_same_again),
-    ("a reply once each time", once_each_time),
-    ("datagrams without an answer", without_an_answer),
-    ("an answer no longer than its question", no_longer_than_asked),
-    ("a request behind junk", behind_junk), ("a flood", flood),
-    ("two at once", two_at_once),
-    ("ports of clients and of services", from_ports),
-    ("beside silent connections", beside_silent_ones),
-    ("half of the places", half_of_the_places),
-    ("a place for datagrams alone", shares),
-]
+    def test_a_place_for_datagrams_alone(self):
+        """Of four places one is for datagrams alone: the fourth connection over TCP ends the first. Without --udp it
+        doesn't."""
+        for options, ends in (["--udp"], True), ([], False):
+            self.start(4, options=["--clients", "4", *options])
+            silent = [self.client() for _ in range(4)]
+            if ends:
+                self.tell("the first ends", silent[0].is_ended(), True)
+            else:
+                time.sleep(A_WHILE)
+                self.tell("without --udp nobody ends", all(it.is_silent() for it in silent), True)
+            self.tell_end("entries 0 changes 0")
+
 
 if __name__ == "__main__":
-    sys.exit(run(__doc__, CASES))
+    main(__doc__)

@@ -6,12 +6,12 @@ before it has answered is reported once. That changes are late is reported once,
 once share a sync of the journal: that of the last one's record, which is refused if it fails.
 """
 
-import sys
 
+from harness.cases import main
 from harness.controlling import wait_for
 from harness.false_agent import COUNT, KEYS, Agent, hexed, listed, table
 from harness.sample_realm import write_configuration
-from harness.serving import CHANGED, Watch, both_requests, run
+from harness.serving import CHANGED, Watch, both_requests, ServiceCase
 from tests.hostile.agent_answers import ALICE, AT_FIRST, BOB, GONE, OTHERS
 
 LONG = 60_000  # milliseconds
@@ -54,119 +54,104 @@ def tell_lines(case, *wanted):
     case.tell("status", status, 0)
 
 
-def list_failing(case):
-    agent, client = start(case), case.client()
-    with agent.called() as link:
-        for _ in range(FAILURES):
+class FailingLists(ServiceCase):
+    def test_a_list_that_fails(self):
+        agent, client = start(self), self.client()
+        with agent.called() as link:
+            for _ in range(FAILURES):
+                link.say("failed - the disk is gone\n")
+                link.is_asked("list keys")
             link.say("failed - the disk is gone\n")
+            changed(self, link, client)
+            tell_lines(self, FAILED)
+
+    def test_a_name_of_which_a_look_fails(self):
+        agent, client = start(self), self.client()
+        with agent.called() as link:
+            link.say(GONE)
+            link.is_asked(f"get {BOB}")
+            link.say(f"failed {BOB} the disk is gone\n")
             link.is_asked("list keys")
-        link.say("failed - the disk is gone\n")
-        changed(case, link, client)
-        tell_lines(case, FAILED)
+            link.say(GONE)
+            link.is_asked(f"get {BOB}")
+            link.say(f"none {BOB}\n")
+            wait_for(lambda: table(self) == {"alice": 1})
+            changed(self, link, client)
+            tell_lines(self, FAILED)
 
+    def test_a_KDC_that_lacks_many_names(self):
+        write_configuration(self.server.configuration, ["alice", *MANY], iterations=COUNT)
+        agent, client = start(self), self.client()
+        with agent.called() as link:
+            for said in (listed("alice"), listed("alice"), listed("alice", *MANY), listed("alice")):
+                link.say(said)
+                link.say("changed\n")
+                link.is_asked("list keys")
+            link.say(listed("alice"))
+            changed(self, link, client)
+            lacks = "the KDC lacks 20 of 21 principals; none is removed"
+            tell_lines(self, lacks, lacks)
 
-def name_failing(case):
-    agent, client = start(case), case.client()
-    with agent.called() as link:
-        link.say(GONE)
-        link.is_asked(f"get {BOB}")
-        link.say(f"failed {BOB} the disk is gone\n")
-        link.is_asked("list keys")
-        link.say(GONE)
-        link.is_asked(f"get {BOB}")
-        link.say(f"none {BOB}\n")
-        wait_for(lambda: table(case) == {"alice": 1})
-        changed(case, link, client)
-        tell_lines(case, FAILED)
+    def test_a_comparison_that_is_cut_off(self):
+        """The KDC has other keys of bob's version, so the table's are to be put; the agent ends, and somebody sets a newer password."""
+        agent, client = start(self), self.client()
+        with agent.called() as link:
+            link.say(f"has {ALICE} 1 {KEYS}\nhas {BOB} 1 {OTHERS}\nend 2\n")
+            link.is_asked(f"put {BOB} 1 {KEYS}")
+        with agent.called() as link:
+            link.say(f"has {ALICE} 1 {KEYS}\nhas {BOB} 2 {OTHERS}\nend 2\n")
+            wait_for(lambda: table(self) == {**AT_FIRST, "bob": 2})
+            changed(self, link, client)
+            tell_lines(self, DOWN)
 
+    def test_an_agent_that_hangs_up_before_it_answers(self):
+        agent, client = start(self), self.client()
+        for _ in range(4):
+            agent.called().end()
+        with agent.called() as link:
+            link.say(listed("alice", "bob"))
+            changed(self, link, client)
+            tell_lines(self, DOWN)
 
-def many_gone(case):
-    write_configuration(case.server.configuration, ["alice", *MANY], iterations=COUNT)
-    agent, client = start(case), case.client()
-    with agent.called() as link:
-        for said in (listed("alice"), listed("alice"), listed("alice", *MANY), listed("alice")):
-            link.say(said)
-            link.say("changed\n")
-            link.is_asked("list keys")
-        link.say(listed("alice"))
-        changed(case, link, client)
-        lacks = "the KDC lacks 20 of 21 principals; none is removed"
-        tell_lines(case, lacks, lacks)
+    def test_changes_that_are_late(self):
+        """The first change is confirmed when its reply is gone, and the second one is late, too."""
+        agent, client = start(self, wait=SHORT), self.client()
+        with agent.in_step() as link:
+            for name, request in zip(("alice", "bob"), both_requests()):
+                client.send(request)
+                link.is_to_put(name, 2)
+                self.tell("the reply", client.told(request), CHANGED)
+                link.say(f"put {hexed(name)} 2\n")
+            tell_lines(self, LATE, LATE)
 
+    def test_names_that_join_at_once(self):
+        """They are there long before a sync for each could be over, and so is the change that comes behind them."""
+        agent, client = start(self, SLOW=SLOW), self.client()
+        with agent.called() as link:
+            watch = Watch()
+            link.say(listed("alice", "bob", *JOINING))
+            wait_for(lambda: len(table(self)) == 2 + len(JOINING))
+            self.tell_within(TOGETHER, watch)
+            (alice, _) = both_requests()
+            client.send(alice)
+            link.confirm("alice", 2)
+            self.tell("the reply", client.told(alice), CHANGED)
+            tell_lines(self)
 
-def put_forgotten(case):
-    """The KDC has other keys of bob's version, so the table's are to be put; the agent ends, and somebody sets a newer password."""
-    agent, client = start(case), case.client()
-    with agent.called() as link:
-        link.say(f"has {ALICE} 1 {KEYS}\nhas {BOB} 1 {OTHERS}\nend 2\n")
-        link.is_asked(f"put {BOB} 1 {KEYS}")
-    with agent.called() as link:
-        link.say(f"has {ALICE} 1 {KEYS}\nhas {BOB} 2 {OTHERS}\nend 2\n")
-        wait_for(lambda: table(case) == {**AT_FIRST, "bob": 2})
-        changed(case, link, client)
-        tell_lines(case, DOWN)
+    def test_a_sync_behind_them_that_fails(self):
+        """The first sync of the journal fails: it is that of the third of three names, and no change is taken any more."""
+        agent, client = start(self, FAILS="sync 1 5"), self.client()
+        with agent.called() as link:
+            link.say(listed("alice", "bob", *JOINING[:3]))
+            first, second, third = JOINING[:3]
+            told = [f"adopted {first} kvno 1", f"adopted {second} kvno 1", f"refused adopt {third} kvno 1 text journal failed"]
+            wait_for(lambda: told[-1] in self.log.read_text())
+            self.tell("log", [it for it in told if it in self.log.read_text()], told)
+            (alice, _) = both_requests()
+            client.send(alice)
+            self.tell("the reply", client.told(alice), "code 2 journal failed")
+            self.last_lines()
 
-
-def hanging_up(case):
-    agent, client = start(case), case.client()
-    for _ in range(4):
-        agent.called().end()
-    with agent.called() as link:
-        link.say(listed("alice", "bob"))
-        changed(case, link, client)
-        tell_lines(case, DOWN)
-
-
-def late_twice(case):
-    """The first change is confirmed when its reply is gone, and the second one is late, too."""
-    agent, client = start(case, wait=SHORT), case.client()
-    with agent.in_step() as link:
-        for name, request in zip(("alice", "bob"), both_requests()):
-            client.send(request)
-            link.is_to_put(name, 2)
-            case.tell("the reply", client.told(request), CHANGED)
-            link.say(f"put {hexed(name)} 2\n")
-        tell_lines(case, LATE, LATE)
-
-
-def joining_at_once(case):
-    """They are there long before a sync for each could be over, and so is the change that comes behind them."""
-    agent, client = start(case, SLOW=SLOW), case.client()
-    with agent.called() as link:
-        watch = Watch()
-        link.say(listed("alice", "bob", *JOINING))
-        wait_for(lambda: len(table(case)) == 2 + len(JOINING))
-        case.tell_within(TOGETHER, watch)
-        (alice, _) = both_requests()
-        client.send(alice)
-        link.confirm("alice", 2)
-        case.tell("the reply", client.told(alice), CHANGED)
-        tell_lines(case)
-
-
-def last_sync_failing(case):
-    """The first sync of the journal fails: it is that of the third of three names, and no change is taken any more."""
-    agent, client = start(case, FAILS="sync 1 5"), case.client()
-    with agent.called() as link:
-        link.say(listed("alice", "bob", *JOINING[:3]))
-        first, second, third = JOINING[:3]
-        told = [f"adopted {first} kvno 1", f"adopted {second} kvno 1", f"refused adopt {third} kvno 1 text journal failed"]
-        wait_for(lambda: told[-1] in case.log.read_text())
-        case.tell("log", [it for it in told if it in case.log.read_text()], told)
-        (alice, _) = both_requests()
-        client.send(alice)
-        case.tell("the reply", client.told(alice), "code 2 journal failed")
-        case.last_lines()
-
-
-CASES = [
-    ("a list that fails", list_failing),
-    ("a name of which a look fails", name_failing),
-    ("a KDC that lacks many names", many_gone),
-    ("a comparison that is cut off", put_forgotten),
-    ("an agent that hangs up before it answers", hanging_up),
-    ("changes that are late", late_twice), ("names that join at once", joining_at_once), ("a sync behind them that fails", last_sync_failing),
-]
 
 if __name__ == "__main__":
-    sys.exit(run(__doc__, CASES))
+    main(__doc__)

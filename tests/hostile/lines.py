@@ -8,20 +8,16 @@ vain. Needs gcc (a slow sync holds a decision under the lock).
 
 import contextlib
 import datetime
-import pathlib
 import re
 import socket
-import sys
-import tempfile
 import threading
 import time
 
+from harness.cases import Case, main
 from harness.changing import CHANGED, NAMES, change
-from harness.command import Parser
 from harness.false_agent import listed
 from harness.log_lines import events, messages
 from harness.machine import slow_sync
-from harness.report import Report
 from harness.sample_realm import write_configuration
 from harness.server import Server, private
 
@@ -34,135 +30,11 @@ LINE = re.compile(
     r"code (?P<code>\d+) error (?P<error>\S+) kvno (?P<kvno>\S+) text (?P<text>.*)")
 
 
-def raise_told(report, server):
-    """A raise before the service listens is printed, and so is one to the count that there is; each is an entry."""
-    server.options = ["--raise", "8192"]
-    for wanted in ("raised 8192", "count not higher"):
-        server.start(connections=1)
-        server.connect()
-        report.tell(f"a raise: {wanted}", [server.said, server.last_words()], [[wanted], "entries 1 changes 0"])
-
-
-def raise_that_fills(report, server):
-    """A raise takes the only entry of the first history: what is asked is answered in the next one."""
-    write_configuration(server.configuration, NAMES, max_entries=1)
-    server.options = ["--raise", "8192"]
-    server.start(connections=1)
-    report.tell("a raise that fills its history", server.next_line(), "entries 1 changes 0\n")
-    report.tell("  a change behind it", change(server, NAMES[0], 1), CHANGED)
-    report.tell("  its tally", server.last_words().splitlines()[0], "entries 1 changes 1")
-
-
-def tail_told(report, server):
-    """A torn tail is cut off the journal, and reported with how many bytes are kept."""
-    server.start(connections=1)
-    report.tell("a change", change(server, NAMES[0], 1), CHANGED)
-    report.tell("its tally", server.last_words(), "entries 1 changes 1")
-    whole = server.journal.read_bytes()
-    server.journal.write_bytes(whole + whole[:20])
-    server.start(connections=1)
-    server.connect()
-    told = f"entries 0 changes 0\n{server.journal}: a torn tail was cut off after {len(whole)} bytes"
-    report.tell("a torn tail: told", server.last_words(), told)
-    report.tell("a torn tail: cut off", server.journal.read_bytes() == whole, True)
-
-
-def tally_told(report, server):
-    """Entries and changes aren't the same number where a request was refused."""
-    server.start(connections=2)
-    report.tell("a change", change(server, NAMES[0], 1), CHANGED)
-    report.tell("its password again", change(server, NAMES[0], 1), "code 4 password used before")
-    report.tell("the tally of both", server.last_words(), "entries 2 changes 1")
-
-
 def logged(path):
     """The lines of a log's messages, each by its fields."""
     lines = messages(path.read_text())
     found = [LINE.fullmatch(line) for line in lines]
     return [it.groupdict() if it else line for it, line in zip(found, lines)]
-
-
-def log_of_two_workers(report, server):
-    """Connection i has worker i modulo two; each line has its own moment."""
-    log = server.journal.with_name("log")
-    server.workers, server.options = 2, ["--log", str(log)]
-    begun = datetime.datetime.now(datetime.timezone.utc)
-    server.start(connections=4)
-    answers = [change(server, NAMES[0], number) for number in range(1, 5)]
-    report.tell("two workers: answers", answers, [CHANGED] * 4)
-    report.tell("two workers: the tally", server.last_words(), "entries 4 changes 4")
-    lines = logged(log)
-    principal = f"{NAMES[0]}@EXAMPLE.COM"
-    wanted = [
-        {"worker": str(number % 2), "client": principal, "target": principal, "code": "0", "error": "-",
-         "kvno": str(number + 2), "text": "password changed"} for number in range(4)]
-    moments = [datetime.datetime.fromisoformat(line.pop("moment").replace("Z", "+00:00")) for line in lines]
-    report.tell("two workers: the log", lines, wanted)
-    ended = datetime.datetime.now(datetime.timezone.utc)
-    report.tell("two workers: the moments", begun <= moments[0] and moments == sorted(moments) and moments[-1] <= ended,
-                True)
-    told = [datetime.datetime.fromisoformat(line.split(" ", 1)[0].replace("Z", "+00:00"))
-            for line in log.read_text().splitlines()]
-    report.tell("two workers: the service's moments", begun <= told[0] and told == sorted(told) and told[-1] <= ended, True)
-    report.tell("two workers: start and end", events(log.read_text()),
-                ["started principals 2 iterations 4096 quiet-until -", "ended entries 4 changes 4"])
-
-
-def events_logged(report, server):
-    """The service's own lines: a start that is quiet, a raise, a history that is full, and the end, which counts all
-    histories' entries."""
-    log = server.journal.with_name("log")
-    write_configuration(server.configuration, NAMES, max_entries=2)
-    private(server.journal)
-    server.options = ["--raise", "8192", "--log", str(log)]
-    server.start(connections=2)
-    answers = [change(server, NAMES[0], number) for number in range(2)]
-    report.tell("events: answers", answers, [QUIET] * 2)
-    report.tell("events: printed", server.last_words(), "entries 2 changes 0\nentries 1 changes 0")
-    started, *others = events(log.read_text())
-    words = "text requests are refused after a start; the clients' clocks are not at fault"
-    told = re.fullmatch(r"started principals 2 iterations 4096 quiet-until (\S+) (text .*)", started)
-    report.tell("events: why it is quiet", told and told[2], words)
-    begun = datetime.datetime.fromisoformat(log.read_text().split(" ", 1)[0].replace("Z", "+00:00"))
-    until = told and datetime.datetime.fromisoformat(told[1].replace("Z", "+00:00"))
-    report.tell("events: quiet for 300 seconds", until and until - begun.replace(microsecond=0),
-                datetime.timedelta(seconds=300))
-    report.tell("events: logged", others,
-                ["raised iterations 8192", "rolled-over entries 2 changes 0", "ended entries 3 changes 0"])
-    log.unlink()
-    server.journal.unlink()
-    server.options = ["--log", str(log)]
-    with socket.create_server(("127.0.0.1", server.port)):
-        server.launch(connections=1)
-        report.tell("events: a port in use", server.last_words(), f"cannot listen\n127.0.0.1:{server.port}: in use")
-    report.tell("events: no start and no end", events(log.read_text()), [])
-
-
-def full_logged(report, server):
-    """Two are decided at once while the history has room for one: the other is told so, and logged with its names."""
-    log = server.journal.with_name("log")
-    write_configuration(server.configuration, NAMES, max_entries=1)
-    server.workers, server.options = 2, ["--log", str(log)]
-    server.start(connections=2, env=slow_sync(server.seed.parent, 3_000))
-    answers = {}
-    asking = [
-        threading.Thread(target=lambda name=name: answers.update({name: change(server, name, 1)})) for name in NAMES]
-    asking[0].start()
-    # its record is written, and being synced
-    while not server.journal.stat().st_size and asking[0].is_alive():
-        time.sleep(0.01)
-    asking[1].start()
-    for thread in asking:
-        thread.join()
-    report.tell("a full history: answers", [answers[name] for name in NAMES], [CHANGED, FULL])
-    server.last_words()
-    lines = [line for line in logged(log) if line["client"].startswith(NAMES[1])]
-    for line in lines:
-        del line["moment"]
-    principal = f"{NAMES[1]}@EXAMPLE.COM"
-    report.tell("a full history: logged", lines, [
-        {"worker": "1", "client": principal, "target": principal, "code": "2", "error": "60", "kvno": "-",
-         "text": "history full"}])
 
 
 def listening(path):
@@ -186,56 +58,171 @@ def silent_agent(listener, path):
         yield
 
 
-def unconfirmed_told(report, server):
-    """Each reply that waited for the KDC in vain has a line of the log; standard error has one until a change is confirmed. Without
-    a connection none waits."""
-    log, path = server.journal.with_name("log"), server.journal.with_name("agent")
-    server.options = ["--log", str(log), "--kdc", str(path), "--kdc-wait", "200"]
-    first = listening(path)
-    server.start(connections=4)
-    with silent_agent(first, path):
-        answers = [change(server, NAMES[0], number) for number in (1, 2)]
-    answers.append(change(server, NAMES[0], 3))
-    with silent_agent(listening(path), path):
-        answers.append(change(server, NAMES[0], 4))
-        told = server.last_words().splitlines()
-    report.tell("a KDC that lags: answers", answers, [CHANGED] * 4)
-    late = f"{path}: the KDC did not have a change in time; more are not reported until one is confirmed"
-    down = f"{path}: no connection to the KDC's agent; it is tried again"
-    report.tell("a KDC that lags: told", sorted(told), sorted(["entries 4 changes 4", late, down]))
-    lines = [line.split(" ", 1)[1] for line in messages(log.read_text()) if " worker - " in line]
-    words = "worker - peer 127.0.0.1 client - target - code - error - kvno - text not confirmed by the KDC: change "
-    report.tell("a KDC that lags: logged", lines, [f"{words}{it}" for it in (1, 2, 4)])
+class Lines(Case):
+    def setUp(self):
+        super().setUp()
+        self.server = Server(self.program, self.folder, workers=1)
+        self.addCleanup(self.server.end)
+        write_configuration(self.server.configuration, NAMES)
 
+    def test_raise_told(self):
+        """A raise before the service listens is printed, and so is one to the count that there is; each is an entry."""
+        server = self.server
+        server.options = ["--raise", "8192"]
+        for wanted in ("raised 8192", "count not higher"):
+            server.start(connections=1)
+            server.connect()
+            self.tell(f"a raise: {wanted}", [server.said, server.last_words()], [[wanted], "entries 1 changes 0"])
 
-def silence(report, server):
-    """A silent client's connection ends once it has kept silent for --idle, and not much later."""
-    server.idle = 2
-    server.start(connections=1)
-    begun = time.monotonic()
-    with socket.create_connection(("127.0.0.1", server.port), timeout=20) as silent:
-        report.tell("silence: ended without a word", silent.recv(1), b"")
-    spent = time.monotonic() - begun
-    report.tell("silence: after two seconds", 1.9 < spent < 4, True)
-    report.tell("silence: its tally", server.last_words(), "entries 0 changes 0")
+    def test_raise_that_fills(self):
+        """A raise takes the only entry of the first history: what is asked is answered in the next one."""
+        server = self.server
+        write_configuration(server.configuration, NAMES, max_entries=1)
+        server.options = ["--raise", "8192"]
+        server.start(connections=1)
+        self.tell("a raise that fills its history", server.next_line(), "entries 1 changes 0\n")
+        self.tell("  a change behind it", change(server, NAMES[0], 1), CHANGED)
+        self.tell("  its tally", server.last_words().splitlines()[0], "entries 1 changes 1")
 
+    def test_tail_told(self):
+        """A torn tail is cut off the journal, and reported with how many bytes are kept."""
+        server = self.server
+        server.start(connections=1)
+        self.tell("a change", change(server, NAMES[0], 1), CHANGED)
+        self.tell("its tally", server.last_words(), "entries 1 changes 1")
+        whole = server.journal.read_bytes()
+        server.journal.write_bytes(whole + whole[:20])
+        server.start(connections=1)
+        server.connect()
+        told = f"entries 0 changes 0\n{server.journal}: a torn tail was cut off after {len(whole)} bytes"
+        self.tell("a torn tail: told", server.last_words(), told)
+        self.tell("a torn tail: cut off", server.journal.read_bytes() == whole, True)
 
-def main():
-    parser = Parser(__doc__)
-    parser.add_program("--program")
-    program = parser.parse_args().program
-    report = Report()
-    for cases in (raise_told, raise_that_fills, tail_told, tally_told, log_of_two_workers, full_logged,
-                  events_logged, unconfirmed_told, silence):
-        with tempfile.TemporaryDirectory(prefix="chpw-lines-") as folder:
-            server = Server(program, pathlib.Path(folder), workers=1)
-            write_configuration(server.configuration, NAMES)
-            try:
-                cases(report, server)
-            finally:
-                server.end()
-    return report.status()
+    def test_tally_told(self):
+        """Entries and changes aren't the same number where a request was refused."""
+        server = self.server
+        server.start(connections=2)
+        self.tell("a change", change(server, NAMES[0], 1), CHANGED)
+        self.tell("its password again", change(server, NAMES[0], 1), "code 4 password used before")
+        self.tell("the tally of both", server.last_words(), "entries 2 changes 1")
+
+    def test_log_of_two_workers(self):
+        """Connection i has worker i modulo two; each line has its own moment."""
+        server = self.server
+        log = server.journal.with_name("log")
+        server.workers, server.options = 2, ["--log", str(log)]
+        begun = datetime.datetime.now(datetime.timezone.utc)
+        server.start(connections=4)
+        answers = [change(server, NAMES[0], number) for number in range(1, 5)]
+        self.tell("two workers: answers", answers, [CHANGED] * 4)
+        self.tell("two workers: the tally", server.last_words(), "entries 4 changes 4")
+        lines = logged(log)
+        principal = f"{NAMES[0]}@EXAMPLE.COM"
+        wanted = [
+            {"worker": str(number % 2), "client": principal, "target": principal, "code": "0", "error": "-",
+             "kvno": str(number + 2), "text": "password changed"} for number in range(4)]
+        moments = [datetime.datetime.fromisoformat(line.pop("moment").replace("Z", "+00:00")) for line in lines]
+        self.tell("two workers: the log", lines, wanted)
+        ended = datetime.datetime.now(datetime.timezone.utc)
+        self.tell("two workers: the moments", begun <= moments[0] and moments == sorted(moments) and moments[-1] <= ended,
+                    True)
+        told = [datetime.datetime.fromisoformat(line.split(" ", 1)[0].replace("Z", "+00:00"))
+                for line in log.read_text().splitlines()]
+        self.tell("two workers: the service's moments", begun <= told[0] and told == sorted(told) and told[-1] <= ended, True)
+        self.tell("two workers: start and end", events(log.read_text()),
+                    ["started principals 2 iterations 4096 quiet-until -", "ended entries 4 changes 4"])
+
+    def test_full_logged(self):
+        """Two are decided at once while the history has room for one: the other is told so, and logged with its names."""
+        server = self.server
+        log = server.journal.with_name("log")
+        write_configuration(server.configuration, NAMES, max_entries=1)
+        server.workers, server.options = 2, ["--log", str(log)]
+        server.start(connections=2, env=slow_sync(server.seed.parent, 3_000))
+        answers = {}
+        asking = [
+            threading.Thread(target=lambda name=name: answers.update({name: change(server, name, 1)})) for name in NAMES]
+        asking[0].start()
+        # its record is written, and being synced
+        while not server.journal.stat().st_size and asking[0].is_alive():
+            time.sleep(0.01)
+        asking[1].start()
+        for thread in asking:
+            thread.join()
+        self.tell("a full history: answers", [answers[name] for name in NAMES], [CHANGED, FULL])
+        server.last_words()
+        lines = [line for line in logged(log) if line["client"].startswith(NAMES[1])]
+        for line in lines:
+            del line["moment"]
+        principal = f"{NAMES[1]}@EXAMPLE.COM"
+        self.tell("a full history: logged", lines, [
+            {"worker": "1", "client": principal, "target": principal, "code": "2", "error": "60", "kvno": "-",
+             "text": "history full"}])
+
+    def test_events_logged(self):
+        """The service's own lines: a start that is quiet, a raise, a history that is full, and the end, which counts all
+        histories' entries."""
+        server = self.server
+        log = server.journal.with_name("log")
+        write_configuration(server.configuration, NAMES, max_entries=2)
+        private(server.journal)
+        server.options = ["--raise", "8192", "--log", str(log)]
+        server.start(connections=2)
+        answers = [change(server, NAMES[0], number) for number in range(2)]
+        self.tell("events: answers", answers, [QUIET] * 2)
+        self.tell("events: printed", server.last_words(), "entries 2 changes 0\nentries 1 changes 0")
+        started, *others = events(log.read_text())
+        words = "text requests are refused after a start; the clients' clocks are not at fault"
+        told = re.fullmatch(r"started principals 2 iterations 4096 quiet-until (\S+) (text .*)", started)
+        self.tell("events: why it is quiet", told and told[2], words)
+        begun = datetime.datetime.fromisoformat(log.read_text().split(" ", 1)[0].replace("Z", "+00:00"))
+        until = told and datetime.datetime.fromisoformat(told[1].replace("Z", "+00:00"))
+        self.tell("events: quiet for 300 seconds", until and until - begun.replace(microsecond=0),
+                    datetime.timedelta(seconds=300))
+        self.tell("events: logged", others,
+                    ["raised iterations 8192", "rolled-over entries 2 changes 0", "ended entries 3 changes 0"])
+        log.unlink()
+        server.journal.unlink()
+        server.options = ["--log", str(log)]
+        with socket.create_server(("127.0.0.1", server.port)):
+            server.launch(connections=1)
+            self.tell("events: a port in use", server.last_words(), f"cannot listen\n127.0.0.1:{server.port}: in use")
+        self.tell("events: no start and no end", events(log.read_text()), [])
+
+    def test_unconfirmed_told(self):
+        """Each reply that waited for the KDC in vain has a line of the log; standard error has one until a change is confirmed. Without
+        a connection none waits."""
+        server = self.server
+        log, path = server.journal.with_name("log"), server.journal.with_name("agent")
+        server.options = ["--log", str(log), "--kdc", str(path), "--kdc-wait", "200"]
+        first = listening(path)
+        server.start(connections=4)
+        with silent_agent(first, path):
+            answers = [change(server, NAMES[0], number) for number in (1, 2)]
+        answers.append(change(server, NAMES[0], 3))
+        with silent_agent(listening(path), path):
+            answers.append(change(server, NAMES[0], 4))
+            told = server.last_words().splitlines()
+        self.tell("a KDC that lags: answers", answers, [CHANGED] * 4)
+        late = f"{path}: the KDC did not have a change in time; more are not reported until one is confirmed"
+        down = f"{path}: no connection to the KDC's agent; it is tried again"
+        self.tell("a KDC that lags: told", sorted(told), sorted(["entries 4 changes 4", late, down]))
+        lines = [line.split(" ", 1)[1] for line in messages(log.read_text()) if " worker - " in line]
+        words = "worker - peer 127.0.0.1 client - target - code - error - kvno - text not confirmed by the KDC: change "
+        self.tell("a KDC that lags: logged", lines, [f"{words}{it}" for it in (1, 2, 4)])
+
+    def test_silence(self):
+        """A silent client's connection ends once it has kept silent for --idle, and not much later."""
+        server = self.server
+        server.idle = 2
+        server.start(connections=1)
+        begun = time.monotonic()
+        with socket.create_connection(("127.0.0.1", server.port), timeout=20) as silent:
+            self.tell("silence: ended without a word", silent.recv(1), b"")
+        spent = time.monotonic() - begun
+        self.tell("silence: after two seconds", 1.9 < spent < 4, True)
+        self.tell("silence: its tally", server.last_words(), "entries 0 changes 0")
 
 
 if __name__ == "__main__":
-    sys.exit(main())
+    main(__doc__)

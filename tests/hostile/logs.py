@@ -7,11 +7,11 @@ that can't be had is what docs/ADMIN has. The clock of the day stands still unti
 import os
 import resource
 import subprocess
-import sys
 
+from harness.cases import add, main
 from harness.asking import request_now
 from harness.log_lines import messages
-from harness.serving import CHANGED, REPLAYED, START, SetClock, request, run
+from harness.serving import CHANGED, REPLAYED, START, SetClock, request, ServiceCase
 
 # the log of one change of alice at START: the service's first line, the change's, and the service's last one
 PRINCIPAL = "alice@EXAMPLE.COM"
@@ -33,28 +33,13 @@ def change_logged(case, log):
     case.tell("a change", case.client().ask(request("alice")), CHANGED)
 
 
-def gone_on_with(former, begins):
+def gone_on_with(case, former, begins):
     """A log that a former run left so begins so, and has the lines of one change behind that."""
-    def body(case):
-        log = case.folder / "log"
-        log.write_text(former)
-        change_logged(case, "log")
-        case.tell_end(ONE_CHANGE)
-        case.tell("the log", log.read_text().splitlines(), [*begins.splitlines(), *LINES])
-    return body
-
-
-def on_standard_error(case):
-    """The log `-` is standard error, and no file."""
-    change_logged(case, "-")
-    case.tell_end(ONE_CHANGE, *LINES)
-    case.tell("a file of that name", (case.folder / "-").exists(), False)
-
-
-def on_a_device(case):
-    """A log at /dev/null."""
-    change_logged(case, "/dev/null")
+    log = case.folder / "log"
+    log.write_text(former)
+    change_logged(case, "log")
     case.tell_end(ONE_CHANGE)
+    case.tell("the log", log.read_text().splitlines(), [*begins.splitlines(), *LINES])
 
 
 def tell_refused(case, path, journal, log, why=(), **options):
@@ -85,50 +70,6 @@ LOGS = ["realm", "./realm", "hard", "seed", "soft", "journal", ".//journal"]
 JOURNALS = ["realm", "./hard", "seed", "soft"]
 
 
-def one_file_twice(case):
-    """They are refused, and none of the files is written to. The last log leads to the journal, which isn't there."""
-    files = prepare(case)
-    (case.folder / "hard").hardlink_to(case.folder / "realm")
-    for link, to in (("soft", "seed"), ("dangling", "journal")):
-        (case.folder / link).symlink_to(to)
-    for log in LOGS:
-        tell_refused(case, log, "journal", log)
-    for journal in JOURNALS:
-        tell_refused(case, journal, journal, "log")
-    tell_unwritten(case, files, "journal", "log")
-    tell_refused(case, "dangling", "journal", "dangling")
-    tell_unwritten(case, files, "log")
-
-
-def no_file(case):
-    """A folder is no log, and no pipe either, whose opener would wait."""
-    files = prepare(case)
-    reader, writer = os.pipe()
-    tell_refused(case, ".", "journal", ".", [".: is a directory"])
-    pipe = f"/dev/fd/{writer}"
-    tell_refused(case, pipe, "journal", pipe, [f"{pipe}: not a regular file"], pass_fds=[writer])
-    os.close(reader)
-    os.close(writer)
-    tell_unwritten(case, files, "journal")
-
-
-def at_its_limit(case):
-    """A log that may not be longer loses the lines that don't fit, and no signal ends the service."""
-    unlimited = resource.getrlimit(resource.RLIMIT_FSIZE)
-    resource.setrlimit(resource.RLIMIT_FSIZE, (200, unlimited[1]))
-    case.server.options = ["--log", "log"]
-    try:
-        case.server.launch(1, cwd=case.folder)
-    finally:
-        resource.setrlimit(resource.RLIMIT_FSIZE, unlimited)
-    case.server.listens()
-    case.tell("a change", case.client().ask(request_now("alice", "New-pass2", 1)), CHANGED)
-    case.tell_end(ONE_CHANGE, "log: a line of the log was lost; further losses are not reported")
-    lines = (case.folder / "log").read_text().splitlines()
-    case.tell("the log", [line.split(" ", 1)[-1] for line in lines],
-              ["service started principals 2 iterations 4 quiet-until -", "", f"service ended {ONE_CHANGE}"])
-
-
 # how many messages that don't open come at a second, of which the first has one that does behind them
 FLOOD = [(0, 30), (1, 2), (2, 1), (3, 15)]
 TEXTS = [
@@ -139,27 +80,6 @@ TEXTS = [
     *10 * ["malformed"],
     "5 more did not open: 5 from 127.0.0.0/8 or ::1, 0 from elsewhere",
 ]
-
-
-def flood(case):
-    """Of what doesn't open ten have a line in any one second, and the others are counted."""
-    clock = SetClock(case.folder)
-    case.start(1, options=["--log", "log"], CLOCK=clock.file)
-    client = case.client()
-    replies = 0
-    for seconds, count in FLOOD:
-        clock.set(START + seconds)
-        for _ in range(count):
-            client.send_messages(b"\0")
-            replies += client.has_reply()
-        if seconds == 0:
-            case.tell("one that opens", client.ask(request("alice")), CHANGED)
-    case.tell("replies", replies, sum(count for _, count in FLOOD))
-    case.tell_end(ONE_CHANGE)
-    text = (case.folder / "log").read_text()
-    lines = messages(text)
-    case.tell("the log", [line.split(" text ", 1)[1] for line in lines], TEXTS)
-    case.tell("its last line", text.splitlines()[-1].split(" ", 1)[1], f"service ended {ONE_CHANGE}")
 
 
 # how often a message comes again at a second, and one behind it that is too old
@@ -174,40 +94,107 @@ AGAIN_TEXTS = [
 ]
 
 
-def sent_again(case):
-    """Of recorded messages, that of a while ago and that of long ago, ten of each have a line in any one second."""
-    clock = SetClock(case.folder)
-    case.start(1, options=["--log", "log"], CLOCK=clock.file)
-    client = case.client()
-    recorded, old = request("alice"), request("bob", ctime=START - 301)
-    case.tell("the first time", client.ask(recorded), CHANGED)
-    told = []
-    for seconds, count in AGAIN:
-        clock.set(START + seconds)
-        for _ in range(count):
-            told += [client.ask(recorded), client.ask(old)]
-    count = sum(count for _, count in AGAIN)
-    case.tell("again", [told.count(REPLAYED), told.count(STALE), len(told)], [count, count, 2 * count])
-    tally = f"entries {1 + 2 * count} changes 1"
-    case.tell_end(tally)
-    text = (case.folder / "log").read_text()
-    case.tell("the log", [line.split(" text ", 1)[1] for line in messages(text)], AGAIN_TEXTS)
-    case.tell("its last line", text.splitlines()[-1].split(" ", 1)[1], f"service ended {tally}")
-
-
 # a line of a former run that isn't whole is ended; a whole one and an empty file are not
 FORMER = [("empty", "", ""), ("whole", "whole\n", "whole\n"), ("torn", "to", "to\n"), ("an empty line", "\n", "\n")]
 
-CASES = [
-    *((f"a log that is gone on with, {what}", gone_on_with(former, begins)) for what, former, begins in FORMER),
-    ("one file twice", one_file_twice),
-    ("a log that is no file", no_file),
-    ("a log on standard error", on_standard_error),
-    ("a log on a device", on_a_device),
-    ("a log at its limit", at_its_limit),
-    ("a flood of what does not open", flood),
-    ("a flood of recorded messages", sent_again),
-]
+
+class Logs(ServiceCase):
+    def test_one_file_twice(self):
+        """They are refused, and none of the files is written to. The last log leads to the journal, which isn't there."""
+        files = prepare(self)
+        (self.folder / "hard").hardlink_to(self.folder / "realm")
+        for link, to in (("soft", "seed"), ("dangling", "journal")):
+            (self.folder / link).symlink_to(to)
+        for log in LOGS:
+            tell_refused(self, log, "journal", log)
+        for journal in JOURNALS:
+            tell_refused(self, journal, journal, "log")
+        tell_unwritten(self, files, "journal", "log")
+        tell_refused(self, "dangling", "journal", "dangling")
+        tell_unwritten(self, files, "log")
+
+    def test_a_log_that_is_no_file(self):
+        """A folder is no log, and no pipe either, whose opener would wait."""
+        files = prepare(self)
+        reader, writer = os.pipe()
+        tell_refused(self, ".", "journal", ".", [".: is a directory"])
+        pipe = f"/dev/fd/{writer}"
+        tell_refused(self, pipe, "journal", pipe, [f"{pipe}: not a regular file"], pass_fds=[writer])
+        os.close(reader)
+        os.close(writer)
+        tell_unwritten(self, files, "journal")
+
+    def test_a_log_on_standard_error(self):
+        """The log `-` is standard error, and no file."""
+        change_logged(self, "-")
+        self.tell_end(ONE_CHANGE, *LINES)
+        self.tell("a file of that name", (self.folder / "-").exists(), False)
+
+    def test_a_log_on_a_device(self):
+        """A log at /dev/null."""
+        change_logged(self, "/dev/null")
+        self.tell_end(ONE_CHANGE)
+
+    def test_a_log_at_its_limit(self):
+        """A log that may not be longer loses the lines that don't fit, and no signal ends the service."""
+        unlimited = resource.getrlimit(resource.RLIMIT_FSIZE)
+        resource.setrlimit(resource.RLIMIT_FSIZE, (200, unlimited[1]))
+        self.server.options = ["--log", "log"]
+        try:
+            self.server.launch(1, cwd=self.folder)
+        finally:
+            resource.setrlimit(resource.RLIMIT_FSIZE, unlimited)
+        self.server.listens()
+        self.tell("a change", self.client().ask(request_now("alice", "New-pass2", 1)), CHANGED)
+        self.tell_end(ONE_CHANGE, "log: a line of the log was lost; further losses are not reported")
+        lines = (self.folder / "log").read_text().splitlines()
+        self.tell("the log", [line.split(" ", 1)[-1] for line in lines],
+                  ["service started principals 2 iterations 4 quiet-until -", "", f"service ended {ONE_CHANGE}"])
+
+    def test_a_flood_of_what_does_not_open(self):
+        """Of what doesn't open ten have a line in any one second, and the others are counted."""
+        clock = SetClock(self.folder)
+        self.start(1, options=["--log", "log"], CLOCK=clock.file)
+        client = self.client()
+        replies = 0
+        for seconds, count in FLOOD:
+            clock.set(START + seconds)
+            for _ in range(count):
+                client.send_messages(b"\0")
+                replies += client.has_reply()
+            if seconds == 0:
+                self.tell("one that opens", client.ask(request("alice")), CHANGED)
+        self.tell("replies", replies, sum(count for _, count in FLOOD))
+        self.tell_end(ONE_CHANGE)
+        text = (self.folder / "log").read_text()
+        lines = messages(text)
+        self.tell("the log", [line.split(" text ", 1)[1] for line in lines], TEXTS)
+        self.tell("its last line", text.splitlines()[-1].split(" ", 1)[1], f"service ended {ONE_CHANGE}")
+
+    def test_a_flood_of_recorded_messages(self):
+        """Of recorded messages, that of a while ago and that of long ago, ten of each have a line in any one second."""
+        clock = SetClock(self.folder)
+        self.start(1, options=["--log", "log"], CLOCK=clock.file)
+        client = self.client()
+        recorded, old = request("alice"), request("bob", ctime=START - 301)
+        self.tell("the first time", client.ask(recorded), CHANGED)
+        told = []
+        for seconds, count in AGAIN:
+            clock.set(START + seconds)
+            for _ in range(count):
+                told += [client.ask(recorded), client.ask(old)]
+        count = sum(count for _, count in AGAIN)
+        self.tell("again", [told.count(REPLAYED), told.count(STALE), len(told)], [count, count, 2 * count])
+        tally = f"entries {1 + 2 * count} changes 1"
+        self.tell_end(tally)
+        text = (self.folder / "log").read_text()
+        self.tell("the log", [line.split(" text ", 1)[1] for line in messages(text)], AGAIN_TEXTS)
+        self.tell("its last line", text.splitlines()[-1].split(" ", 1)[1], f"service ended {tally}")
+
+
+for what, former, begins in FORMER:
+    add(Logs, f"a log that is gone on with, {what}", gone_on_with, former, begins)
+
 
 if __name__ == "__main__":
-    sys.exit(run(__doc__, CASES))
+    main(__doc__)

@@ -9,19 +9,15 @@ is decided, and that is counted on standard error. Needs gcc.
 """
 
 import os
-import pathlib
 import subprocess
-import sys
-import tempfile
 import threading
 import time
 
+from harness.cases import Case, main
 from harness.changing import CHANGED, NAMES, change
-from harness.command import Parser
 from harness.journal import read_journal
 from harness.log_lines import events, messages
 from harness.machine import machine, slow_sync
-from harness.report import Report
 from harness.sample_realm import write_configuration
 from harness.server import Server
 
@@ -47,118 +43,110 @@ def ended(server, seconds=20):
     return errors.strip(), server.process.returncode
 
 
-def reader_gone(report, server):
-    """Two histories are full, and a third one isn't when the last connection ends."""
-    server.start(connections=7)
-    server.process.stdout.close()
-    server.process.stdout = None
-    report.tell("no reader of standard output: answers", changes(server, 7), [CHANGED] * 7)
-    report.tell("no reader: told once, and at the end", ended(server), (f"{LOST}\ncannot write", 1))
-    report.tell("no reader: the journal", in_journal(server), ([("user0", kvno) for kvno in range(2, 9)], 0))
+class Outputs(Case):
+    def setUp(self):
+        super().setUp()
+        self.server = Server(self.program, self.folder, workers=1)
+        self.addCleanup(self.server.end)
+        write_configuration(self.server.configuration, NAMES, max_entries=ENTRIES, iterations=4)
 
+    def test_reader_gone(self):
+        """Two histories are full, and a third one isn't when the last connection ends."""
+        server = self.server
+        server.start(connections=7)
+        server.process.stdout.close()
+        server.process.stdout = None
+        self.tell("no reader of standard output: answers", changes(server, 7), [CHANGED] * 7)
+        self.tell("no reader: told once, and at the end", ended(server), (f"{LOST}\ncannot write", 1))
+        self.tell("no reader: the journal", in_journal(server), ([("user0", kvno) for kvno in range(2, 9)], 0))
 
-def output_full(report, server):
-    """A device that is full at the start: the service can't say that it listens."""
-    with open("/dev/full", "w") as full:
+    def test_output_full(self):
+        """A device that is full at the start: the service can't say that it listens."""
+        server = self.server
+        with open("/dev/full", "w") as full:
+            server.process = subprocess.Popen(
+                server.command(1), stdin=subprocess.DEVNULL, stdout=full, stderr=subprocess.PIPE, text=True)
+            self.tell("standard output full at the start", ended(server), ("cannot write", 1))
+
+    def test_log_full(self):
+        """A log at a full device: each answer is as ever, and the loss is told once."""
+        server = self.server
+        server.options = ["--log", "/dev/full"]
+        server.start(connections=7)
+        self.tell("a log that takes no line: answers", changes(server, 7), [CHANGED] * 7)
+        tally = f"entries {ENTRIES} changes {ENTRIES}"
+        told = f"{tally}\n{tally}\nentries 1 changes 1\n/dev/full: a line of the log was lost; further losses are not reported"
+        self.tell("a log that takes no line: told once", server.last_words(), told)
+
+    def test_stalled_error(self):
+        """Standard error is a full pipe that nobody reads: each answer comes, and at most one waits for it. Once it is read
+        again, the lines go on, and the loss is told."""
+        server = self.server
+        server.start(connections=4)
+        begun = time.monotonic()
+        self.tell("in peace: answers", changes(server, 4), [CHANGED] * 4)
+        peace = time.monotonic() - begun
+        server.last_words()
+        server.journal.unlink()
+        server.options = ["--log", "-"]
+        reader, writer = os.pipe()
+        os.set_blocking(writer, False)
+        try:
+            while True:
+                os.write(writer, b"\n" * 4_096)
+        except BlockingIOError:
+            pass
+        os.set_blocking(writer, True)
         server.process = subprocess.Popen(
-            server.command(1), stdin=subprocess.DEVNULL, stdout=full, stderr=subprocess.PIPE, text=True)
-        report.tell("standard output full at the start", ended(server), ("cannot write", 1))
+            server.command(5), stdin=subprocess.DEVNULL, stdout=subprocess.PIPE, stderr=writer, text=True)
+        os.close(writer)
+        server.said = server.lines_before(f"listening on 127.0.0.1:{server.port}")
+        begun = time.monotonic()
+        self.tell("standard error stalls: answers", changes(server, 4), [CHANGED] * 4)
+        spent = time.monotonic() - begun
+        self.tell(f"standard error stalls: they come soon ({spent:.1f} s, in peace {peace:.1f} s)", spent < 2 * peace + 2,
+                    True)
+        os.set_blocking(reader, False)
+        try:
+            while True:
+                os.read(reader, 65_536)
+        except BlockingIOError:
+            pass
+        self.tell("read again: the next answer", change(server, NAMES[0], 4), CHANGED)
+        server.process.communicate(timeout=20)
+        with open(reader) as told:
+            lines = told.read().splitlines()
+        self.tell("read again: its line, the loss and the end", [len(messages(lines[0])), lines[1], events(lines[2])],
+                    [1, "-: a line of the log was lost; further losses are not reported", ["ended entries 5 changes 5"]])
 
+    def test_sync_fails(self):
+        """The first change's sync fails: neither that nor a later one is answered as made."""
+        server = self.server
+        server.start(connections=2, env=machine(server.seed.parent, FAILS="sync 1 5"))
+        self.tell("a sync that fails: answers", changes(server, 2), ["code 2 journal failed"] * 2)
+        told = f"{server.journal}: journal failed: input/output error: no change is accepted until a restart"
+        self.tell("a sync that fails: told", server.last_words(), f"entries 2 changes 0\n{told}")
 
-def log_full(report, server):
-    """A log at a full device: each answer is as ever, and the loss is told once."""
-    server.options = ["--log", "/dev/full"]
-    server.start(connections=7)
-    report.tell("a log that takes no line: answers", changes(server, 7), [CHANGED] * 7)
-    tally = f"entries {ENTRIES} changes {ENTRIES}"
-    told = f"{tally}\n{tally}\nentries 1 changes 1\n/dev/full: a line of the log was lost; further losses are not reported"
-    report.tell("a log that takes no line: told once", server.last_words(), told)
+    def test_waited_too_long(self):
+        """One worker, held by the sync of the first change: the second one's message is dropped meanwhile."""
+        server = self.server
+        server.start(connections=2, env=slow_sync(server.seed.parent, SLOW))
+        answers = {}
 
+        def ask(name):
+            answers[name] = change(server, name, 0)
 
-def stalled_error(report, server):
-    """Standard error is a full pipe that nobody reads: each answer comes, and at most one waits for it. Once it is read
-    again, the lines go on, and the loss is told."""
-    server.start(connections=4)
-    begun = time.monotonic()
-    report.tell("in peace: answers", changes(server, 4), [CHANGED] * 4)
-    peace = time.monotonic() - begun
-    server.last_words()
-    server.journal.unlink()
-    server.options = ["--log", "-"]
-    reader, writer = os.pipe()
-    os.set_blocking(writer, False)
-    try:
-        while True:
-            os.write(writer, b"\n" * 4_096)
-    except BlockingIOError:
-        pass
-    os.set_blocking(writer, True)
-    server.process = subprocess.Popen(
-        server.command(5), stdin=subprocess.DEVNULL, stdout=subprocess.PIPE, stderr=writer, text=True)
-    os.close(writer)
-    server.said = server.lines_before(f"listening on 127.0.0.1:{server.port}")
-    begun = time.monotonic()
-    report.tell("standard error stalls: answers", changes(server, 4), [CHANGED] * 4)
-    spent = time.monotonic() - begun
-    report.tell(f"standard error stalls: they come soon ({spent:.1f} s, in peace {peace:.1f} s)", spent < 2 * peace + 2,
-                True)
-    os.set_blocking(reader, False)
-    try:
-        while True:
-            os.read(reader, 65_536)
-    except BlockingIOError:
-        pass
-    report.tell("read again: the next answer", change(server, NAMES[0], 4), CHANGED)
-    server.process.communicate(timeout=20)
-    with open(reader) as told:
-        lines = told.read().splitlines()
-    report.tell("read again: its line, the loss and the end", [len(messages(lines[0])), lines[1], events(lines[2])],
-                [1, "-: a line of the log was lost; further losses are not reported", ["ended entries 5 changes 5"]])
-
-
-def sync_fails(report, server):
-    """The first change's sync fails: neither that nor a later one is answered as made."""
-    server.start(connections=2, env=machine(server.seed.parent, FAILS="sync 1 5"))
-    report.tell("a sync that fails: answers", changes(server, 2), ["code 2 journal failed"] * 2)
-    told = f"{server.journal}: journal failed: input/output error: no change is accepted until a restart"
-    report.tell("a sync that fails: told", server.last_words(), f"entries 2 changes 0\n{told}")
-
-
-def waited_too_long(report, server):
-    """One worker, held by the sync of the first change: the second one's message is dropped meanwhile."""
-    server.start(connections=2, env=slow_sync(server.seed.parent, SLOW))
-    answers = {}
-
-    def ask(name):
-        answers[name] = change(server, name, 0)
-
-    first, second = (threading.Thread(target=ask, args=[name]) for name in NAMES)
-    first.start()
-    time.sleep(1)
-    second.start()
-    first.join()
-    second.join()
-    report.tell("a message that waited too long: the other answer", answers[NAMES[0]], CHANGED)
-    report.tell("it has no answer", answers[NAMES[1]] == CHANGED, False)
-    report.tell("what is told", server.last_words(), f"entries 1 changes 1\n{DROPPED}1")
-    report.tell("the journal", in_journal(server), ([("user0", 2)], 0))
-
-
-def main():
-    parser = Parser(__doc__)
-    parser.add_program("--program")
-    program = parser.parse_args().program
-    report = Report()
-    for cases in (reader_gone, output_full, log_full, stalled_error, sync_fails, waited_too_long):
-        with tempfile.TemporaryDirectory(prefix="chpw-outputs-") as folder:
-            server = Server(program, pathlib.Path(folder), workers=1)
-            write_configuration(server.configuration, NAMES, max_entries=ENTRIES, iterations=4)
-            try:
-                cases(report, server)
-            finally:
-                server.end()
-    return report.status()
+        first, second = (threading.Thread(target=ask, args=[name]) for name in NAMES)
+        first.start()
+        time.sleep(1)
+        second.start()
+        first.join()
+        second.join()
+        self.tell("a message that waited too long: the other answer", answers[NAMES[0]], CHANGED)
+        self.tell("it has no answer", answers[NAMES[1]] == CHANGED, False)
+        self.tell("what is told", server.last_words(), f"entries 1 changes 1\n{DROPPED}1")
+        self.tell("the journal", in_journal(server), ([("user0", 2)], 0))
 
 
 if __name__ == "__main__":
-    sys.exit(main())
+    main(__doc__)

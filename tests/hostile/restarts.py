@@ -5,14 +5,14 @@ answer would be that it is replayed. Each request has to be accepted, within a s
 has to be in the journal at the end. On a machine that is busy with something else a wait may be longer.
 """
 
-import sys
 import threading
 import time
 
+from harness.cases import main
 from harness.asking import request_now
 from harness.controlling import OK, ask, entries_of, status
 from harness.journal import read_journal
-from harness.serving import CHANGED, PATIENCE, REPLAYED, Client, Watch, run
+from harness.serving import CHANGED, PATIENCE, REPLAYED, Client, Watch, ServiceCase
 
 PRINCIPALS, CLIENTS, RESTARTS = 10_000, 8, 5
 # seconds that a service goes on between two restarts, between two tries of a client, and that a request may take
@@ -73,37 +73,6 @@ def stop(case):
     return lines
 
 
-def restarted(case):
-    """Stopped and started again and again; how long nobody listened is told."""
-    case.realm([f"user{number}" for number in range(PRINCIPALS)])
-    start(case)
-    changers = [Changer(case.server, f"user{number * PRINCIPALS // CLIENTS}") for number in range(CLIENTS)]
-    for changer in changers:
-        changer.start()
-    lines = []
-    try:
-        for number in range(RESTARTS):
-            time.sleep(APART)
-            watch = Watch()
-            lines += stop(case)
-            start(case)
-            print(f"restart {number + 1}: {watch.spent():.2f} s", flush=True)
-            case.tell("no quiet time", status(case)["quiet-until"], "-")
-        time.sleep(APART)
-    finally:
-        for changer in changers:
-            changer.over.set()
-        for changer in changers:
-            changer.join()
-    tell_answers(case, changers)
-    again = [case.client().ask(it) for changer in changers for it in (changer.sent[0], changer.sent[-1])]
-    case.tell("the first and the last of each once more", again, [REPLAYED] * 2 * CLIENTS)
-    while case.clients:
-        case.clients.pop().close()
-    lines += stop(case)
-    tell_kept(case, changers, lines)
-
-
 def tell_answers(case, changers):
     count = sum(len(it.sent) for it in changers)
     print(f"{count} requests, {sum(it.tries for it in changers)} tries without an answer", flush=True)
@@ -123,7 +92,37 @@ def tell_kept(case, changers, lines):
     case.tell("the journal's other records, and what is torn", (len(records) - count, torn), (0, b""))
 
 
-CASES = [("restarts under load", restarted)]
+class Restarts(ServiceCase):
+    def test_restarts_under_load(self):
+        """Stopped and started again and again; how long nobody listened is told."""
+        self.realm([f"user{number}" for number in range(PRINCIPALS)])
+        start(self)
+        changers = [Changer(self.server, f"user{number * PRINCIPALS // CLIENTS}") for number in range(CLIENTS)]
+        for changer in changers:
+            changer.start()
+        lines = []
+        try:
+            for number in range(RESTARTS):
+                time.sleep(APART)
+                watch = Watch()
+                lines += stop(self)
+                start(self)
+                print(f"restart {number + 1}: {watch.spent():.2f} s", flush=True)
+                self.tell("no quiet time", status(self)["quiet-until"], "-")
+            time.sleep(APART)
+        finally:
+            for changer in changers:
+                changer.over.set()
+            for changer in changers:
+                changer.join()
+        tell_answers(self, changers)
+        again = [self.client().ask(it) for changer in changers for it in (changer.sent[0], changer.sent[-1])]
+        self.tell("the first and the last of each once more", again, [REPLAYED] * 2 * CLIENTS)
+        while self.clients:
+            self.clients.pop().close()
+        lines += stop(self)
+        tell_kept(self, changers, lines)
+
 
 if __name__ == "__main__":
-    sys.exit(run(__doc__, CASES))
+    main(__doc__)

@@ -11,9 +11,10 @@ import subprocess
 import sys
 import time
 
+from harness import cases
 from harness.asking import said
 from harness.command import itself
-from harness.serving import CHANGED, NO_REQUEST, PATIENCE, Hold, Watch, both_requests, run
+from harness.serving import CHANGED, NO_REQUEST, PATIENCE, Hold, Watch, both_requests, ServiceCase
 
 INSIDE = "CHPW_SHARES_INSIDE"
 # the service's addresses; of IPv4 two peers, and of IPv6 three in one network and one in another
@@ -32,114 +33,100 @@ def begin(case, connections, *options, host=HERE, **words):
     case.tell("it listens", case.server.next_line().rstrip(), f"listening on {place(host, case.server.port)}")
 
 
-def at_its_share(case):
-    """A quarter of eight places is two: for the third the peer's first one ends, though there is room; another peer has its
-    own share."""
-    alice, bob = both_requests()
-    begin(case, 4, "--clients", "8")
-    first, second = case.client(FIRST, host=HERE), case.client(FIRST, host=HERE)
-    case.tell("the second", second.ask(alice), CHANGED)
-    other = case.client(SECOND, host=HERE)
-    case.tell("the third", case.client(FIRST, host=HERE).ask(bob), CHANGED)
-    case.tell("the first is ended", first.is_ended(), True)
-    for name, client in [("the second", second), ("another peer's", other)]:
-        client.send_messages(NO_REQUEST)
-        case.tell(f"{name} stays", client.has_reply(), True)
-    case.tell_end(TWO_CHANGES)
+class Shares(ServiceCase):
+    def test_a_peer_at_its_share(self):
+        """A quarter of eight places is two: for the third the peer's first one ends, though there is room; another peer has its
+        own share."""
+        alice, bob = both_requests()
+        begin(self, 4, "--clients", "8")
+        first, second = self.client(FIRST, host=HERE), self.client(FIRST, host=HERE)
+        self.tell("the second", second.ask(alice), CHANGED)
+        other = self.client(SECOND, host=HERE)
+        self.tell("the third", self.client(FIRST, host=HERE).ask(bob), CHANGED)
+        self.tell("the first is ended", first.is_ended(), True)
+        for name, client in [("the second", second), ("another peer's", other)]:
+            client.send_messages(NO_REQUEST)
+            self.tell(f"{name} stays", client.has_reply(), True)
+        self.tell_end(TWO_CHANGES)
 
+    def test_a_crowd_of_one_peer(self):
+        """Of 200 connections of one peer four are there at a time: another one's is never ended, nor kept waiting."""
+        alice, bob = both_requests()
+        begin(self, 202, "--clients", "16", "--clients-per-peer", "4")
+        watch = Watch()
+        other = self.client(SECOND, host=HERE)
+        crowd = [self.client(FIRST, host=HERE) for _ in range(200)]
+        self.tell("one that was there", other.ask(alice), CHANGED)
+        self.tell("one that comes behind them", self.client(SECOND, host=HERE).ask(bob), CHANGED)
+        self.tell("of the crowd are ended", sum(not client.is_silent() for client in crowd), 196)
+        self.tell_within(5, watch)
+        self.tell_end(TWO_CHANGES)
 
-def crowd_of_one(case):
-    """Of 200 connections of one peer four are there at a time: another one's is never ended, nor kept waiting."""
-    alice, bob = both_requests()
-    begin(case, 202, "--clients", "16", "--clients-per-peer", "4")
-    watch = Watch()
-    other = case.client(SECOND, host=HERE)
-    crowd = [case.client(FIRST, host=HERE) for _ in range(200)]
-    case.tell("one that was there", other.ask(alice), CHANGED)
-    case.tell("one that comes behind them", case.client(SECOND, host=HERE).ask(bob), CHANGED)
-    case.tell("of the crowd are ended", sum(not client.is_silent() for client in crowd), 196)
-    case.tell_within(5, watch)
-    case.tell_end(TWO_CHANGES)
+    def test_one_network_of_IPv6(self):
+        """The addresses of IPv6 with the same first 64 bits have one share."""
+        alice, bob = both_requests()
+        begin(self, 4, "--clients", "8", "--clients-per-peer", "2", host=HERE_6)
+        first, second = (self.client(address, host=HERE_6) for address in NETWORK[:2])
+        other = self.client(APART, host=HERE_6)
+        self.tell("the second", second.ask(alice), CHANGED)
+        self.tell("the third", self.client(NETWORK[2], host=HERE_6).ask(bob), CHANGED)
+        self.tell("the first is ended", first.is_ended(), True)
+        for name, client in [("the second", second), ("another network's", other)]:
+            client.send_messages(NO_REQUEST)
+            self.tell(f"{name} stays", client.has_reply(), True)
+        self.tell_end(TWO_CHANGES)
 
+    def test_this_host_itself(self):
+        """Connections from the service's own address have no share: six stay where a peer may have one."""
+        begin(self, 6, "--clients", "8", "--clients-per-peer", "1")
+        clients = [self.client(HERE, host=HERE) for _ in range(6)]
+        for client in clients:
+            client.send_messages(NO_REQUEST)
+        self.tell("replies", sum(client.has_reply() for client in clients), 6)
+        self.tell_end("entries 0 changes 0")
 
-def one_network(case):
-    """The addresses of IPv6 with the same first 64 bits have one share."""
-    alice, bob = both_requests()
-    begin(case, 4, "--clients", "8", "--clients-per-peer", "2", host=HERE_6)
-    first, second = (case.client(address, host=HERE_6) for address in NETWORK[:2])
-    other = case.client(APART, host=HERE_6)
-    case.tell("the second", second.ask(alice), CHANGED)
-    case.tell("the third", case.client(NETWORK[2], host=HERE_6).ask(bob), CHANGED)
-    case.tell("the first is ended", first.is_ended(), True)
-    for name, client in [("the second", second), ("another network's", other)]:
-        client.send_messages(NO_REQUEST)
-        case.tell(f"{name} stays", client.has_reply(), True)
-    case.tell_end(TWO_CHANGES)
-
-
-def this_host_itself(case):
-    """Connections from the service's own address have no share: six stay where a peer may have one."""
-    begin(case, 6, "--clients", "8", "--clients-per-peer", "1")
-    clients = [case.client(HERE, host=HERE) for _ in range(6)]
-    for client in clients:
-        client.send_messages(NO_REQUEST)
-    case.tell("replies", sum(client.has_reply() for client in clients), 6)
-    case.tell_end("entries 0 changes 0")
-
-
-def all_are_answered(case):
-    """A peer's only connection is being answered: its next one is closed meanwhile, and another peer's is let in."""
-    alice, bob = both_requests()
-    worker = Hold(case.folder, "worker")
-    begin(case, 2, "--clients", "8", "--clients-per-peer", "1", HELD=worker.file)
-    worker.hold()
-    first = case.client(FIRST, host=HERE)
-    first.send(alice)
-    worker.wait()
-    watch = Watch()
-    case.tell("the second is ended", case.client(FIRST, host=HERE).is_ended(), True)
-    case.tell_within(2, watch)
-    other = case.client(SECOND, host=HERE)
-    other.send(bob)
-    time.sleep(0.3)
-    worker.free()
-    case.tell("the first", first.told(alice), CHANGED)
-    case.tell("another peer's", other.told(bob), CHANGED)
-    case.tell_end(TWO_CHANGES)
-
-
-def datagrams_apart(case):
-    """A datagram of a peer is being answered: the peer's share is free all the same, and one that is full keeps none out."""
-    alice, bob = both_requests()
-    worker = Hold(case.folder, "worker")
-    begin(case, 3, "--udp", "--clients", "8", "--clients-per-peer", "1", HELD=worker.file)
-    worker.hold()
-    with socket.socket(socket.AF_INET, socket.SOCK_DGRAM) as client:
-        client.settimeout(PATIENCE)
-        client.bind((FIRST, 0))
-        client.connect((HERE, case.server.port))
-        client.send(alice.message)
+    def test_a_share_that_is_being_answered(self):
+        """A peer's only connection is being answered: its next one is closed meanwhile, and another peer's is let in."""
+        alice, bob = both_requests()
+        worker = Hold(self.folder, "worker")
+        begin(self, 2, "--clients", "8", "--clients-per-peer", "1", HELD=worker.file)
+        worker.hold()
+        first = self.client(FIRST, host=HERE)
+        first.send(alice)
         worker.wait()
-        first = case.client(FIRST, host=HERE)
-        first.send_messages(NO_REQUEST)
+        watch = Watch()
+        self.tell("the second is ended", self.client(FIRST, host=HERE).is_ended(), True)
+        self.tell_within(2, watch)
+        other = self.client(SECOND, host=HERE)
+        other.send(bob)
         time.sleep(0.3)
         worker.free()
-        case.tell("the datagram", said(alice, client.recv(65_535)), CHANGED)
-        case.tell("a connection beside it", first.has_reply(), True)
-        client.send(bob.message)
-        case.tell("a datagram beside that", said(bob, client.recv(65_535)), CHANGED)
-    case.tell("the connection is there", first.is_silent(), True)
-    case.tell_end(TWO_CHANGES)
+        self.tell("the first", first.told(alice), CHANGED)
+        self.tell("another peer's", other.told(bob), CHANGED)
+        self.tell_end(TWO_CHANGES)
 
-
-CASES = [
-    ("a peer at its share", at_its_share),
-    ("a crowd of one peer", crowd_of_one),
-    ("one network of IPv6", one_network),
-    ("this host itself", this_host_itself),
-    ("a share that is being answered", all_are_answered),
-    ("datagrams count in no share", datagrams_apart),
-]
+    def test_datagrams_count_in_no_share(self):
+        """A datagram of a peer is being answered: the peer's share is free all the same, and one that is full keeps none out."""
+        alice, bob = both_requests()
+        worker = Hold(self.folder, "worker")
+        begin(self, 3, "--udp", "--clients", "8", "--clients-per-peer", "1", HELD=worker.file)
+        worker.hold()
+        with socket.socket(socket.AF_INET, socket.SOCK_DGRAM) as client:
+            client.settimeout(PATIENCE)
+            client.bind((FIRST, 0))
+            client.connect((HERE, self.server.port))
+            client.send(alice.message)
+            worker.wait()
+            first = self.client(FIRST, host=HERE)
+            first.send_messages(NO_REQUEST)
+            time.sleep(0.3)
+            worker.free()
+            self.tell("the datagram", said(alice, client.recv(65_535)), CHANGED)
+            self.tell("a connection beside it", first.has_reply(), True)
+            client.send(bob.message)
+            self.tell("a datagram beside that", said(bob, client.recv(65_535)), CHANGED)
+        self.tell("the connection is there", first.is_silent(), True)
+        self.tell_end(TWO_CHANGES)
 
 
 def make_addresses():
@@ -157,7 +144,7 @@ def main():
         os.execvp("unshare", ["unshare", "--map-root-user", "--net", *itself()])
     if INSIDE in os.environ:
         make_addresses()
-    return run(__doc__, CASES)
+    cases.main(__doc__)
 
 
 if __name__ == "__main__":

@@ -9,13 +9,13 @@ import os
 import pathlib
 import socket
 import subprocess
-import sys
 
+from harness.cases import main
 from harness.journal import Raise, plain_record, read_journal, realm_record
 from harness.machine import machine
 from harness.server import private
 from harness.serving import ALICES, BOBS, CHANGED, NO_REQUEST, REPLAYED, START
-from harness.serving import Hold, SetClock, behind_length, parts_of, request, run
+from harness.serving import Hold, SetClock, behind_length, parts_of, request, ServiceCase
 
 QUIET = "code 3 error 37 clock skew too great"
 FULL = "code 2 error 60 history full"
@@ -47,24 +47,6 @@ def tell_size(case, size):
     case.tell("the journal's bytes", case.server.journal.stat().st_size, size)
 
 
-def second_start(case):
-    """The former run's message is refused, and a new one taken 301 seconds after the start."""
-    clock = SetClock(case.folder)
-    former, later = request("alice"), request("alice", START + SECONDS + 1, "New-pass3")
-    case.start(1, CLOCK=clock.file)
-    case.tell("the first run", case.client().ask(former), CHANGED)
-    case.tell_end(ONE_CHANGE)
-    case.start(1, CLOCK=clock.file)
-    client = case.client()
-    case.tell("at once", client.ask(former), QUIET)
-    clock.set(START + SECONDS)
-    case.tell("after 300 seconds", client.ask(former), QUIET)
-    clock.set(START + SECONDS + 1)
-    case.tell("a new one", client.ask(later), CHANGED)
-    case.tell_end("entries 3 changes 1")
-    tell_size(case, 2 * ALICES)
-
-
 # runs at one journal: when, what is asked for, what is said of it, and how many events there are
 RAISES = [
     (0, ["--raise", "8"], ["raised 8"], "entries 2 changes 1"),
@@ -73,101 +55,11 @@ RAISES = [
 ]
 
 
-def behind_a_raise(case):
-    """The first run raises the count from 4 to 8 before it listens; the second has no such option, and the third asks
-    for the same count. All that is changed after the raise is changed under 8."""
-    for number, (later, options, said, tally) in enumerate(RAISES):
-        clock = SetClock(case.folder, START + later)
-        case.start(1, options=options, CLOCK=clock.file)
-        case.tell(f"run {number}", case.server.said, said)
-        second = START + later + SECONDS + 1
-        clock.set(second)
-        case.tell("a change", case.client().ask(request("alice", second, f"New-pass{number}")), CHANGED)
-        case.tell_end(tally)
-    tell_records(case, 8, *(("alice", kvno, 8) for kvno in (2, 3, 4)))
-    tell_size(case, RAISED + 3 * ALICES)
-    words = ["--config", case.server.configuration, "--journal", case.server.journal, "--as", "lines"]
-    table = subprocess.run([case.server.program, "table", *words], capture_output=True, text=True, timeout=SECONDS)
-    case.tell("the table", table.stdout.splitlines(),
-              ["alice kvno 4 counts 8 8 8", "bob kvno 1 counts 4", "principals 2 changes 4"])
-
-
 def tell_other_words(case, one, other):
     """Replies that are sealed under the same keys, with the same moment in their AP-REPs, differ where their words
     do."""
     (one_ap, _), (other_ap, _) = parts_of(one), parts_of(other)
     case.tell("other words", len(one_ap) == len(other_ap) > 0 and one_ap != other_ap, True)
-
-
-def full_history(case):
-    """A history of two is followed by another one over the same connection, which knows what the former had decided. Of
-    two replies in different histories the second has further words."""
-    clock = SetClock(case.folder)
-    case.realm(max_entries=2)
-    case.start(2, CLOCK=clock.file)
-    client, other = case.client(), case.client()
-    sent = [request("alice"), request("alice", START + 1, "New-pass3"), request("bob", password="New-pass4")]
-    replies = []
-    for what, it in zip(("the first", "the second", "one more"), sent):
-        client.send(it)
-        replies.append(client.reply())
-        case.tell(what, client.said(it, replies[-1]), CHANGED)
-    case.tell("the first again", other.ask(sent[0]), REPLAYED)
-    tell_other_words(case, replies[0], replies[2])
-    # the second history is full too: a third one may have begun
-    lines, status = case.last_lines()
-    case.tell("its end", (lines[:2], status), (["entries 2 changes 2", "entries 2 changes 1"], 0))
-    case.tell("a third history", lines[2:] in ([], ["entries 0 changes 0"]), True)
-    tell_size(case, 2 * ALICES + BOBS)
-
-
-def words_of_the_seed(case):
-    """One seed gives one reply to a request, another seed another. The service is at 127.0.0.1 alone."""
-    clock = SetClock(case.folder)
-    sent, replies = request("alice"), []
-    for number in (1, 1, 2):
-        case.server.journal.unlink(missing_ok=True)
-        case.server.seed.write_bytes(bytes([number] * 32))
-        case.start(1, CLOCK=clock.file)
-        client = case.client()
-        with socket.socket() as elsewhere:
-            case.tell("at 127.0.0.2", elsewhere.connect_ex(("127.0.0.2", case.server.port)) != 0, True)
-        client.send(sent)
-        replies.append(client.reply())
-        case.tell("a change", client.said(sent, replies[-1]), CHANGED)
-        case.tell_end(ONE_CHANGE)
-    case.tell("one seed, one reply", replies[0] == replies[1], True)
-    tell_other_words(case, replies[0], replies[2])
-
-
-def last_moment(case):
-    """`client` makes no request whose ticket, of an hour, would end after the year 9999."""
-    words = ["--config", case.server.configuration, "--seed", "/dev/urandom", "--port", str(case.server.port)]
-    words += ["--client", "alice", "--password", "New-pass2"]
-    for second, line, status in ((LAST_SECOND - 3_600, "cannot connect", 1), (LAST_SECOND - 3_599, "bad argument", 2)):
-        clock = SetClock(case.folder, second)
-        done = subprocess.run([case.server.program, "client", *words], env=machine(case.folder, CLOCK=clock.file),
-                              capture_output=True, text=True, timeout=60)
-        case.tell(f"at second {second}", (done.stdout, done.stderr.strip(), done.returncode), ("", line, status))
-
-
-def behind_the_lock(case):
-    """What a start is quiet about depends on its moment, and other processes may have had the journal before: so its
-    moment is read once it has the journal's lock, here ten seconds later."""
-    clock, lock = SetClock(case.folder), Hold(case.folder, "lock")
-    private(case.server.journal)
-    lock.hold()
-    case.launch(1, CLOCK=clock.file, LOCK=lock.file)
-    lock.wait()
-    clock.set(START + 10)
-    lock.free()
-    case.server.listens()
-    client = case.client()
-    last = START + 10 + SECONDS
-    case.tell("the last quiet second", client.ask(request("alice", last)), QUIET)
-    clock.set(START + 11)
-    case.tell("the next one", client.ask(request("alice", last + 1)), CHANGED)
-    case.tell_end("entries 2 changes 1")
 
 
 def changed_at_last(client, sent):
@@ -192,163 +84,32 @@ def deaf_one(case):
         pass
 
 
-def amid_changes(workers, is_beside_a_deaf_one):
+def amid_changes(case, workers, is_beside_a_deaf_one):
     """Histories of five entries while 24 clients ask, half of them alice's, each at a second of its own and over a
     connection of its own, before any reply is read. One that is told that the history is full asks again. Each is
     answered, and no key is changed twice."""
-    def body(case):
-        clock = SetClock(case.folder)
-        case.realm(max_entries=5)
-        case.start(CLIENTS + is_beside_a_deaf_one, workers=workers, CLOCK=clock.file)
-        if is_beside_a_deaf_one:
-            deaf_one(case)
-        requests = [request(("alice", "bob")[number % 2], START + number, f"New-pass{number}")
-                    for number in range(CLIENTS)]
-        clients = [case.client() for _ in requests]
-        for client, sent in zip(clients, requests):
-            client.send(sent)
-        told = [changed_at_last(client, sent) for client, sent in zip(clients, requests)]
-        case.tell("answers", told, [CHANGED] * CLIENTS)
-        lines, status = case.last_lines()
-        numbers = [line.split() for line in lines]
-        case.tell("its end", ({len(words) for words in numbers}, status), ({4}, 0))
-        case.tell("changes", sum(int(changes) for *_, changes in numbers), CLIENTS)
-        case.tell("entries of the full histories", {entries for _, entries, *_ in numbers[:-1]}, {"5"})
-        tell_size(case, CLIENTS // 2 * (ALICES + BOBS))
-        records, _ = read_journal(case.server.journal.read_bytes())
-        for name in ("alice", "bob"):
-            versions = [record.kvno for record in records if record.name == name]
-            case.tell(f"{name}'s versions", versions, list(range(2, CLIENTS // 2 + 2)))
-    return body
-
-
-def long_journal(case):
-    """All records are read: the next change has the version after them."""
     clock = SetClock(case.folder)
-    names = ("alice", "bob")
-    before = b"".join(plain_record(names[number % 2], number // 2 + 2) for number in range(RECORDS))
-    private(case.server.journal).write_bytes(before)
-    case.start(1, CLOCK=clock.file)
-    clock.set(START + SECONDS + 1)
-    case.tell("a change", case.client().ask(request("alice", START + SECONDS + 1)), CHANGED)
-    case.tell_end(ONE_CHANGE)
-    after = case.server.journal.read_bytes()
-    case.tell("the records before it", after[: len(before)] == before, True)
-    [record], torn = read_journal(after[len(before) :])
-    case.tell("its record", (record.name, record.kvno, torn), ("alice", RECORDS // 2 + 2, b""))
-
-
-def other_files(case):
-    """A configuration that isn't a regular file, or is longer than 64 MiB, is refused by each command that reads one, and so
-    is a journal that isn't a regular file; nobody waits for a pipe, or reads a device to its end."""
-    configuration, journal = case.server.configuration, case.server.journal
-    text = configuration.read_text()
-    linked = case.folder / "linked.toml"
-    linked.symlink_to(configuration)
-    words = {
-        "check": ["check", "--config"],
-        "table": ["table", "--journal", journal, "--config"],
-        "client": ["client", "--seed", case.server.seed, "--port", case.server.port, "--client", "alice",
-                   "--password", "New-pass2", "--config"],
-        "serve": ["serve", "--journal", journal, "--seed", case.server.seed, "--port", case.server.port, "--workers", 1,
-                  "--connections", 1, "--config"],
-    }
-    for command, before in words.items():
-        for what, make, why in (
-            ("a pipe", os.mkfifo, "not a regular file"),
-            ("a device", lambda path: path.symlink_to("/dev/zero"), "not a regular file"),
-            ("a folder", pathlib.Path.mkdir, "is a directory"),
-            ("too long", lambda path: long_file(path, LONGEST + 1), "longer than 64 MiB"),
-        ):
-            path = case.folder / "other.toml"
-            make(path)
-            found = ran(case, *before, path)
-            case.tell(f"{command}: {what}", found, ("", [f"cannot read {path}", f"{path}: {why}"], 1))
-            path.rmdir() if path.is_dir() else path.unlink()
-        found = ran(case, *before, "/dev/stdin", stdin=text)
-        case.tell(f"{command}: standard input", found, ("", ["cannot read /dev/stdin", "/dev/stdin: not a regular file"], 1))
-    case.tell("check: a link", ran(case, "check", "--config", linked), (CHECKED, [], 0))
-    path = case.folder / "other.toml"
-    long_file(path, LONGEST)
-    lines = ran(case, "check", "--config", path)[1]
-    case.tell("check: as long as may be", [line for line in lines if "cannot read" in line or "longer" in line], [])
-    os.mkfifo(journal)
-    for command in ("table", "serve"):
-        found = ran(case, *words[command], configuration)
-        case.tell(f"{command}: a pipe for a journal", found, ("", [f"cannot read {journal}", f"{journal}: not a regular file"], 1))
-
-
-def required_journal(case):
-    """With `--existing-journal` a start makes nothing where there is no journal, and takes one that is there, be it empty."""
-    journal = case.server.journal
-    files = sorted(os.listdir(case.folder))
-    case.server.options = ["--existing-journal", "--log", case.folder / "log", "--control", case.folder / "control"]
-    found = ran(case, *case.server.command(1)[1:])
-    case.tell("none is there", found, ("", [f"cannot read {journal}", f"{journal}: no such file"], 1))
-    case.tell("nothing is made", sorted(os.listdir(case.folder)), files)
-    private(journal)
-    case.start(1, options=["--existing-journal"])
-    case.tell("an empty one", case.client().ask(request("alice")).startswith("code 3 error 37"), True)
-    case.tell_end("entries 1 changes 0")
-
-
-def new_journal(case):
-    """`new-journal` makes the journal of a realm, and touches nothing that is there. No other realm takes it."""
-    journal, configuration, clock = case.server.journal, case.server.configuration, SetClock(case.folder)
-    words = ["new-journal", "--config", configuration, "--journal"]
-    table = ["table", "--config", configuration, "--journal", journal]
-    record = realm_record("EXAMPLE.COM")
-    case.tell("it is made", ran(case, *words, journal), ("", [], 0))
-    case.tell("its bytes", (journal.read_bytes(), journal.stat().st_mode & 0o777), (record, 0o600))
-    there = ("", [f"{journal}: not made, since it is there already"], 1)
-    case.tell("it is there", (ran(case, *words, journal), journal.read_bytes()), (there, record))
-    case.tell("its table", ran(case, *table), ("alice kvno 1 counts 4\nbob kvno 1 counts 4\nprincipals 2 changes 0\n", [], 0))
-    case.start(1, options=["--existing-journal"], CLOCK=clock.file)
-    client = case.client()
-    case.tell("its first start is quiet", client.ask(request("alice")), QUIET)
-    clock.set(START + SECONDS + 1)
-    case.tell("a change", client.ask(request("alice", START + SECONDS + 1)), CHANGED)
-    case.tell_end("entries 2 changes 1")
-    case.tell("the journal", (journal.read_bytes()[: len(record)], journal.stat().st_size), (record, len(record) + ALICES))
-    text = configuration.read_text()
-    configuration.write_text(text.replace("EXAMPLE.COM", "EXAMPLE.ORG"))
-    for command in (table, case.server.command(1)[1:]):
-        told = [f"{journal}: of realm EXAMPLE.COM, wanted EXAMPLE.ORG"]
-        case.tell(f"{command[0]}: another realm", ran(case, *command), ("", ["journal: J5", *told], 1))
-    configuration.write_text(text)
-    journal.write_bytes(plain_record("alice", 2) + record)
-    case.tell("behind a record", ran(case, *table), ("", ["journal: J1 at 2"], 1))
-    journal.write_bytes(record[:-1])
-    case.tell("a part of it", ran(case, *table), ("", ["journal: J1 at 1"], 1))
-    away = case.folder / "away" / "journal"
-    case.tell("no folder", ran(case, *words, away), ("", [f"cannot write {away}", f"{away}: no such directory"], 1))
-    configuration.write_text("realm = 1")
-    missing = case.folder / "missing"
-    case.tell("a configuration with a fault", (ran(case, *words, missing)[0::2], missing.exists()), (("", 1), False))
-
-
-def new_journal_with_resume(case):
-    """`new-journal --resume` makes the file with which the first start isn't quiet. If it can't make one, it makes neither."""
-    journal, configuration, clock = case.server.journal, case.server.configuration, SetClock(case.folder)
-    resume, other, away = (case.folder / name for name in ("resume", "other", "away/resume"))
-    words = ["new-journal", "--config", configuration, "--journal", journal, "--resume"]
-    for file in (configuration, journal):
-        case.tell(f"it is the {file.name}", (ran(case, *words, file), journal.exists()), (("", [f"cannot write {file}"], 1), False))
-    lines = [f"cannot write {away}", f"{away}: no such directory"]
-    case.tell("no folder", (ran(case, *words, away), journal.exists()), (("", lines, 1), False))
-    resume.write_bytes(b"left")
-    there = ("", [f"{resume}: not made, since it is there already"], 1)
-    case.tell("it is there", (ran(case, *words, resume), resume.read_bytes(), journal.exists()), (there, b"left", False))
-    resume.unlink()
-    case.tell("both are made", ran(case, *words, resume), ("", [], 0))
-    case.tell("their bytes and modes", (journal.read_bytes(), *(it.stat().st_mode & 0o777 for it in (journal, resume))),
-              (realm_record("EXAMPLE.COM"), 0o600, 0o600))
-    there = ("", [f"{journal}: not made, since it is there already"], 1)
-    case.tell("the journal is there", (ran(case, *words, other), other.exists()), (there, False))
-    case.start(1, options=["--existing-journal", "--resume", resume], CLOCK=clock.file)
-    case.tell("the first start takes it", resume.exists(), False)
-    case.tell("it isn't quiet", case.client().ask(request("alice")), CHANGED)
-    case.tell_end(ONE_CHANGE)
+    case.realm(max_entries=5)
+    case.start(CLIENTS + is_beside_a_deaf_one, workers=workers, CLOCK=clock.file)
+    if is_beside_a_deaf_one:
+        deaf_one(case)
+    requests = [request(("alice", "bob")[number % 2], START + number, f"New-pass{number}")
+                for number in range(CLIENTS)]
+    clients = [case.client() for _ in requests]
+    for client, sent in zip(clients, requests):
+        client.send(sent)
+    told = [changed_at_last(client, sent) for client, sent in zip(clients, requests)]
+    case.tell("answers", told, [CHANGED] * CLIENTS)
+    lines, status = case.last_lines()
+    numbers = [line.split() for line in lines]
+    case.tell("its end", ({len(words) for words in numbers}, status), ({4}, 0))
+    case.tell("changes", sum(int(changes) for *_, changes in numbers), CLIENTS)
+    case.tell("entries of the full histories", {entries for _, entries, *_ in numbers[:-1]}, {"5"})
+    tell_size(case, CLIENTS // 2 * (ALICES + BOBS))
+    records, _ = read_journal(case.server.journal.read_bytes())
+    for name in ("alice", "bob"):
+        versions = [record.kvno for record in records if record.name == name]
+        case.tell(f"{name}'s versions", versions, list(range(2, CLIENTS // 2 + 2)))
 
 
 def ran(case, *words, stdin=None):
@@ -374,39 +135,259 @@ FAILURES = [
 ]
 
 
-def failing_machine(case):
-    """Each ends the service with a line and status 1, also one that is to go on for ever."""
-    for what, machine_does, printed, line in FAILURES:
-        case.server.journal.unlink(missing_ok=True)
-        if what == "a torn tail":
-            private(case.server.journal).write_bytes(plain_record("alice", 2) + b"\1")
-        case.launch("unlimited", options=["--control", "control", "--udp"], **machine_does)
-        lines, status = case.last_lines()
-        wanted = line.format(configuration=case.server.configuration, journal=case.server.journal)
-        case.tell(what, ([it.split(" on ")[0] for it in lines], status), ([*printed, wanted], 1))
-        (case.folder / "control").unlink(missing_ok=True)
-        if what.startswith("a port"):
-            case.tell("no journal is made", case.server.journal.exists(), False)
-
-
 def long_file(path, length):
     """A file of so many bytes, of which the disk has none."""
     private(path)
     os.truncate(path, length)
 
 
-CASES = [
-    ("a second start", second_start),
-    ("a second start behind a raise", behind_a_raise),
-    ("a full history and the next", full_history),
-    ("words of the seed", words_of_the_seed),
-    ("a client at the last moment", last_moment),
-    ("a start that is read behind the lock", behind_the_lock),
-    ("a journal that must exist", required_journal), ("a new journal", new_journal), ("a new journal and its first start", new_journal_with_resume),
-    ("a long journal", long_journal), ("other files", other_files), ("a machine that fails", failing_machine),
-    ("histories amid sixteen workers", amid_changes(16, False)),
-    ("histories beside a client that reads nothing", amid_changes(2, True)),
-]
+class Starts(ServiceCase):
+    def test_a_second_start(self):
+        """The former run's message is refused, and a new one taken 301 seconds after the start."""
+        clock = SetClock(self.folder)
+        former, later = request("alice"), request("alice", START + SECONDS + 1, "New-pass3")
+        self.start(1, CLOCK=clock.file)
+        self.tell("the first run", self.client().ask(former), CHANGED)
+        self.tell_end(ONE_CHANGE)
+        self.start(1, CLOCK=clock.file)
+        client = self.client()
+        self.tell("at once", client.ask(former), QUIET)
+        clock.set(START + SECONDS)
+        self.tell("after 300 seconds", client.ask(former), QUIET)
+        clock.set(START + SECONDS + 1)
+        self.tell("a new one", client.ask(later), CHANGED)
+        self.tell_end("entries 3 changes 1")
+        tell_size(self, 2 * ALICES)
+
+    def test_a_second_start_behind_a_raise(self):
+        """The first run raises the count from 4 to 8 before it listens; the second has no such option, and the third asks
+        for the same count. All that is changed after the raise is changed under 8."""
+        for number, (later, options, said, tally) in enumerate(RAISES):
+            clock = SetClock(self.folder, START + later)
+            self.start(1, options=options, CLOCK=clock.file)
+            self.tell(f"run {number}", self.server.said, said)
+            second = START + later + SECONDS + 1
+            clock.set(second)
+            self.tell("a change", self.client().ask(request("alice", second, f"New-pass{number}")), CHANGED)
+            self.tell_end(tally)
+        tell_records(self, 8, *(("alice", kvno, 8) for kvno in (2, 3, 4)))
+        tell_size(self, RAISED + 3 * ALICES)
+        words = ["--config", self.server.configuration, "--journal", self.server.journal, "--as", "lines"]
+        table = subprocess.run([self.server.program, "table", *words], capture_output=True, text=True, timeout=SECONDS)
+        self.tell("the table", table.stdout.splitlines(),
+                  ["alice kvno 4 counts 8 8 8", "bob kvno 1 counts 4", "principals 2 changes 4"])
+
+    def test_a_full_history_and_the_next(self):
+        """A history of two is followed by another one over the same connection, which knows what the former had decided. Of
+        two replies in different histories the second has further words."""
+        clock = SetClock(self.folder)
+        self.realm(max_entries=2)
+        self.start(2, CLOCK=clock.file)
+        client, other = self.client(), self.client()
+        sent = [request("alice"), request("alice", START + 1, "New-pass3"), request("bob", password="New-pass4")]
+        replies = []
+        for what, it in zip(("the first", "the second", "one more"), sent):
+            client.send(it)
+            replies.append(client.reply())
+            self.tell(what, client.said(it, replies[-1]), CHANGED)
+        self.tell("the first again", other.ask(sent[0]), REPLAYED)
+        tell_other_words(self, replies[0], replies[2])
+        # the second history is full too: a third one may have begun
+        lines, status = self.last_lines()
+        self.tell("its end", (lines[:2], status), (["entries 2 changes 2", "entries 2 changes 1"], 0))
+        self.tell("a third history", lines[2:] in ([], ["entries 0 changes 0"]), True)
+        tell_size(self, 2 * ALICES + BOBS)
+
+    def test_words_of_the_seed(self):
+        """One seed gives one reply to a request, another seed another. The service is at 127.0.0.1 alone."""
+        clock = SetClock(self.folder)
+        sent, replies = request("alice"), []
+        for number in (1, 1, 2):
+            self.server.journal.unlink(missing_ok=True)
+            self.server.seed.write_bytes(bytes([number] * 32))
+            self.start(1, CLOCK=clock.file)
+            client = self.client()
+            with socket.socket() as elsewhere:
+                self.tell("at 127.0.0.2", elsewhere.connect_ex(("127.0.0.2", self.server.port)) != 0, True)
+            client.send(sent)
+            replies.append(client.reply())
+            self.tell("a change", client.said(sent, replies[-1]), CHANGED)
+            self.tell_end(ONE_CHANGE)
+        self.tell("one seed, one reply", replies[0] == replies[1], True)
+        tell_other_words(self, replies[0], replies[2])
+
+    def test_a_client_at_the_last_moment(self):
+        """`client` makes no request whose ticket, of an hour, would end after the year 9999."""
+        words = ["--config", self.server.configuration, "--seed", "/dev/urandom", "--port", str(self.server.port)]
+        words += ["--client", "alice", "--password", "New-pass2"]
+        for second, line, status in ((LAST_SECOND - 3_600, "cannot connect", 1), (LAST_SECOND - 3_599, "bad argument", 2)):
+            clock = SetClock(self.folder, second)
+            done = subprocess.run([self.server.program, "client", *words], env=machine(self.folder, CLOCK=clock.file),
+                                  capture_output=True, text=True, timeout=60)
+            self.tell(f"at second {second}", (done.stdout, done.stderr.strip(), done.returncode), ("", line, status))
+
+    def test_a_start_that_is_read_behind_the_lock(self):
+        """What a start is quiet about depends on its moment, and other processes may have had the journal before: so its
+        moment is read once it has the journal's lock, here ten seconds later."""
+        clock, lock = SetClock(self.folder), Hold(self.folder, "lock")
+        private(self.server.journal)
+        lock.hold()
+        self.launch(1, CLOCK=clock.file, LOCK=lock.file)
+        lock.wait()
+        clock.set(START + 10)
+        lock.free()
+        self.server.listens()
+        client = self.client()
+        last = START + 10 + SECONDS
+        self.tell("the last quiet second", client.ask(request("alice", last)), QUIET)
+        clock.set(START + 11)
+        self.tell("the next one", client.ask(request("alice", last + 1)), CHANGED)
+        self.tell_end("entries 2 changes 1")
+
+    def test_a_journal_that_must_exist(self):
+        """With `--existing-journal` a start makes nothing where there is no journal, and takes one that is there, be it empty."""
+        journal = self.server.journal
+        files = sorted(os.listdir(self.folder))
+        self.server.options = ["--existing-journal", "--log", self.folder / "log", "--control", self.folder / "control"]
+        found = ran(self, *self.server.command(1)[1:])
+        self.tell("none is there", found, ("", [f"cannot read {journal}", f"{journal}: no such file"], 1))
+        self.tell("nothing is made", sorted(os.listdir(self.folder)), files)
+        private(journal)
+        self.start(1, options=["--existing-journal"])
+        self.tell("an empty one", self.client().ask(request("alice")).startswith("code 3 error 37"), True)
+        self.tell_end("entries 1 changes 0")
+
+    def test_a_new_journal(self):
+        """`new-journal` makes the journal of a realm, and touches nothing that is there. No other realm takes it."""
+        journal, configuration, clock = self.server.journal, self.server.configuration, SetClock(self.folder)
+        words = ["new-journal", "--config", configuration, "--journal"]
+        table = ["table", "--config", configuration, "--journal", journal]
+        record = realm_record("EXAMPLE.COM")
+        self.tell("it is made", ran(self, *words, journal), ("", [], 0))
+        self.tell("its bytes", (journal.read_bytes(), journal.stat().st_mode & 0o777), (record, 0o600))
+        there = ("", [f"{journal}: not made, since it is there already"], 1)
+        self.tell("it is there", (ran(self, *words, journal), journal.read_bytes()), (there, record))
+        self.tell("its table", ran(self, *table), ("alice kvno 1 counts 4\nbob kvno 1 counts 4\nprincipals 2 changes 0\n", [], 0))
+        self.start(1, options=["--existing-journal"], CLOCK=clock.file)
+        client = self.client()
+        self.tell("its first start is quiet", client.ask(request("alice")), QUIET)
+        clock.set(START + SECONDS + 1)
+        self.tell("a change", client.ask(request("alice", START + SECONDS + 1)), CHANGED)
+        self.tell_end("entries 2 changes 1")
+        self.tell("the journal", (journal.read_bytes()[: len(record)], journal.stat().st_size), (record, len(record) + ALICES))
+        text = configuration.read_text()
+        configuration.write_text(text.replace("EXAMPLE.COM", "EXAMPLE.ORG"))
+        for command in (table, self.server.command(1)[1:]):
+            told = [f"{journal}: of realm EXAMPLE.COM, wanted EXAMPLE.ORG"]
+            self.tell(f"{command[0]}: another realm", ran(self, *command), ("", ["journal: J5", *told], 1))
+        configuration.write_text(text)
+        journal.write_bytes(plain_record("alice", 2) + record)
+        self.tell("behind a record", ran(self, *table), ("", ["journal: J1 at 2"], 1))
+        journal.write_bytes(record[:-1])
+        self.tell("a part of it", ran(self, *table), ("", ["journal: J1 at 1"], 1))
+        away = self.folder / "away" / "journal"
+        self.tell("no folder", ran(self, *words, away), ("", [f"cannot write {away}", f"{away}: no such directory"], 1))
+        configuration.write_text("realm = 1")
+        missing = self.folder / "missing"
+        self.tell("a configuration with a fault", (ran(self, *words, missing)[0::2], missing.exists()), (("", 1), False))
+
+    def test_a_new_journal_and_its_first_start(self):
+        """`new-journal --resume` makes the file with which the first start isn't quiet. If it can't make one, it makes neither."""
+        journal, configuration, clock = self.server.journal, self.server.configuration, SetClock(self.folder)
+        resume, other, away = (self.folder / name for name in ("resume", "other", "away/resume"))
+        words = ["new-journal", "--config", configuration, "--journal", journal, "--resume"]
+        for file in (configuration, journal):
+            self.tell(f"it is the {file.name}", (ran(self, *words, file), journal.exists()), (("", [f"cannot write {file}"], 1), False))
+        lines = [f"cannot write {away}", f"{away}: no such directory"]
+        self.tell("no folder", (ran(self, *words, away), journal.exists()), (("", lines, 1), False))
+        resume.write_bytes(b"left")
+        there = ("", [f"{resume}: not made, since it is there already"], 1)
+        self.tell("it is there", (ran(self, *words, resume), resume.read_bytes(), journal.exists()), (there, b"left", False))
+        resume.unlink()
+        self.tell("both are made", ran(self, *words, resume), ("", [], 0))
+        self.tell("their bytes and modes", (journal.read_bytes(), *(it.stat().st_mode & 0o777 for it in (journal, resume))),
+                  (realm_record("EXAMPLE.COM"), 0o600, 0o600))
+        there = ("", [f"{journal}: not made, since it is there already"], 1)
+        self.tell("the journal is there", (ran(self, *words, other), other.exists()), (there, False))
+        self.start(1, options=["--existing-journal", "--resume", resume], CLOCK=clock.file)
+        self.tell("the first start takes it", resume.exists(), False)
+        self.tell("it isn't quiet", self.client().ask(request("alice")), CHANGED)
+        self.tell_end(ONE_CHANGE)
+
+    def test_a_long_journal(self):
+        """All records are read: the next change has the version after them."""
+        clock = SetClock(self.folder)
+        names = ("alice", "bob")
+        before = b"".join(plain_record(names[number % 2], number // 2 + 2) for number in range(RECORDS))
+        private(self.server.journal).write_bytes(before)
+        self.start(1, CLOCK=clock.file)
+        clock.set(START + SECONDS + 1)
+        self.tell("a change", self.client().ask(request("alice", START + SECONDS + 1)), CHANGED)
+        self.tell_end(ONE_CHANGE)
+        after = self.server.journal.read_bytes()
+        self.tell("the records before it", after[: len(before)] == before, True)
+        [record], torn = read_journal(after[len(before) :])
+        self.tell("its record", (record.name, record.kvno, torn), ("alice", RECORDS // 2 + 2, b""))
+
+    def test_other_files(self):
+        """A configuration that isn't a regular file, or is longer than 64 MiB, is refused by each command that reads one, and so
+        is a journal that isn't a regular file; nobody waits for a pipe, or reads a device to its end."""
+        configuration, journal = self.server.configuration, self.server.journal
+        text = configuration.read_text()
+        linked = self.folder / "linked.toml"
+        linked.symlink_to(configuration)
+        words = {
+            "check": ["check", "--config"],
+            "table": ["table", "--journal", journal, "--config"],
+            "client": ["client", "--seed", self.server.seed, "--port", self.server.port, "--client", "alice",
+                       "--password", "New-pass2", "--config"],
+            "serve": ["serve", "--journal", journal, "--seed", self.server.seed, "--port", self.server.port, "--workers", 1,
+                      "--connections", 1, "--config"],
+        }
+        for command, before in words.items():
+            for what, make, why in (
+                ("a pipe", os.mkfifo, "not a regular file"),
+                ("a device", lambda path: path.symlink_to("/dev/zero"), "not a regular file"),
+                ("a folder", pathlib.Path.mkdir, "is a directory"),
+                ("too long", lambda path: long_file(path, LONGEST + 1), "longer than 64 MiB"),
+            ):
+                path = self.folder / "other.toml"
+                make(path)
+                found = ran(self, *before, path)
+                self.tell(f"{command}: {what}", found, ("", [f"cannot read {path}", f"{path}: {why}"], 1))
+                path.rmdir() if path.is_dir() else path.unlink()
+            found = ran(self, *before, "/dev/stdin", stdin=text)
+            self.tell(f"{command}: standard input", found, ("", ["cannot read /dev/stdin", "/dev/stdin: not a regular file"], 1))
+        self.tell("check: a link", ran(self, "check", "--config", linked), (CHECKED, [], 0))
+        path = self.folder / "other.toml"
+        long_file(path, LONGEST)
+        lines = ran(self, "check", "--config", path)[1]
+        self.tell("check: as long as may be", [line for line in lines if "cannot read" in line or "longer" in line], [])
+        os.mkfifo(journal)
+        for command in ("table", "serve"):
+            found = ran(self, *words[command], configuration)
+            self.tell(f"{command}: a pipe for a journal", found, ("", [f"cannot read {journal}", f"{journal}: not a regular file"], 1))
+
+    def test_a_machine_that_fails(self):
+        """Each ends the service with a line and status 1, also one that is to go on for ever."""
+        for what, machine_does, printed, line in FAILURES:
+            self.server.journal.unlink(missing_ok=True)
+            if what == "a torn tail":
+                private(self.server.journal).write_bytes(plain_record("alice", 2) + b"\1")
+            self.launch("unlimited", options=["--control", "control", "--udp"], **machine_does)
+            lines, status = self.last_lines()
+            wanted = line.format(configuration=self.server.configuration, journal=self.server.journal)
+            self.tell(what, ([it.split(" on ")[0] for it in lines], status), ([*printed, wanted], 1))
+            (self.folder / "control").unlink(missing_ok=True)
+            if what.startswith("a port"):
+                self.tell("no journal is made", self.server.journal.exists(), False)
+
+    def test_histories_amid_sixteen_workers(self):
+        amid_changes(self, 16, False)
+
+    def test_histories_beside_a_client_that_reads_nothing(self):
+        amid_changes(self, 2, True)
+
 
 if __name__ == "__main__":
-    sys.exit(run(__doc__, CASES))
+    main(__doc__)

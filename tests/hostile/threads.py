@@ -6,25 +6,17 @@ Only root can become another user; without that the runs with few threads are le
 """
 
 import os
-import pathlib
 import resource
 import socket
 import subprocess
-import sys
-import tempfile
 
-from harness.command import TOP, Parser
+from harness.cases import Case, add, main
+from harness.command import TOP
 from harness.server import private
 
 NOBODY = 65534
 WORKERS = 16
 SECONDS = 20
-
-
-def arguments():
-    parser = Parser(__doc__)
-    parser.add_program("--program")
-    return parser.parse_args()
 
 
 def free_port():
@@ -61,27 +53,28 @@ def ends(program, folder, limit):
     return f"{done.stderr.strip()} (status {done.returncode})"
 
 
-def main():
-    program = arguments().program
-    limits = [("memory for no thread", with_memory(6_000))]
-    if os.getuid() == 0:
-        limits += [(f"{count} threads", with_threads(count)) for count in range(1, WORKERS + 1)]
-    else:
-        print("left out: few threads, since this isn't root")
-    failed = 0
-    for name, limit in limits:
-        with tempfile.TemporaryDirectory() as folder:
-            copy = pathlib.Path(folder) / "chpw_server"
-            copy.write_bytes(program.read_bytes())
-            for it in (pathlib.Path(folder), copy):
-                it.chmod(0o777)
-            said = ends(copy, pathlib.Path(folder), limit)
-        is_right = said == "memory (status 1)"
-        failed += not is_right
-        print(f"{'ok' if is_right else 'FAILED'}: {name}: {said}")
-    print(f"cases {len(limits)} failed {failed}")
-    return 1 if failed else 0
+class Threads(Case):
+    def setUp(self):
+        super().setUp()
+        self.copy = self.folder / "chpw_server"
+        self.copy.write_bytes(self.program.read_bytes())
+        for it in (self.folder, self.copy):
+            it.chmod(0o777)
+
+    def test_memory_for_no_thread(self):
+        self.tell(self.name, ends(self.copy, self.folder, with_memory(6_000)), "memory (status 1)")
+
+
+def with_few(case, count):
+    """So many threads, and no more."""
+    if os.getuid() != 0:
+        case.skipTest(f"{case.name}, since this isn't root")
+    case.tell(case.name, ends(case.copy, case.folder, with_threads(count)), "memory (status 1)")
+
+
+for number in range(1, WORKERS + 1):
+    add(Threads, f"{number} threads", with_few, number)
 
 
 if __name__ == "__main__":
-    sys.exit(main())
+    main(__doc__)
