@@ -1,10 +1,10 @@
 """Measures everything that docs/RESULTS.md shows of speed, on this machine, in one run and one after the other.
 
-The scripts of bench/ run as they are (keys.sh beside OpenSSL); then the service, MIT's kadmind and Heimdal's kpasswdd take
+The scripts of bench/ run as they are (keys.py beside OpenSSL); then the service, MIT's kadmind and Heimdal's kpasswdd take
 turns: changes a second by clients, processor and system calls a change, and an honest client's wait beside silent and
 dripping connections. The tables go into docs/RESULTS.md and the pictures into docs/results/, or with --out into a folder.
 
-The packages are those of interop/fetch.sh; without them the service is measured alone. A figure that can't be had is a dash,
+The packages are those of harness/fetch.sh; without them the service is measured alone. A figure that can't be had is a dash,
 and its reason stands below. Let nothing else run on the machine. --quick does each part once and small, to try the script.
 """
 
@@ -76,7 +76,7 @@ class Measured:
 
     def of_each_script(self):
         for script in scripts.SCRIPTS:
-            if not self.parts or script.words[0].partition(".")[0] in self.parts:
+            if not self.parts or script.words[0] in self.parts:
                 self.measure(script, self.program, self.lacking)
 
     def in_turn(self):
@@ -185,7 +185,7 @@ class Measured:
         found = {script: lines for script, lines in self.lines.items() if script.words[0] == tables.KDC and lines}
         if found:
             yield from heading(tables.OF_KDCS[0])
-            yield f"`bench/kdc.py`. {tables.OF_KDCS[1]}"
+            yield f"`bench.kdc`. {tables.OF_KDCS[1]}"
             yield ""
             work = lambda _: (tables.OF_KDCS[2], [tables.kdc(lines, it.where) for it, lines in found.items()])
             yield from table(*tables.rows_of(sum(found.values(), []), work))
@@ -219,11 +219,11 @@ class Measured:
             "waits": svg.lines(titles["waits"], note, "silent and dripping connections", "ms", waits),
             "lost": svg.lines(titles["lost"], note, "silent and dripping connections", "of 100", lost),
             "principals": svg.lines(titles["principals"], note, "principals", "microseconds",
-                                    {"a change": scripts.by_principals(self.lines_of("stream.sh"))}),
+                                    {"a change": scripts.by_principals(self.lines_of("stream"))}),
             "events": svg.lines(titles["events"], note, "decisions in the history", "microseconds",
-                                {"a decision": scripts.by_events(self.lines_of("drill.sh"))}),
+                                {"a decision": scripts.by_events(self.lines_of("drill"))}),
             "kdc": svg.bars(titles["kdc"], note, "ms", {
-                name: scripts.to_the_kdc(self.lines_of("kdc.py", "{program}", kind))
+                name: scripts.to_the_kdc(self.lines_of("kdc", *scripts.OF_THE_PROGRAM, "--kind", kind))
                 for kind, name in (("mit", "MIT"), ("heimdal", "Heimdal"))}),
         }
         self.pictures = {name: text for name, text in drawn.items() if text}
@@ -249,7 +249,7 @@ def write(measured, out):
     if out:
         (out / "results.md").write_text(text)
     else:
-        write_part(RESULTS, "bench/all", text)
+        write_part(RESULTS, "bench.all", text)
 
 
 def main():
@@ -257,7 +257,7 @@ def main():
     parser.add_program()
     parser.add_argument("--quick", action="store_true", help="each part once and in small; needs --out")
     parser.add_argument("--out", type=pathlib.Path, metavar="FOLDER", help="write results.md and the pictures there")
-    parts = sorted({it.words[0].partition(".")[0] for it in scripts.SCRIPTS} | {"beside"})
+    parts = sorted({it.words[0] for it in scripts.SCRIPTS} | {"beside"})
     parser.add_argument("--part", action="append", choices=parts, metavar="PART",
                         help="this part alone, may be repeated; needs --out: " + ", ".join(parts))
     arguments = parser.parse_args()

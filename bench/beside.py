@@ -17,7 +17,7 @@ import subprocess
 import tempfile
 import time
 
-from bench.siege import Besiegers, Silent, Slow, raise_files
+from bench.besiegers import Besiegers, Silent, Slow, raise_files
 from harness import crafting, three_servers
 
 # seconds that a client waits for an answer where nobody is hostile

@@ -33,20 +33,22 @@ def build(crate):
     return ran.stdout
 
 
+def built(name):
+    """A crate's program, which is built first if it isn't newer than its sources; where it can't be, all ends."""
+    program = CRATES / name / "out" / name
+    if not is_current(program, name):
+        said = build(CRATES / name)
+        if not is_current(program, name):
+            sys.exit(said)
+    return program
+
+
 def main():
     parser = Parser(__doc__, None, "it can't be built")
     parser.add_argument("crate", metavar="CRATE", choices=[it for it in USES if (CRATES / it / "src/main.rt").exists()],
                         help="a crate with a program")
-    name = parser.parse_args().crate
-    program = CRATES / name / "out" / name
-    if is_current(program, name):
-        return 0
-    said = build(CRATES / name)
-    if is_current(program, name):
-        return 0
-    sys.stderr.write(said)
-    return 1
+    built(parser.parse_args().crate)
 
 
 if __name__ == "__main__":
-    sys.exit(main())
+    main()

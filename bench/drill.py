@@ -1,12 +1,13 @@
-"""Measures how long `drill` takes for so many requests, each of which changes a key.
+"""Processor seconds of the drill over 200 principals for so many requests, each of which changes a key.
 
-    python3 drill.py PROGRAM [REQUESTS ..]
+A figure is the least of three runs, less that of a script without requests. The program is built first if a source has changed.
 """
 
-import sys
 import tempfile
 
+from bench.build import built
 from bench.timing import spent
+from harness.command import Parser
 
 REQUESTS = [2_000, 40_000, 100_000, 1_000_000]
 PRINCIPALS = 200
@@ -39,11 +40,16 @@ def least_seconds(program, requests):
 
 
 def main():
-    program, *counts = sys.argv[1:]
+    parser = Parser(__doc__, "N requests over 200 principals in S s", "it can't be measured")
+    parser.add_argument("requests", nargs="*", type=int, default=REQUESTS, metavar="REQUESTS",
+                        help="by default " + ", ".join(map(str, REQUESTS)))
+    words = parser.parse_args()
+    program = built("chpw_drill")
     empty = least_seconds(program, 0)
-    for requests in map(int, counts) if counts else REQUESTS:
+    for requests in words.requests:
         seconds = least_seconds(program, requests) - empty
         print(f"{requests} requests over {PRINCIPALS} principals in {seconds:.4f} s", flush=True)
 
 
-main()
+if __name__ == "__main__":
+    main()

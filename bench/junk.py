@@ -1,4 +1,4 @@
-"""Honest clients over TCP and UDP of the service, and of MIT's kadmind, beside junk: the sieges 7 to 12 of siege.sh.
+"""Honest clients over TCP and UDP of the service, and of MIT's kadmind, beside junk: the sieges 7 to 12 of siege.py.
 
 One client asks over TCP, over a connection of its own each time, and four over UDP, each request in one datagram that is sent
 once. They ask at a pace, for as long as the siege lasts; their requests are made before. The servers have the same users and
@@ -15,10 +15,10 @@ import tempfile
 import threading
 import time
 
-from bench.siege import CLIENTS, SETTLED, Besiegers, Silent, forged
+from bench.besieged import CLIENTS
+from bench.besiegers import SETTLED, Besiegers, Silent, forged
 from harness import crafting, three_servers, wire
 
-HERE = pathlib.Path(__file__).resolve().parent
 # users of the client over TCP, and of those over UDP
 OVER_TCP, OVER_UDP = "tcp", ("udp1", "udp2", "udp3", "udp4")
 # seconds between two requests of a client, and for which it waits for an answer; the limit of TCP's, milliseconds
@@ -156,7 +156,7 @@ def ours(options):
 
 def compiled(folder):
     program = pathlib.Path(folder) / "junk"
-    subprocess.run(["gcc", "-std=c11", "-O2", "-Wall", "-Wextra", "-Werror", "-o", program, HERE / "junk.c"], check=True)
+    subprocess.run(["gcc", "-std=c11", "-O2", "-Wall", "-Wextra", "-Werror", "-o", program, pathlib.Path(__file__).with_name("junk.c")], check=True)
     return program
 
 

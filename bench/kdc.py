@@ -1,12 +1,10 @@
 """How long an agent takes to write a key, in a realm of many principals, and changes a second.
 
-    kdc.py PROGRAM mit|heimdal [PRINCIPALS [CHANGES [ROUNDS]]]
-
-makes the principals in a KDC's database, then asks the agent for all of their keys, and to write one after the other over one
+Makes the principals in a KDC's database, then asks the agent for all of their keys, and to write one after the other over one
 connection, as the service does. Every tenth of them is compared with what the KDC's own tools say. Then a service that knows
 none of the principals takes them all, and, when the agent has been away, compares them all; a stranger asks meanwhile, and the
 longest of the answers is told. At last changes.py has clients change passwords: at the service with a KDC and without
-one, and at MIT's kadmind. The status is 1 where the service with a KDC makes fewer changes a second than kadmind.
+one, and at MIT's kadmind. It needs the packages that harness/fetch.sh unpacks.
 """
 
 import concurrent.futures
@@ -16,12 +14,14 @@ import os
 import statistics
 import subprocess
 import sys
+import tempfile
 import threading
 import time
 
 from bench import changes
 from harness.asking import Connection, request_now
-from harness.realm import REALM
+from harness.command import Parser, itself
+from harness.realm import REALM, packages_folder
 from kdc import realms
 from kdc.agent_process import hexed
 from kdc.cases import Cases, Passed
@@ -173,10 +173,8 @@ def spread(times):
     return f"{statistics.median(times):.1f} ms, {times[len(times) * 99 // 100 - 1]:.1f} ms, {times[-1]:.1f} ms"
 
 
-def main():
-    program, kind = sys.argv[1:3]
-    given = [int(word) for word in sys.argv[3:]]
-    principals, count, rounds = given + [PRINCIPALS, 100, changes.ROUNDS][len(given) :]
+def measured(program, kind, principals, count, rounds):
+    """Prints the figures of one KDC's agent; whether kadmind is no faster than the service with that KDC."""
     names = [f"client{number:05}" for number in range(principals)]
     with realms.KINDS[kind]({"admin": realms.FIRST}) as realm:
         cases = Cases(realm, program, Passed())
@@ -193,7 +191,39 @@ def main():
               f"{again}", flush=True)
         # which was removed
         del versions[names[-1]]
-        sys.exit(0 if rates(cases, versions, rounds) else 1)
+        return rates(cases, versions, rounds)
+
+
+def places():
+    """The temporary folder, and one in memory where there is one."""
+    return [it for it in (tempfile.gettempdir(), "/dev/shm") if os.access(it, os.W_OK)]
+
+
+def everywhere():
+    """Each KDC in each place, in a process of its own; whether none is wrong."""
+    packages, wrong = str(packages_folder()), 0
+    for folder in places():
+        print(f"in {folder}:", flush=True)
+        environment = {**os.environ, "TMPDIR": folder, "CHPW_PACKAGES": packages}
+        for kind in realms.KINDS:
+            wrong += subprocess.run([*itself(), "--kind", kind], env=environment, check=False).returncode != 0
+    return not wrong
+
+
+def main():
+    parser = Parser(__doc__, "changes a second of the last server", "kadmind makes more changes than the service with a KDC")
+    parser.add_program()
+    parser.add_argument("--kind", choices=realms.KINDS, help="this KDC alone, in the temporary folder alone; by default each of them, on "
+                        "the disk of the temporary folder and, where there is one, in memory")
+    parser.add_argument("--principals", type=int, default=PRINCIPALS, metavar="N", help=f"by default {PRINCIPALS}")
+    parser.add_argument("--count", type=int, default=100, metavar="N", help="keys that are written, by default 100")
+    parser.add_argument("--rounds", type=int, default=changes.ROUNDS, metavar="N", help=f"of changes, by default {changes.ROUNDS}")
+    words = parser.parse_args()
+    if words.kind:
+        is_good = measured(words.server, words.kind, words.principals, words.count, words.rounds)
+    else:
+        is_good = everywhere()
+    sys.exit(0 if is_good else 1)
 
 
 if __name__ == "__main__":

@@ -1,6 +1,6 @@
-"""Measures what a flood of replayed messages costs `serve`.
+"""Processor seconds that `serve` takes to refuse so many replayed messages.
 
-    python3 replays.py PROGRAM [MESSAGES]
+They are sent over sixteen connections to four workers. The program is built first if a source has changed.
 """
 
 import os
@@ -9,7 +9,9 @@ import sys
 import tempfile
 import threading
 
+from bench.build import built
 from harness import asking
+from harness.command import Parser
 from harness.sample_realm import write_configuration
 from harness.server import Server
 
@@ -82,8 +84,10 @@ def flooded(server, messages):
 
 
 def main():
-    program, *counts = sys.argv[1:]
-    [messages] = map(int, counts) if counts else [MESSAGES]
+    parser = Parser(__doc__, "replayed N messages in S s", "it can't be measured")
+    parser.add_argument("messages", nargs="?", type=int, default=MESSAGES, metavar="MESSAGES", help=f"by default {MESSAGES}")
+    messages = parser.parse_args().messages
+    program = built("chpw_server")
     with tempfile.TemporaryDirectory(prefix="chpw-replays-") as folder:
         server = Server(program, pathlib.Path(folder), WORKERS)
         write_configuration(server.configuration, [NAME])
@@ -94,4 +98,5 @@ def main():
     print(f"replayed {replayed} messages in {seconds:.1f} s")
 
 
-main()
+if __name__ == "__main__":
+    main()

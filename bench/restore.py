@@ -1,13 +1,14 @@
-"""Measures how long `serve` restores a journal.
+"""Processor seconds that `serve` takes to restore a journal in which each principal has as many records as another.
 
-    python3 restore.py PROGRAM [RECORDS [PRINCIPALS ..]]
+What it takes to start with an empty journal is taken off. The program is built first if a source has changed.
 """
 
 import pathlib
 import resource
-import sys
 import tempfile
 
+from bench.build import built
+from harness.command import Parser
 from harness.journal import plain_record
 from harness.sample_realm import write_configuration
 from harness.server import Server
@@ -50,11 +51,15 @@ def restore_seconds(program, records, principals):
 
 
 def main():
-    program, *counts = sys.argv[1:]
-    records, *realms = map(int, counts) if counts else [RECORDS]
-    for principals in realms or PRINCIPALS:
-        seconds = restore_seconds(program, records, principals)
-        print(f"restored {records} records over {principals} principals in {seconds:.1f} s", flush=True)
+    parser = Parser(__doc__, "restored N records over M principals in S s", "it can't be measured")
+    parser.add_argument("records", nargs="?", type=int, default=RECORDS, metavar="RECORDS", help=f"by default {RECORDS}")
+    parser.add_argument("principals", nargs="*", type=int, default=PRINCIPALS, metavar="PRINCIPALS",
+                        help="by default " + ", ".join(map(str, PRINCIPALS)))
+    words = parser.parse_args()
+    program = built("chpw_server")
+    for principals in words.principals:
+        seconds = restore_seconds(program, words.records, principals)
+        print(f"restored {words.records} records over {principals} principals in {seconds:.1f} s", flush=True)
 
 
 if __name__ == "__main__":

@@ -6,7 +6,6 @@ need of them is read from these lines.
 
 import dataclasses
 import os
-import pathlib
 import re
 import signal
 import subprocess
@@ -15,7 +14,6 @@ import sys
 from harness.command import TOP
 from harness.realm import packages_folder
 
-HERE = pathlib.Path(__file__).resolve().parent
 # seconds that one may take
 PATIENCE, QUICK_PATIENCE = 3_600, 180
 
@@ -37,14 +35,13 @@ class Script:
 
     def command(self, program, is_quick):
         words = [it.format(program=program) for it in (self.words[0], *(self.quick if is_quick else self.words[1:]))]
-        name, ending = words[0].split(".")
-        return [sys.executable, "-m", f"bench.{name}", *words[1:]] if ending == "py" else [str(HERE / words[0]), *words[1:]]
+        return [sys.executable, "-m", f"bench.{words[0]}", *words[1:]]
 
     def told(self, is_quick):
         """The command as a reader would type it, without the program's path."""
         words = [it for it in (self.words[0], *(self.quick if is_quick else self.words[1:])) if it not in OF_THE_PROGRAM]
         where = [f"TMPDIR={self.folder}"] if self.folder else []
-        return " ".join([*where, "bench/" + words[0], *words[1:]])
+        return " ".join([*where, f"python3 -m bench.{words[0]}", *words[1:]])
 
 
 OF_THE_PROGRAM = "--server", "{program}"
@@ -55,24 +52,25 @@ def kdcs():
     """On the disk of the temporary folder, and in memory."""
     for folder in None, MEMORY:
         for kind, name in ("mit", "MIT"), ("heimdal", "Heimdal"):
-            yield Script(("kdc.py", "{program}", kind), ("{program}", kind, "100", "5", "1"),
+            yield Script(("kdc", *OF_THE_PROGRAM, "--kind", kind),
+                         (*OF_THE_PROGRAM, "--kind", kind, "--principals", "100", "--count", "5", "--rounds", "1"),
                          f"time to {name}'s KDC", True, folder)
 
 
 SCRIPTS = (
-    Script(("keys.sh",), ("1",), "keys and the cipher, beside OpenSSL; the last line is an iteration's time over OpenSSL's"),
-    Script(("der.sh",), ("1",), "an AP-REQ as DER, megabytes a second"),
-    Script(("open.sh",), ("1",), "an AP-REQ and its KRB-PRIV opened"),
-    Script(("stream.sh",), ("1",), "a change from memory to memory without its keys' derivation, by principals; at last of 100"),
-    Script(("lookup.sh",), ("1",), "lookups by one worker, by each of four, and beside a held lock; at last of 16 principals"),
-    Script(("drill.sh",), ("2000",), "decisions, by events"),
-    Script(("restore.sh",), ("1000", "100"), "a journal restored"),
-    Script(("table.sh",), ("3000", "100"), "`table` of a long journal"),
-    Script(("serve.sh",), ("1", "20"), "changes a second, each client over one connection: one client and worker, four of each"),
-    Script(("replays.sh",), ("500",), "replays refused"),
-    Script(("sync.sh", *OF_THE_PROGRAM), (*OF_THE_PROGRAM, "--count", "3", "--changers", "1"), "a slow sync"),
-    Script(("reload.sh", *OF_THE_PROGRAM), (*OF_THE_PROGRAM, "--principals", "100", "--reloads", "2"), "a reload"),
-    Script(("siege.sh", *OF_THE_PROGRAM), (*OF_THE_PROGRAM, *"--requests 20 --flooded 3 --silent 50 --flood 5 --seconds 2 2 6 8".split()),
+    Script(("keys",), ("1",), "keys and the cipher, beside OpenSSL; the last line is an iteration's time over OpenSSL's"),
+    Script(("der",), ("1",), "an AP-REQ as DER, megabytes a second"),
+    Script(("open",), ("1",), "an AP-REQ and its KRB-PRIV opened"),
+    Script(("stream",), ("1",), "a change from memory to memory without its keys' derivation, by principals; at last of 100"),
+    Script(("lookup",), ("1",), "lookups by one worker, by each of four, and beside a held lock; at last of 16 principals"),
+    Script(("drill",), ("2000",), "decisions, by events"),
+    Script(("restore",), ("1000", "100"), "a journal restored"),
+    Script(("table",), ("3000", "100"), "`table` of a long journal"),
+    Script(("serve",), ("1", "20"), "changes a second, each client over one connection: one client and worker, four of each"),
+    Script(("replays",), ("500",), "replays refused"),
+    Script(("sync", *OF_THE_PROGRAM), (*OF_THE_PROGRAM, "--count", "3", "--changers", "1"), "a slow sync"),
+    Script(("reload", *OF_THE_PROGRAM), (*OF_THE_PROGRAM, "--principals", "100", "--reloads", "2"), "a reload"),
+    Script(("siege", *OF_THE_PROGRAM), (*OF_THE_PROGRAM, *"--requests 20 --flooded 3 --silent 50 --flood 5 --seconds 2 2 6 8".split()),
            "hostile clients"),
     *kdcs(),
 )
@@ -112,13 +110,13 @@ def ended(process):
 
 
 def by_principals(lines):
-    """Microseconds of a change from memory to memory, by principals: stream.sh, whose last line is of 100."""
+    """Microseconds of a change from memory to memory, by principals: stream.py, whose last line is of 100."""
     found = [(int(count), float(micros)) for count, micros in re.findall(r"of (\d+) principals (\d+) us", "\n".join(lines))]
     return found + [(100, float(it)) for it in re.findall(r"answered (\d+) us", "\n".join(lines))]
 
 
 def by_events(lines):
-    """Microseconds of a decision, by decisions: drill.sh."""
+    """Microseconds of a decision, by decisions: drill.py."""
     found = re.findall(r"(\d+) requests over \d+ principals in ([\d.]+) s", "\n".join(lines))
     return [(int(count), float(seconds) * 1e6 / int(count)) for count, seconds in found]
 

@@ -1,6 +1,6 @@
 """Measures how long a request waits for the journal's sync of another one.
 
-`serve` has four workers, and each sync of its journal takes so many milliseconds (hostile/machine.c). Clients change
+`serve` has four workers, and each sync of its journal takes so many milliseconds (harness/machine.c). Clients change
 passwords as fast as they are answered, none of them at first and then so many; beside them one client asks, one request
 after the other, each over a connection of its own, of four kinds in turn: a password that is too short, a message that
 was answered before, a forged ticket, and a change. A line for each number of changers and kind has the median and the

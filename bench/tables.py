@@ -92,19 +92,19 @@ def rows_of(lines, work):
 
 
 TABLES = {
-    "reload.sh": ("A reload", "10,000 principals; four clients change passwords, one is refused, one asks for `status`.", reload),
-    "siege.sh": ("Beside hostile clients", "Four workers. Each pair is in peace, and beside the hostile clients; "
-                 "`bench/siege.sh --help` says how many there are, and has the limits. MiB is the most memory that the service "
+    "reload": ("A reload", "10,000 principals; four clients change passwords, one is refused, one asks for `status`.", reload),
+    "siege": ("Beside hostile clients", "Four workers. Each pair is in peace, and beside the hostile clients; "
+                 "`python3 -m bench.siege --help` says how many there are, and has the limits. MiB is the most memory that the service "
                  "had.", siege),
-    "sync.sh": ("A slow sync", "Every sync takes 20 ms, and others change passwords without a pause. "
+    "sync": ("A slow sync", "Every sync takes 20 ms, and others change passwords without a pause. "
                 "Milliseconds, median and longest of 40.", sync),
 }
 # a second table of a script's
 MORE = {
-    "siege.sh": ("Answers to honest clients, of those that asked; milliseconds, median and longest. Over UDP each request is one "
+    "siege": ("Answers to honest clients, of those that asked; milliseconds, median and longest. Over UDP each request is one "
                  "datagram, which is sent once.", junk),
 }
-KDC = "kdc.py"
+KDC = "kdc"
 OF_KDCS = ("The KDC", "10,000 principals: the list of all keys, and all taken by a service that has none. Milliseconds of a write, from "
            "the request to the agent's answer: median, 99th, longest of 100. Changes a second: of the service, of the service with "
            "this KDC, of kadmind.",

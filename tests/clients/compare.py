@@ -162,7 +162,7 @@ def main():
     last = f"rows {len(every)}, servers {servers}, differing {sum(map(differs, table))}"
     if arguments.write:
         text = "\n".join([*markdown(every, heads, table), f"Last line: `{last}`."])
-        write_part(RESULTS, "interop/compare", text)
+        write_part(RESULTS, "tests.clients.compare", text)
     elif arguments.markdown:
         print(*markdown(every, heads, table), sep="\n")
     else:
