@@ -34,6 +34,8 @@ class Case(unittest.TestCase):
     """A case with a folder, which is gone afterwards."""
 
     program = PROGRAM
+    # the words of the command line
+    words = None
 
     def setUp(self):
         body = getattr(self, self._testMethodName)
@@ -96,13 +98,14 @@ def pattern_of(words):
     return words if "*" in words else f"*{re.sub(r'[^A-Za-z0-9]+', '_', words)}*"
 
 
-def main(text):
-    """Runs the cases of the script with this text at its head, and ends."""
+def main(text, add_options=lambda parser: None):
+    """Runs the cases of the script with this text at its head, and ends. It may have options of its own: `words` of a case."""
     parser = Parser(text)
     parser.add_program("--program")
+    add_options(parser)
     parser.add_argument("-k", action="append", metavar="NAME", help="the cases whose name has this in it; may be repeated")
     words = parser.parse_args()
-    Case.program = words.program
+    Case.program, Case.words = words.program, words
     loader = InOrder()
     loader.testNamePatterns = [pattern_of(it) for it in words.k] if words.k else None
     cases = loader.loadTestsFromModule(sys.modules["__main__"])

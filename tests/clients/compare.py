@@ -121,7 +121,7 @@ def measured(arguments, every):
     users = [user(way, number) for way in WAYS for number in range(1, len(every) + 1)]
     remembered = {user(way, number) for way in WAYS for number, row in enumerate(every, 1) if row.rule == "history"}
     columns = {kind: three_servers.KINDS[kind].NAME for kind in three_servers.KINDS}
-    with three_servers.opened(arguments.servers, arguments.server, users, remembered) as (servers, reasons):
+    with three_servers.opened(arguments.servers, arguments.program, users, remembered) as (servers, reasons):
         with concurrent.futures.ThreadPoolExecutor(len(servers)) as pool:
             answers = dict(zip(servers, pool.map(lambda it: answers_of(it, every), servers.values())))
     for kind, reason in reasons.items():
@@ -148,7 +148,7 @@ def markdown(every, heads, table):
 
 def main():
     parser = Parser(__doc__, "rows N, servers S, differing D", "the service isn't there")
-    parser.add_program()
+    parser.add_program("--program")
     form = parser.add_mutually_exclusive_group()
     form.add_argument("--markdown", action="store_true", help="tables in Markdown")
     form.add_argument("--write", action="store_true", help="these tables go into docs/RESULTS.md")

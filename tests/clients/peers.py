@@ -128,7 +128,7 @@ def run(options, report):
     from packaging import mit
     from packaging import root
 
-    debs = packed(options.server)
+    debs = packed(options.program)
     with root.Root(KIND, of_try().CACHE, options.keep) as where:
         place = where.path("/opt/peers")
         shutil.copytree(FOLDER, place)
@@ -150,7 +150,7 @@ def run(options, report):
 
 def main():
     parser = Parser(__doc__, "N passed, M failed", "any failed")
-    parser.add_program()
+    parser.add_program("--program")
     parser.add_keep()
     parser.add_argument("suites", nargs="*", metavar="SUITE", help=f"these alone: {', '.join(SUITES)}")
     options = parser.parse_args()

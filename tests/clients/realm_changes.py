@@ -17,15 +17,14 @@ import base64
 import os
 import secrets
 import subprocess
-import sys
 import threading
 import time
 
+from harness import cases
 from harness.command import TOP, Parser
 from harness.journal import read_journal
 from harness.log_lines import events, messages
 from harness.realm import REALM, SERVICE, Project, Realm, packages_folder
-from harness.report import Report
 from harness.server import Server
 
 HEAD = TOP / "samples/head.toml"
@@ -287,30 +286,28 @@ def run(realm, server, report, soon):
     bob.start()
     try:
         a_new_user(service, bob, soon)
-        for cases in (the_service_first, the_kdc_first, rotated):
-            cases(service, bob)
+        for change in (the_service_first, the_kdc_first, rotated):
+            change(service, bob)
         tell_end(service, bob)
         started_again(service)
     finally:
         bob.end()
 
 
-def main():
-    parser = Parser(__doc__)
-    parser.add_program()
+class RealmChanges(cases.Case):
+    def test_changes(self):
+        """Each in turn, at one service."""
+        with Realm({"alice": OLD, "bob": OLD}, self.words.keep) as realm:
+            server = Server(self.program, realm.folder, WORKERS)
+            self.addCleanup(server.end)
+            run(realm, server, self, self.words.soon)
+
+
+def add_options(parser):
+    Parser.add_keep(parser)
     parser.add_argument("--soon", type=float, default=SOON, metavar="SECONDS",
                         help=f"by default {SOON}; more for a program that was built without a proof")
-    parser.add_keep()
-    arguments = parser.parse_args()
-    report = Report()
-    with Realm({"alice": OLD, "bob": OLD}, arguments.keep) as realm:
-        server = Server(arguments.server, realm.folder, WORKERS)
-        try:
-            run(realm, server, report, arguments.soon)
-        finally:
-            server.end()
-    sys.exit(report.status())
 
 
 if __name__ == "__main__":
-    main()
+    cases.main(__doc__, add_options)

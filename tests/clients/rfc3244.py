@@ -4,14 +4,12 @@ A realm of MIT Kerberos on loopback gives the tickets. A line for each run says 
 """
 
 import dataclasses
-import sys
 import unicodedata
 
-from harness import configuration
+from harness import cases, configuration
 from harness.command import Parser
 from harness.journal import read_journal
 from harness.realm import SERVICE, Realm
-from harness.report import Report
 from harness.server import Server
 
 # what the KDC knows all the time: the service keeps the changes to itself
@@ -27,7 +25,7 @@ UMLAUTS = unicodedata.normalize("NFC", "Schöne Wörter 1")
 
 
 @dataclasses.dataclass(frozen=True)
-class Case:
+class Run:
     """A run of a client. `wanted` is what it prints; None is any refusal (Heimdal, see README)."""
 
     what: str
@@ -44,20 +42,20 @@ class Case:
 def heimdal(what, client, target, new, ok, variant=""):
     wanted = "Success : password changed" if ok else None
     changed = target if ok else None
-    return Case("Heimdal: " + what, "heimdal", [client, target], new, wanted, changed, 1, variant)
+    return Run("Heimdal: " + what, "heimdal", [client, target], new, wanted, changed, 1, variant)
 
 
 def mit(what, client, target, new, wanted, options=(), entries=1, variant=""):
     arguments = [*options, client, PASSWORDS[client], new, target]
     changed = target if wanted.startswith("0 ") else None
-    return Case("MIT: " + what, "mit", arguments, new, wanted, changed, entries, variant)
+    return Run("MIT: " + what, "mit", arguments, new, wanted, changed, entries, variant)
 
 
 def earlier(what, new, wanted, options=()):
     """A change of alice's in the earlier protocol, version 1."""
     arguments = [*options, "--change", "alice", PASSWORDS["alice"], new]
     changed = "alice" if wanted == DONE else None
-    return Case("MIT, version 1: " + what, "mit", arguments, new, wanted, changed)
+    return Run("MIT, version 1: " + what, "mit", arguments, new, wanted, changed)
 
 
 DONE = "0 password changed"
@@ -134,38 +132,32 @@ def run(realm, server, report):
     client = realm.client()
     server.configuration.write_text(configuration.configuration(realm.keytab(), RULES))
     server.configuration.chmod(0o600)
-    cases = [*CASES, STALE]
-    server.start(connections=len(cases))
+    runs = [*CASES, STALE]
+    server.start(connections=len(runs))
     realm.write_client_configuration(server.port)
     # so that there are tickets for the service that aren't initial
     realm.kadmin("modprinc", "+allow_tgs_req", SERVICE)
     accepted = []
-    for case in cases:
+    for case in runs:
         if case is STALE:
             realm.kadmin("cpw", "-randkey", SERVICE)
         found = ask(realm, client, case)
         report.tell(case.what, "refused" if found is None else found, case.wanted or "refused")
         if case.changed:
             accepted.append((case.changed, case.new))
-    counts = f"entries {sum(case.entries for case in cases)} changes {len(accepted)}"
+    counts = f"entries {sum(case.entries for case in runs)} changes {len(accepted)}"
     report.tell("serve's last line", server.last_words(), counts)
     check_journal(report, realm, server, accepted)
 
 
-def main():
-    parser = Parser(__doc__)
-    parser.add_program()
-    parser.add_keep()
-    arguments = parser.parse_args()
-    report = Report()
-    with Realm(PASSWORDS, arguments.keep) as realm:
-        server = Server(arguments.server, realm.folder, workers=2)
-        try:
-            run(realm, server, report)
-        finally:
-            server.end()
-    sys.exit(report.status())
+class StockClients(cases.Case):
+    def test_clients(self):
+        """Each in turn, at one service."""
+        with Realm(PASSWORDS, self.words.keep) as realm:
+            server = Server(self.program, realm.folder, workers=2)
+            self.addCleanup(server.end)
+            run(realm, server, self)
 
 
 if __name__ == "__main__":
-    main()
+    cases.main(__doc__, Parser.add_keep)

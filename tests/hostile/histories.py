@@ -14,15 +14,11 @@ without a quiet time; what was accepted in the first history is a replay in each
 changes, and no others, are in the journal, in order, with versions and keys.
 """
 
-import pathlib
-import sys
-import tempfile
 import threading
 
 from harness import asking
-from harness.command import Parser
+from harness.cases import Case, main
 from harness.journal import read_journal
-from harness.report import Report
 from harness.sample_realm import write_configuration
 from harness.server import Server
 from harness.wire import REALM, string_to_key
@@ -201,7 +197,8 @@ def in_journal(server, client):
     return length if len(found) != len(wanted) else sum(a != b for a, b in zip(found, wanted))
 
 
-def cases(report, server):
+def serve(report, server):
+    """A service that ends once its last connection does."""
     names = [f"user{number}" for number in range(CLIENTS)]
     write_configuration(
         server.configuration, names, iterations=ITERATIONS, max_entries=ENTRIES
@@ -240,19 +237,12 @@ def tell(report, server, clients, histories):
     report.tell("serve's standard error", errors, "")
 
 
-def main():
-    parser = Parser(__doc__)
-    parser.add_program("--program")
-    arguments = parser.parse_args()
-    report = Report()
-    with tempfile.TemporaryDirectory(prefix="chpw-histories-") as folder:
-        server = Server(arguments.program, pathlib.Path(folder), WORKERS)
-        try:
-            cases(report, server)
-        finally:
-            server.end()
-    sys.exit(report.status())
+class FullHistories(Case):
+    def test_histories(self):
+        server = Server(self.program, self.folder, WORKERS)
+        self.addCleanup(server.end)
+        serve(self, server)
 
 
 if __name__ == "__main__":
-    main()
+    main(__doc__)

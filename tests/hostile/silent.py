@@ -24,14 +24,12 @@ import resource
 import selectors
 import socket
 import struct
-import sys
 import tempfile
 import time
 
 from harness import asking, wire
-from harness.command import Parser
+from harness.cases import Case, main
 from harness.journal import read_journal
-from harness.report import Report
 from harness.sample_realm import write_configuration
 from harness.server import Server
 
@@ -410,21 +408,27 @@ def service(program, names, connections, workers=WORKERS, idle=None, iterations=
             server.end()
 
 
-def main():
-    parser = Parser(__doc__)
-    parser.add_program("--program")
+class SilentClients(Case):
+    def setUp(self):
+        super().setUp()
+        _, most = resource.getrlimit(resource.RLIMIT_NOFILE)
+        resource.setrlimit(resource.RLIMIT_NOFILE, (most, most))
+        self.started = functools.partial(service, self.program)
+
+    def test_many(self):
+        many(self, self.started, self.words.silent, self.words.every)
+
+    def test_few(self):
+        few(self, self.started, self.words.silent // 4, max(1, self.words.every // 4))
+
+    def test_behind_a_busy_worker(self):
+        behind_a_busy_worker(self, self.started)
+
+
+def add_options(parser):
     parser.add_argument("--silent", type=int, default=2_000, metavar="N", help="clients that keep it waiting, by default 2000")
     parser.add_argument("--every", type=int, default=200, metavar="N", help="a real client behind so many, by default 200")
-    arguments = parser.parse_args()
-    _, most = resource.getrlimit(resource.RLIMIT_NOFILE)
-    resource.setrlimit(resource.RLIMIT_NOFILE, (most, most))
-    report = Report()
-    started = functools.partial(service, arguments.program)
-    many(report, started, arguments.silent, arguments.every)
-    few(report, started, arguments.silent // 4, max(1, arguments.every // 4))
-    behind_a_busy_worker(report, started)
-    sys.exit(report.status())
 
 
 if __name__ == "__main__":
-    main()
+    main(__doc__, add_options)
