@@ -1,4 +1,4 @@
-"""The service beside MIT's kadmind and Heimdal's kpasswdd, on one machine and in turn (interop/three_servers.py).
+"""The service beside MIT's kadmind and Heimdal's kpasswdd, on one machine and in turn (harness/three_servers.py).
 
 Each client changes the passwords of many users in turn, as a realm does, in version 0x0001, over a new connection each time, or
 over UDP where the server has no TCP: a server that keeps each user's former keys would otherwise have few users with ever

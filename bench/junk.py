@@ -2,7 +2,7 @@
 
 One client asks over TCP, over a connection of its own each time, and four over UDP, each request in one datagram that is sent
 once. They ask at a pace, for as long as the siege lasts; their requests are made before. The servers have the same users and
-keys (interop/three_servers.py), and the same junk, one after the other.
+keys (harness/three_servers.py), and the same junk, one after the other.
 """
 
 import contextlib

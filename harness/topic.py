@@ -1,8 +1,8 @@
 """One topic of the cases of a program, or of their answers, on standard input: its heading, `[TOPIC]`, and the lines below it
 up to the next topic's.
 
-    python3 interop/topic.py log < crates/cases_network/stdin
-    python3 interop/cases_log.py < crates/cases_network/stdin | python3 interop/topic.py log --into crates/cases_network/stdout
+    python3 -m harness.topic log < crates/cases_network/stdin
+    python3 -m tests.model.cases_log < crates/cases_network/stdin | python3 -m harness.topic log --into crates/cases_network/stdout
 """
 import pathlib
 import sys

@@ -1,10 +1,10 @@
 """What one has to read to believe a contract: the definitions that it rests on, each once.
 
-    tools/believe chpw_book Desk::close              the whole contract of a function
-    tools/believe chpw_book Desk::close legal        one or more of its clauses
-    tools/believe chpw_book RecordedTable            a type with its invariant
-    tools/believe chpw_book AtDesk as Decider        a type's instance of a trait
-    tools/believe chpw_book Desk::close + chpw_serve answer answers
+    python3 -m tools.believe chpw_book Desk::close              the whole contract of a function
+    python3 -m tools.believe chpw_book Desk::close legal        one or more of its clauses
+    python3 -m tools.believe chpw_book RecordedTable            a type with its invariant
+    python3 -m tools.believe chpw_book AtDesk as Decider        a type's instance of a trait
+    python3 -m tools.believe chpw_book Desk::close + chpw_serve answer answers
                                                      several of these
 
 Printed are the contracts, then each definition of this repository that they name, then those that these name, and so
@@ -30,8 +30,8 @@ from tools.source import Sources, contracts, count_of, rests_on
 
 def main():
     parser = Parser(__doc__, "N lines in M definitions", "there is no such contract",
-                    usage="tools/believe [-h] [--list] CRATE PATH [CLAUSE ..] [+ CRATE PATH [CLAUSE ..]] ..\n"
-                    "       tools/believe [-h] [--list] CRATE TYPE as TRAIT [MEMBER ..] [+ ..] ..")
+                    usage="python3 -m tools.believe [-h] [--list] CRATE PATH [CLAUSE ..] [+ CRATE PATH [CLAUSE ..]] ..\n"
+                    "       python3 -m tools.believe [-h] [--list] CRATE TYPE as TRAIT [MEMBER ..] [+ ..] ..")
     parser.add_argument("--list", action="store_true", help="print files, names and counts of lines alone")
     parser.add_argument("word", nargs="+", metavar="WORD", help="a crate, a function or type of it, its clauses; by default all")
     given = parser.parse_args()

@@ -1,9 +1,9 @@
-"""Whether `tools/documents` finds faults, `tools/believe` prints what it says, and each script has the common form.
+"""Whether `tools.documents` finds faults, `tools.believe` prints what it says, and each script has the common form.
 
-Plants a fault of each kind in a copy of the repository and runs `tools/documents` there once: each has to be found. Asks
-`tools/believe` for contracts, instances of traits and several of them, and for more than is read; and `packaging/gate_record.py` for
-records of programs and sources that were changed. Then asks each script of tools/, trials/, hostile/, interop/, kdc/ and bench/ for `--help`, which has to be on standard output
-with status 0, and gives it an option that it doesn't have: that is a line on standard error and status 2. A line is printed
+Plants a fault of each kind in a copy of the repository and runs `tools.documents` there once: each has to be found. Asks
+`tools.believe` for contracts, instances of traits and several of them, and for more than is read; and `packaging/gate_record.py` for
+records of programs and sources that were changed. Then asks each script of tools/, trials/, harness/, tests/,
+kdc/ and bench/ for `--help`, which has to be on standard output with status 0, and gives it an option that it doesn't have: that is a line on standard error and status 2. A line is printed
 for what isn't so.
 """
 
@@ -83,7 +83,8 @@ def in_words(copy):
         "`Table::planted`": "no Table::planted",
         # in two parts, as below, so that it isn't an option of this script
         "`serve --" + "planted`": "no option --" + "planted",
-        "`interop/planted.py`": "no file interop/planted.py",
+        "`harness/planted.py`": "no file harness/planted.py",
+        "`tests.hostile.planted`": "no script tests.hostile.planted",
         "`planted" + "_name`": "no planted" + "_name in any source",
         "chpw_book, `Desk::close` (`legal`, `planted`)": "no clause planted of Desk::close",
         "[chpw_record `Records`, `Planted`]": "no Planted in the definitions of chpw_record",
@@ -101,10 +102,10 @@ def in_counts(copy):
     yield r"docs/TESTS\.md:\d+: \d+ stands there, and there are \d+: \| `\w+` \| \d+ \|"
     copy.one_more("trials/README.md", r"has (?P<n>\d+) more")
     yield r"trials/README\.md:\d+: \d+ stands there, and there are \d+: `must-fail/CRATE/` has \d+"
-    copy.change("docs/TESTS.md", r"^\| `hostile/crowds` \|", lambda it: "| planted |")
-    yield r"docs/TESTS\.md: no row `hostile/crowds`"
-    command = re.search(r"tools/believe [a-z]\w* [\w:]+", (copy.top / "docs/PROOFS.md").read_text())[0]
-    copy.append("docs/PROOFS.md", f"`{command}` prints 1 lines in 1 definitions")
+    copy.change("docs/TESTS.md", r"^\| `tests\.hostile\.crowds` \|", lambda it: "| planted |")
+    yield r"docs/TESTS\.md: no row `tests\.hostile\.crowds`"
+    command = re.search(r"tools\.believe [a-z]\w* [\w:]+", (copy.top / "docs/PROOFS.md").read_text())[0]
+    copy.append("docs/PROOFS.md", f"`python3 -m {command}` prints 1 lines in 1 definitions")
     yield r"docs/PROOFS\.md:\d+: 1 lines in 1 definitions stands there, and it prints \d+ lines in \d+ definitions"
 
 
@@ -184,11 +185,11 @@ def planted(program):
         for it in wanted:
             yield f"planted: {it}", any(re.match(it, line) for line in lines)
         ended = lines and re.fullmatch(r"\d+ checked, \d+ wrong", lines[-1]) and run.returncode == 1
-        yield f"tools/documents ends with status {run.returncode}: {run.stderr[-300:]}", bool(ended)
+        yield f"tools.documents ends with status {run.returncode}: {run.stderr[-300:]}", bool(ended)
 
 
 DESK, INSTANCE, SERVICE = "chpw_book Desk::close", "chpw_book AtDesk as Decider", "chpw_messages Service as Messages"
-# what is asked of tools/believe, and what it has to print, or say
+# what is asked of tools.believe, and what it has to print, or say
 BELIEVED = [
     (INSTANCE, [r"^    ghost gathered = \{ λ a\. ", r"^    ghost may_be_full = ", r"^    ghost follows = ", r"^    ghost made = ",
                 r"^        ensures shown ", r"^pub trait Decider \{", r"^    ghost stays: ", r"^IsKvnoTold opening own kvno =",
@@ -205,7 +206,7 @@ UNBELIEVED = [
 
 
 def believe(words):
-    """What tools/believe prints and says, and its status."""
+    """What tools.believe prints and says, and its status."""
     run = subprocess.run([sys.executable, "-m", "tools.believe", *words.split()], cwd=TOP, capture_output=True, text=True, check=False)
     return run.stdout, run.stderr, run.returncode
 
@@ -241,17 +242,17 @@ def is_quiet_where_cut(words):
 
 
 def believed():
-    """What tools/believe has to print, and whether it does."""
+    """What tools.believe has to print, and whether it does."""
     for words, wanted in BELIEVED:
         printed, said, status = believe(words)
-        yield f"tools/believe {words}: status {status}, {said[-200:]}", (said, status) == ("", 0)
+        yield f"tools.believe {words}: status {status}, {said[-200:]}", (said, status) == ("", 0)
         for it in wanted:
-            yield f"tools/believe {words}: {it}", re.search(it, printed, re.MULTILINE) is not None
+            yield f"tools.believe {words}: {it}", re.search(it, printed, re.MULTILINE) is not None
     for words, wanted in UNBELIEVED:
-        yield f"tools/believe {words}: {wanted}", believe(words) == ("", f"{wanted}\n", 1)
-    yield "tools/believe, several as one list", is_one_list(DESK, INSTANCE, SERVICE)
-    yield "tools/believe, one twice", believe(f"{INSTANCE} + {INSTANCE}") == believe(INSTANCE)
-    yield "tools/believe, its first line alone", is_quiet_where_cut(DESK)
+        yield f"tools.believe {words}: {wanted}", believe(words) == ("", f"{wanted}\n", 1)
+    yield "tools.believe, several as one list", is_one_list(DESK, INSTANCE, SERVICE)
+    yield "tools.believe, one twice", believe(f"{INSTANCE} + {INSTANCE}") == believe(INSTANCE)
+    yield "tools.believe, its first line alone", is_quiet_where_cut(DESK)
 
 
 def recorded():

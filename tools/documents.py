@@ -11,7 +11,7 @@ checks:
               in backquotes stands in some source
     counts    numbers of crates, edits, tests, cases and samples are right, and no program of cases is left out
     made      what other scripts of tools/ write into the documents is as they would write it now
-    reading   how many lines there are to read for a contract is what tools/believe prints
+    reading   how many lines there are to read for a contract is what tools.believe prints
     lines     each line that the program prints on standard error stands in docs/ADMIN.md
     pages     the manual pages in packaging/man have the options and defaults of each command's help, and no others
     rooted    no command that is printed for root meets a name that the service's user could have made
@@ -22,7 +22,7 @@ checks:
     versions  the version and the toolchain that the program prints are those of CHANGELOG.md, of the documents, and of rt
     widths    no source, definition or proof has a line of more than 160 characters
 
-A line is printed for each fault, `PLACE: what is wrong`. tools/check shows that such faults are found.
+A line is printed for each fault, `PLACE: what is wrong`. tools.check shows that such faults are found.
 """
 
 import sys

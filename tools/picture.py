@@ -157,7 +157,7 @@ def main():
     if not given.check:
         FILE.write_text(text)
     elif not FILE.is_file() or FILE.read_text() != text:
-        sys.exit("docs/layers.svg differs from crates.txt: run tools/picture")
+        sys.exit("docs/layers.svg differs from crates.txt: run python3 -m tools.picture")
     elif described() != list(USES):
         sys.exit("the table of crates in docs/DESIGN.md differs from crates.txt")
 

@@ -15,7 +15,7 @@ from tools.source import CRATES, TOP, crates
 FILE = TOP / "docs" / "promises.md"
 HEAD = """# All promises
 
-Made by `tools/promises` from the tables in the crates' READMEs, in the order of [crates.txt](../crates.txt): edit them
+Made by `tools.promises` from the tables in the crates' READMEs, in the order of [crates.txt](../crates.txt): edit them
 there. [PROOFS](PROOFS.md) says what a contract and a clause are, and which of them make up the main theorem. A file of
 definitions without a path is that of `specs/` in the same crate.
 """
@@ -58,7 +58,7 @@ def main():
     if not given.check:
         FILE.write_text(text)
     elif not FILE.is_file() or FILE.read_text() != text:
-        sys.exit("docs/promises.md differs from the crates' READMEs: run tools/promises")
+        sys.exit("docs/promises.md differs from the crates' READMEs: run python3 -m tools.promises")
 
 
 if __name__ == "__main__":

@@ -6,7 +6,7 @@ A quote is a fenced block below a comment that says what stands in it:
     <!-- clause CRATE PATH NAME .. -->           these clauses alone
     <!-- definition CRATE MODULE NAME .. -->     definitions of specs/MODULE.antt, with their comments
     <!-- type CRATE NAME -->                     a type, with its invariant
-    <!-- believe CRATE PATH NAME .. -->          how much tools/believe has one read for these words
+    <!-- believe CRATE PATH NAME .. -->          how much tools.believe has one read for these words
 """
 
 import pathlib

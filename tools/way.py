@@ -90,7 +90,7 @@ def main():
     if not is_check:
         FILE.write_text(text)
     elif not FILE.is_file() or FILE.read_text() != text:
-        print("docs/way.svg differs: tools/way draws it")
+        print("docs/way.svg differs: python3 -m tools.way draws it")
         return 1
     return 0
 

@@ -1,4 +1,4 @@
-"""Whether `trials/run` tells an edit that is refused from one that isn't, and whether any edit is bad.
+"""Whether `trials.run` tells an edit that is refused from one that isn't, and whether any edit is bad.
 
 Runs it over the two edits of self_test/chpw_read_fully, which one check tries: one is refused there, and one, which writes a sum
 in another way, is refused neither there nor by itself. Compares each verdict, the last line and the status. It works on a copy,
@@ -18,7 +18,7 @@ from trials import share, states
 from trials.verdicts import Verdict
 
 CRATE = "chpw_read_fully"
-# what trials/run needs of it
+# what trials.run needs of it
 SCRIPTS = ("__init__", "run", "callees", "guards", "share", "states", "together", "verdicts")
 FILES = ("crates.txt", "HANDLES", "prove", *(f"harness/{it}.py" for it in ("__init__", "command", "topic")),
          *(f"trials/{it}.py" for it in SCRIPTS))

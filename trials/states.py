@@ -55,7 +55,7 @@ def folder_of(edit, top):
 
 
 def all_edits(top):
-    """Every edit of must-fail/ and trials/, as a path below the top, but for those by which trials/run is tried itself."""
+    """Every edit of must-fail/ and trials/, as a path below the top, but for those by which trials.run is tried itself."""
     found = [it for folder in ("must-fail", "trials") for it in (top / folder).rglob("*.edit")]
     return sorted(str(it.relative_to(top)) for it in found if "self_test" not in it.parts)
 

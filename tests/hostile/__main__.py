@@ -12,10 +12,7 @@ import subprocess
 import sys
 
 from harness.command import TOP, Parser
-
-SCRIPTS = ("allocations", "outputs", "lines", "connections", "crowds", "datagrams", "addresses", "shares", "advisories", "agents",
-           "agent_calls", "failing_lists", "logs", "starts", "resumes", "restarts", "options", "control", "reloads", "compactions",
-           "endings", "endings_import", "endings_client", "endings_serve", "faults", "threads")
+from tests.hostile import SCRIPTS
 
 
 def main():

@@ -1,7 +1,7 @@
 """What `cases_network` must print below `[connections]`, worked out with nothing of ours: of the cases there, on standard input, the
 answers.
 
-    python3 interop/cases_connections.py < crates/cases_network/stdin
+    python3 -m tests.model.cases_connections < crates/cases_network/stdin
 
 A naive model of the machine of connections, by crates/chpw_connections/README.md and its specs: a list of connections,
 each a small object, and a plain list for each worker's queue. crates/cases_network/README.md has the cases.

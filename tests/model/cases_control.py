@@ -1,7 +1,7 @@
 """What `cases_network` must print below `[control]`, worked out with nothing of ours: of the cases there, on standard input, the
 answers.
 
-    python3 interop/cases_control.py < crates/cases_network/stdin
+    python3 -m tests.model.cases_control < crates/cases_network/stdin
 
 The commands, faults and lines are docs/PROTOCOL.md's and docs/ADMIN.md's, the times datetime's.
 """

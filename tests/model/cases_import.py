@@ -1,7 +1,7 @@
 """What `cases_service` must print below `[import]`, worked out with nothing of ours but AES (changepw_client.py): of the cases
 there, on standard input, the answers.
 
-    python3 interop/cases_import.py < crates/cases_service/stdin
+    python3 -m tests.model.cases_import < crates/cases_service/stdin
 
 The layout is that of MIT's keytabs, format 0x0502; which keys a configuration can have, and in which order they stand, says
 docs/PROTOCOL.md.

@@ -1,7 +1,7 @@
 """What `cases_network` must print below `[log]`, worked out with nothing of ours: of the cases there, on standard input, the
 answers.
 
-    python3 interop/cases_log.py < crates/cases_network/stdin
+    python3 -m tests.model.cases_log < crates/cases_network/stdin
 
 The codes, errors and texts are docs/PROTOCOL.md's, the times datetime's, the addresses ipaddress's.
 """

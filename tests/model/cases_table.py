@@ -2,7 +2,7 @@
 library alone. Of the cases of `cases_journal` below `[table]`, on standard input, it prints
 the answers.
 
-    python3 interop/cases_table.py < crates/cases_journal/stdin
+    python3 -m tests.model.cases_table < crates/cases_journal/stdin
 """
 
 import dataclasses

@@ -2,8 +2,8 @@
 the rules of DER (X.690), with Python's own library alone. Nothing is deciphered: a sealed text opens where it is the one that
 the client made, and no other does.
 
-    python3 interop/changed_bytes.py stream      # answers of crates/cases_service, by the line
-    python3 interop/changed_bytes.py journal     # answers of crates/cases_journal
+    python3 -m tests.model.changed_bytes stream      # answers of crates/cases_service, by the line
+    python3 -m tests.model.changed_bytes journal     # answers of crates/cases_journal
 """
 
 from harness import wire as client

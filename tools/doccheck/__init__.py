@@ -1,1 +1,1 @@
-"""The checks of tools/documents, a module for each."""
+"""The checks of tools.documents, a module for each."""

@@ -3,6 +3,7 @@
 import re
 
 from harness.topic import lines_of, parts_of
+from tests.hostile import SCRIPTS
 
 from .tree import TOP
 
@@ -33,9 +34,9 @@ def caught():
 
 
 def caught_by_scripts():
-    """Those of them that name a script of hostile/."""
+    """Those of them that name a script of tests.hostile."""
     found = (it.read_text().splitlines()[0] for it in (TOP / "trials").glob("*/tests/*.edit"))
-    return sum(1 for it in found if it.startswith("test: hostile/"))
+    return sum(1 for it in found if it.startswith("test: tests.hostile."))
 
 
 def of_agents():
@@ -76,18 +77,13 @@ def answering():
             yield from ((name, topic) for topic in topics if topic or len(topics) == 1)
 
 
-def scripts():
-    """The scripts that hostile/run runs of its own folder."""
-    return re.findall(r"^\./(\w+)$", (TOP / "hostile/run").read_text(), re.MULTILINE)
-
-
 def check_whole(document, faults):
-    """No program of cases, no crate of tests and no script of hostile/ is left out."""
+    """No program of cases, no crate of tests and no script of tests.hostile is left out."""
     if document is None:
         return
     wanted = [f"| `{name}`: {topic} | " if topic else f"| `{name}` | " for name, topic in answering()]
     wanted += [f"| `{it.name}` (" for it in CRATES.iterdir() if tests(it.name)]
-    wanted += [f"| `hostile/{it}` | " for it in scripts()]
+    wanted += [f"| `tests.hostile.{it}` | " for it in SCRIPTS]
     for row in wanted:
         faults.check(f"\n{row}" in document.text, document.name, f"no row {row.strip('| (')}")
 
@@ -118,7 +114,7 @@ TABLE = [
     ("docs/TESTS.md", r"`must-fail/` has (?P<n>\d+)", of(must_fail)),
     ("docs/TESTS.md", r"`trials/` has (?P<n>\d+)", of(refused)),
     ("docs/TESTS.md", r"(?P<n>\d+) wrong bodies that no clause", of(caught)),
-    ("docs/TESTS.md", r"(?P<n>\d+) of them name a script of `hostile/`", of(caught_by_scripts)),
+    ("docs/TESTS.md", r"(?P<n>\d+) of them name a script of `tests.hostile`", of(caught_by_scripts)),
     ("docs/TESTS.md", r"(?P<n>\d+) wrong bodies of the agents", of(of_agents)),
     ("docs/TESTS.md", r"(?P<n>\d+) scripts of the drill", of(samples)),
     ("CONTRIBUTING.md", r"(?P<n>\d+) crates", of(crates)),

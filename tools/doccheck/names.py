@@ -10,7 +10,9 @@ CRATE = re.compile(r"(?:krb|chpw|cases|tests|support)_[a-z0-9_]+|[a-z0-9]+(?:_[a
 PATH = re.compile(r"([A-Za-z_]\w*(?:::[A-Za-z_]\w*)+)(?:::\{([\w, ]+)\})?(?:\(.*\))?")
 GROUP = re.compile(r"([A-Za-z_]\w*(?:::[A-Za-z_]\w*)*)::\{([\w, ]+)\}")
 OPTION = re.compile(r"(?<![\w-])--([a-z]+(?:-[a-z]+)*)")
-FILE = re.compile(r"(?:\.ci|bench|crates|docs|hostile|interop|kdc|must-fail|samples|tools|trials)/[\w./-]+")
+FILE = re.compile(r"(?:\.ci|bench|crates|docs|harness|kdc|must-fail|packaging|samples|tests|tools|trials)/[\w./-]+")
+# A script, or another module, as `python3 -m` names it.
+SCRIPT = re.compile(r"(?:^|python3 -m )((?:bench|harness|packaging|tests|tools|trials)(?:\.[a-z]\w*)+)")
 
 # Crates' names that are none of ours, and names of the libraries' and of other projects'.
 FOREIGN_CRATES = {"krb_error", "krb_priv", "krb_ap_req", "krb_ap_rep"}
@@ -45,6 +47,14 @@ def check(tree, faults):
                 faults.check(is_known(tree, own, path), place, f"no {'::'.join(path)}")
             if FILE.fullmatch(span) and not re.search(r"\b[A-Z]{3,}\b", span) and not MADE.search(span):
                 faults.check((TOP / span).exists() or any(TOP.glob(span)), place, f"no file {span}")
+            for script in SCRIPT.findall(span):
+                faults.check(is_script(script), place, f"no script {script}")
+
+
+def is_script(name):
+    """Whether a module is there, or a package that runs as one."""
+    path = TOP / name.replace(".", "/")
+    return path.with_suffix(".py").is_file() or path.is_dir()
 
 
 def paths_in(span):

@@ -7,7 +7,7 @@ import sys
 
 from .tree import TOP
 
-COMMAND = re.compile(r"tools[./]believe ([a-z-](?:[\w:+-]+ ?)+)")
+COMMAND = re.compile(r"tools\.believe ([a-z-](?:[\w:+-]+ ?)+)")
 COUNT = re.compile(r"\d[\d,]* lines in \d[\d,]* definitions")
 
 
@@ -24,6 +24,6 @@ def check(tree, faults):
         for count in COUNT.finditer(document.text):
             place = f"{document.name}:{document.text.count(chr(10), 0, count.start()) + 1}"
             before = [it for it in commands if it.start() < count.start()]
-            if faults.check(before, place, f"no tools/believe stands before {count[0]}"):
+            if faults.check(before, place, f"no tools.believe stands before {count[0]}"):
                 right = counted(before[-1][1])
                 faults.check(count[0].replace(",", "") == right, place, f"{count[0]} stands there, and it prints {right}")

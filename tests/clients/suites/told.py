@@ -1,4 +1,4 @@
-"""What a suite tells `interop/peers`: a line for each test, `test NAME`, and below it a line `note WORDS` for each thing that is
+"""What a suite tells `tests.clients.peers`: a line for each test, `test NAME`, and below it a line `note WORDS` for each thing that is
 another one than the suite expects."""
 
 import traceback
