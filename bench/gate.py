@@ -28,7 +28,7 @@ def copied(folder):
 
 
 def spent(folder, *words):
-    """The processor seconds of a command in a folder, whose output is shown where it fails."""
+    """The processor seconds of a command in a folder, and whether it failed; then its output is shown."""
     before = resource.getrusage(resource.RUSAGE_CHILDREN)
     done = subprocess.run(words, cwd=folder, stdout=subprocess.PIPE, stderr=subprocess.STDOUT, text=True, check=False)
     after = resource.getrusage(resource.RUSAGE_CHILDREN)
@@ -60,8 +60,10 @@ def measured(top, name, below):
     yield spent(crate, "rt", "lib" if (crate / "src/lib.rt").is_file() else "check", "--jobs", "1")
     yield tests_of(crate) if has_tests(crate) else (0, False)
     shutil.rmtree(crate / "out/incremental", ignore_errors=True)
-    edits = spent(top, sys.executable, "-m", "trials.run", "--in", "must-fail", name)
-    yield edits if (top / "must-fail" / name).is_dir() else (0, False)
+    if (top / "must-fail" / name).is_dir():
+        yield spent(top, sys.executable, "-m", "trials.run", "--in", "must-fail", name)
+    else:
+        yield 0, False
 
 
 def row(name, numbers):

@@ -20,9 +20,6 @@ no claim rests on it.
 """
 
 import signal
-import sys
-
-sys.dont_write_bytecode = True
 
 from harness.command import Parser
 from tools.source import Sources, contracts, count_of, rests_on

@@ -10,8 +10,6 @@ import sys
 from functools import lru_cache
 from html import escape
 
-sys.dont_write_bytecode = True
-
 from harness.command import Parser
 from tools.source import TOP, crates
 

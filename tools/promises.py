@@ -7,8 +7,6 @@ A table of promises is the first one of a README whose heading begins with `Prom
 import re
 import sys
 
-sys.dont_write_bytecode = True
-
 from harness.command import Parser
 from tools.source import CRATES, TOP, crates
 

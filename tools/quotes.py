@@ -14,8 +14,6 @@ import re
 import sys
 import textwrap
 
-sys.dont_write_bytecode = True
-
 from harness.command import Parser
 from tools.source import CRATES, TOP, Sources, clauses_of, contracts, count_of, items, rests_on
 

@@ -6,8 +6,6 @@ With --check nothing is written; the status is 1 if the picture is another one t
 import sys
 from html import escape
 
-sys.dont_write_bytecode = True
-
 from harness.command import Parser
 from tools.source import TOP
 

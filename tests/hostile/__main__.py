@@ -16,7 +16,7 @@ from tests.hostile import SCRIPTS
 
 
 def main():
-    Parser(__doc__, "cases N failed M, that of the last script; it ends behind the first one that fails").parse_args()
+    Parser(__doc__, "cases N failed M, that of the last script; it ends after the first one that fails").parse_args()
     for name in SCRIPTS:
         status = subprocess.run([sys.executable, "-m", f"tests.hostile.{name}"], cwd=TOP, check=False).returncode
         if status:
