@@ -20,8 +20,8 @@ import tempfile
 from harness.command import TOP, Parser
 from tools.doccheck.tree import Tree
 
-# Scripts that only other scripts call.
-INNER = {"kdc/sssd.sh", "kdc/plain_table.py"}
+# Scripts that only other scripts call, and folders of those.
+INNER = ("kdc/sssd.sh", "kdc/plain_table.py", "tests/clients/suites/")
 FOLDERS = ("tools", "trials", "harness", "tests", "kdc", "bench")
 # seconds that an answer may take, on whatever machine
 PATIENCE = 300
@@ -293,7 +293,7 @@ def scripts():
     yield [TOP / "prove"]
     for file in Tree(["README.md"]).files():
         name = str(file.relative_to(TOP))
-        if name.split("/")[0] in FOLDERS and name not in INNER:
+        if name.split("/")[0] in FOLDERS and not name.startswith(INNER):
             text = file.read_bytes()
             if text.startswith(b"#!"):
                 yield [file]
