@@ -18,9 +18,9 @@ from harness import configuration
 from harness.asking import Connection, request_now, said
 from harness.realm import SERVICE
 from harness.server import Server, private
-from kdc.daemons import daemon
-from kdc.own_configuration import configured
-from kdc.served import MOST, Served
+from tests.kdc.daemons import daemon
+from tests.kdc.own_configuration import configured
+from tests.kdc.served import MOST, Served
 
 CLIENTS = 1, 16
 WORKERS = 4

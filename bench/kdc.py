@@ -17,17 +17,17 @@ import sys
 import tempfile
 import threading
 import time
+import types
 
 from bench import changes
 from harness.asking import Connection, request_now
 from harness.command import Parser, itself
 from harness.realm import REALM, packages_folder
-from kdc import realms
-from kdc.agent_process import hexed
-from kdc.cases import Cases, Passed
-from kdc.daemons import comes
-from kdc.own_configuration import configured
-from kdc.served import Served
+from tests.kdc import realms
+from tests.kdc.agent_process import hexed, talking
+from tests.kdc.daemons import comes
+from tests.kdc.own_configuration import configured
+from tests.kdc.served import Served
 
 # seconds that the principals may take to be made, and to be taken: each wants two syncs
 PATIENCE = 600
@@ -177,9 +177,9 @@ def measured(program, kind, principals, count, rounds):
     """Prints the figures of one KDC's agent; whether kadmind is no faster than the service with that KDC."""
     names = [f"client{number:05}" for number in range(principals)]
     with realms.KINDS[kind]({"admin": realms.FIRST}) as realm:
-        cases = Cases(realm, program, Passed())
+        cases = types.SimpleNamespace(realm=realm, program=program)
         (make_mit if kind == "mit" else make_heimdal)(realm, names)
-        with cases.talking() as agent:
+        with talking(realm) as agent:
             begun = time.monotonic()
             versions = versions_of(agent, names)
             listed = time.monotonic() - begun

@@ -1,4 +1,4 @@
-"""An agent at a KDC's database that a script plays (kdc/agent/README.md)."""
+"""An agent at a KDC's database that a script plays (agent/README.md)."""
 
 import contextlib
 import select

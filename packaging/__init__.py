@@ -1,1 +1,1 @@
-"""Debian's packages, and their tests."""
+"""What builds Debian's packages."""

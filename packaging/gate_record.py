@@ -1,8 +1,9 @@
-"""The record that the gate leaves beside the program it has proved, by which packaging/deb knows that program.
+"""The record that the gate leaves beside the program it has proved, by which packaging.deb knows that program.
 
-    gate_record.py sources               prints the sum of the sources, when the gate begins
-    gate_record.py write SOURCES LOG     writes crates/chpw_server/out/proved, when it has ended; LOG is what `rt ci` printed
-    gate_record.py check [PROGRAM]       says whether PROGRAM may be packed as proved, with status 1 if it may not
+    python3 -m packaging.gate_record sources            prints the sum of the sources, when the gate begins
+    python3 -m packaging.gate_record write SOURCES LOG  writes crates/chpw_server/out/proved, when it has ended; LOG is what
+                                                        `rt ci` printed
+    python3 -m packaging.gate_record check [PROGRAM]    says whether PROGRAM may be packed as proved, with status 1 if it may not
 
 The record has the program's checksum, the sum of the sources that were proved (crates, crates.txt, HANDLES, the agents), the
 toolchain, the commit, and the last line of `rt ci`. It is no signature: it finds a program that was built in another way, or
@@ -18,7 +19,7 @@ import sys
 
 TOP = pathlib.Path(__file__).resolve().parent.parent
 PROGRAM = TOP / "crates/chpw_server/out/chpw_server"
-PARTS = ("crates", "crates.txt", "HANDLES", "kdc/agent")
+PARTS = ("crates", "crates.txt", "HANDLES", "agent")
 # what is made of the sources
 MADE = {"out", "__pycache__"}
 FIELDS = ("program", "sources", "commit", "toolchain", "gate")
@@ -107,7 +108,7 @@ def main():
     elif len(words) == 3 and words[0] == "write":
         reason = write(words[1], pathlib.Path(words[2]))
         if reason:
-            print(f"packaging/gate_record.py: no record: {reason}", file=sys.stderr)
+            print(f"packaging.gate_record: no record: {reason}", file=sys.stderr)
     elif words[:1] == ["check"] and len(words) <= 2:
         try:
             print(checked(pathlib.Path(*words[1:]) if words[1:] else PROGRAM)["gate"])

@@ -8,7 +8,7 @@ import pathlib
 import re
 import subprocess
 
-from packaging import gate_record, pages, version
+from packaging import gate_record, manual, version
 
 HERE = pathlib.Path(__file__).resolve().parent
 TOP = HERE.parent
@@ -86,9 +86,9 @@ class Package:
         else:
             for source, place in FILES.items():
                 self.put(place, (TOP / source).read_bytes())
-        for page, package in pages.PACKAGES.items():
+        for page, package in manual.PACKAGES.items():
             if package == self.name:
-                self.put_packed(f"usr/share/man/man{page[-1]}/{page}", pages.page(page).encode())
+                self.put_packed(f"usr/share/man/man{page[-1]}/{page}", manual.page(page).encode())
         self.fill_documents()
         self.fill_scripts()
 

@@ -1,10 +1,10 @@
 """Whether `tools.documents` finds faults, `tools.believe` prints what it says, and each script has the common form.
 
 Plants a fault of each kind in a copy of the repository and runs `tools.documents` there once: each has to be found. Asks
-`tools.believe` for contracts, instances of traits and several of them, and for more than is read; and `packaging/gate_record.py` for
-records of programs and sources that were changed. Then asks each script of tools/, trials/, harness/, tests/,
-kdc/ and bench/ for `--help`, which has to be on standard output with status 0, and gives it an option that it doesn't have: that is a line on standard error and status 2. A line is printed
-for what isn't so.
+`tools.believe` for contracts, instances of traits and several of them, and for more than is read; and `packaging.gate_record` for
+records of programs and sources that were changed. Then asks each script of tools/, trials/, harness/, tests/ and bench/ for
+`--help`, which has to be on standard output with status 0, and gives it an option that it doesn't have: that is a line on
+standard error and status 2. A line is printed for what isn't so.
 """
 
 import concurrent.futures
@@ -21,8 +21,8 @@ from harness.command import TOP, Parser
 from tools.doccheck.tree import Tree
 
 # Scripts that only other scripts call, and folders of those.
-INNER = ("kdc/sssd.sh", "kdc/plain_table.py", "tests/clients/suites/")
-FOLDERS = ("tools", "trials", "harness", "tests", "kdc", "bench")
+INNER = ("tests/kdc/sssd.sh", "tests/clients/suites/")
+FOLDERS = ("tools", "trials", "harness", "tests", "bench")
 # seconds that an answer may take, on whatever machine
 PATIENCE = 300
 EVERY_CHECK = ("links", "names", "tables", "prose", "counts", "made", "reading", "lines", "rooted", "tasks", "samples", "dates", "papers", "versions", "widths")

@@ -15,7 +15,7 @@ checks:
     lines     each line that the program prints on standard error stands in docs/ADMIN.md
     pages     the manual pages in packaging/man have the options and defaults of each command's help, and no others
     rooted    no command that is printed for root meets a name that the service's user could have made
-    tasks     the blocks of docs/ADMIN.md that can be copied whole are those that packaging/try runs
+    tasks     the blocks of docs/ADMIN.md that can be copied whole are those that tests.packages runs
     samples   blocks of commands, and the scripts of samples/drill, print what stands there (with --program)
     dates     no document but docs/RESULTS.md and CHANGELOG.md has a date
     papers    no file cites a paper by its number

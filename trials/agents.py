@@ -1,8 +1,8 @@
-"""Tries wrong bodies of the agents, which are in C: a case of kdc/run has to fail over each of trials/agent/*.edit.
+"""Tries wrong bodies of the agents, which are in C: a case of tests.kdc has to fail over each of trials/agent/*.edit.
 
-An edit begins with a line `test: PART CASE KDC`: a part of kdc/run, one of its cases (`-` for a part without cases), and at
-which KDC it has to fail, `mit`, `heimdal` or `both`. Then `guards:` says what it guards, `file:` names a file of kdc/agent,
-`old:` a text that stands in it once, and `new:` what replaces it; more pairs may follow. Each edit is made in a copy of kdc/,
+An edit begins with a line `test: PART CASE KDC`: a part of tests.kdc, one of its tests without `test_` (`-` for all of them),
+and at which KDC it has to fail, `mit`, `heimdal` or `both`. Then `guards:` says what it guards, `file:` names a file of agent/,
+`old:` a text that stands in it once, and `new:` what replaces it; more pairs may follow. Each edit is made in a copy of agent/,
 harness/ and tests/, where the agent is built and the case is run. The same cases have to pass with the agents as they are, or
 nothing is known of an edit. A line is printed for each edit and KDC, with the first line that failed.
 """
@@ -34,9 +34,9 @@ class Try:
     case: str
     kind: str
 
-    def words(self, top):
-        words = [f"{top}/kdc/run", "--only", self.kind, "--part", self.part, "--server", "/bin/true"]
-        return words if self.case == "-" else [*words, "--case", self.case]
+    def words(self):
+        words = [sys.executable, "-m", "tests.kdc", "--only", self.kind, "--part", self.part, "--program", "/bin/true"]
+        return words if self.case == "-" else [*words, "-k", f"*.test_{self.case}"]
 
     def __str__(self):
         return f"{self.part} {self.case}, {self.kind}"
@@ -72,7 +72,7 @@ def parts_of(path):
 
 def apply(changes, top):
     for name, old, new in changes:
-        path = top / "kdc/agent" / name
+        path = top / "agent" / name
         if not path.is_file():
             raise Bad(f"there is no file {name}")
         text = path.read_text(encoding="utf-8")
@@ -85,10 +85,10 @@ def failures(one, changes=()):
     """The lines of the case that failed, over the agent with these changes."""
     with tempfile.TemporaryDirectory(prefix="trials-") as folder:
         top = pathlib.Path(folder)
-        for it in ("kdc", "harness", "tests"):
+        for it in ("agent", "harness", "tests"):
             shutil.copytree(TOP / it, top / it, ignore=shutil.ignore_patterns("out", "__pycache__"))
         apply(changes, top)
-        out, told = outcome(one.words(top))
+        out, told = outcome(one.words(), top)
     if "make: ***" in told:
         raise Bad("it doesn't compile: " + next((it for it in told.splitlines() if "error" in it), told[-200:]))
     if not re.search("^(ok|FAILED): ", out, re.M):
@@ -96,10 +96,10 @@ def failures(one, changes=()):
     return re.findall("^FAILED: .*$", out, re.M)
 
 
-def outcome(command):
-    """What it prints, and tells on standard error. One that doesn't end in time is interrupted, so that it ends what it has
-    started."""
-    with subprocess.Popen(command, stdin=subprocess.DEVNULL, stdout=subprocess.PIPE, stderr=subprocess.PIPE, text=True,
+def outcome(command, top):
+    """What it prints in that folder, and tells on standard error. One that doesn't end in time is interrupted, so that it ends
+    what it has started."""
+    with subprocess.Popen(command, cwd=top, stdin=subprocess.DEVNULL, stdout=subprocess.PIPE, stderr=subprocess.PIPE, text=True,
                           errors="replace") as running:
         try:
             return running.communicate(timeout=PATIENCE)

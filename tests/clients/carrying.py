@@ -4,8 +4,8 @@ import subprocess
 
 from harness.realm import Failed
 
-from kdc.agent_process import Agent, hexed
-from kdc.building import built
+from harness.agent_building import built
+from tests.kdc.agent_process import Agent, hexed
 
 
 class Carrier:

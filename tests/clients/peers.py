@@ -5,18 +5,16 @@
     proxy      MIT's kpasswd and kinit through python3-kdcproxy over HTTPS
     wireshark  what tshark makes of requests and replies
 
-They run in a Debian of their own, with the packages that packaging/deb makes of the program, in namespaces of their own, so that
+They run in a Debian of their own, with the packages that packaging.deb makes of the program, in namespaces of their own, so that
 no port of the machine is used. A test passes if it differs from what its suite expects in just what suites/expected says, with the
 reason; a difference that is gone is a failure, too. Not run, since Debian has them as sources alone: MIT's t_changepw.py and
-t_proxy.py, Heimdal's check-kpasswdd, pam-krb5's tests; impacket's kpasswd, which Debian's version lacks. kdc/run has gokrb5, pam-krb5's
+t_proxy.py, Heimdal's check-kpasswdd, pam-krb5's tests; impacket's kpasswd, which Debian's version lacks. tests.kdc has gokrb5, pam-krb5's
 module and sssd.
 
-It needs root, mmdebstrap, gcc, make and dpkg-dev. The root is kept in BODDRELYN_ROOTS, as packaging/try does; the first run fetches
+It needs root, mmdebstrap, gcc, make and dpkg-dev. The root is kept in BODDRELYN_ROOTS, as tests.packages does; the first run fetches
 some 300 MB.
 """
 
-import importlib.machinery
-import importlib.util
 import os
 import pathlib
 import re
@@ -26,8 +24,9 @@ import sys
 import tempfile
 import time
 
-from harness.command import TOP, Parser, itself
-from harness.realm import FETCH
+from harness.command import TOP, Parser
+from harness.realm import FETCH, packages_folder
+from tests.packages import mit, namespaces, root
 
 SUITES = {"samba": "samba_kpasswd.py", "python": "python_kerberos.py", "proxy": "kdc_proxy.py", "wireshark": "dissected.py"}
 FOLDER = pathlib.Path(__file__).with_name("suites")
@@ -110,26 +109,16 @@ def run_suite(where, suite, report):
 
 
 def packed(program):
-    """The packages of the program, for tests, and the script packaging/try, whose network this uses, too."""
+    """The packages of the program, for tests."""
     folder = pathlib.Path(tempfile.mkdtemp(prefix="boddrelyn-peers-"))
     words = ["--out", folder, "--program", program, "--unproved", "--only", "boddrelyn", "--only", "boddrelyn-agent-mit"]
-    subprocess.run([TOP / "packaging/deb", *words], stdout=subprocess.DEVNULL, check=True)
+    subprocess.run([sys.executable, "-m", "packaging.deb", *words], cwd=TOP, stdout=subprocess.DEVNULL, check=True)
     return folder
 
 
-def of_try():
-    loader = importlib.machinery.SourceFileLoader("packaging_try", str(TOP / "packaging/try"))
-    module = importlib.util.module_from_spec(importlib.util.spec_from_loader("packaging_try", loader))
-    loader.exec_module(module)
-    return module
-
-
 def run(options, report):
-    from packaging import mit
-    from packaging import root
-
     debs = packed(options.program)
-    with root.Root(KIND, of_try().CACHE, options.keep) as where:
+    with root.Root(KIND, options.keep) as where:
         place = where.path("/opt/peers")
         shutil.copytree(FOLDER, place)
         for file in debs.iterdir():
@@ -159,14 +148,11 @@ def main():
     if os.geteuid() != 0:
         sys.exit("it needs root")
     if INSIDE not in os.environ:
-        from packaging import root
-        root.archive(KIND, of_try().CACHE)
+        root.archive(KIND)
         # inside there is no network to fetch the agent's headers from
-        subprocess.run([FETCH, of_try().PACKAGES], check=True)
-        os.environ[INSIDE] = "1"
-        words = ["--mount", "--pid", "--net", "--uts", "--ipc", "--fork", "--kill-child", "--mount-proc"]
-        os.execvp("unshare", ["unshare", *words, *itself()])
-    of_try().loopback_up()
+        subprocess.run([FETCH, packages_folder()], check=True)
+        namespaces.enter(INSIDE)
+    namespaces.loopback_up()
     report = Report()
     run(options, report)
     print(f"{report.passed} passed, {report.failed} failed")

@@ -1,6 +1,6 @@
 """`serve` whose replies to changes wait for an agent at a KDC's database, which is this script.
 
-What goes over the socket is what kdc/agent/README.md has. A reply waits until the agent has said that the KDC has the change, for
+What goes over the socket is what agent/README.md has. A reply waits until the agent has said that the KDC has the change, for
 `--kdc-wait` at most, also where the connection is lost meanwhile, and not at all where there was none. A reply that waited in vain
 has a line of the log, and one on standard error. With `--require-kdc` requests are refused while the agent isn't there or doesn't
 answer, and no reply goes out whose change it hasn't confirmed. After whatever it may not say the connection is ended, and made

@@ -1,7 +1,7 @@
 """The manual pages of packaging/man have the options, values, limits and defaults of each command's help, and no others.
 
 The help of chpw_server is read from the source, and with --program also from what the program prints; that of the agents
-from kdc/agent/main.c; and the settings of a configuration, with their limits, from the crates that read them. In a page an
+from agent/main.c; and the settings of a configuration, with their limits, from the crates that read them. In a page an
 option is an item `.It Fl -NAME Ar VALUE` in the section of its command, in brackets in the synopsis if it may be left out.
 Its text has the limits as the help has them, `N to N`, and ends with `The default is WORD.` if there is one.
 """
@@ -13,7 +13,7 @@ import subprocess
 from .tree import TOP
 
 HELP = TOP / "crates/chpw_invocation/src/program.rt"
-AGENT = TOP / "kdc/agent/main.c"
+AGENT = TOP / "agent/main.c"
 SETTINGS = TOP / "crates/chpw_config/src/explanation.rt"
 LIMITS = TOP / "crates/chpw_rules/src/limits.rt"
 NOTHING = {"nowhere", "no wait", "no log"}  # how a help says that by default there is none
@@ -180,9 +180,9 @@ class Page:
 def check(tree, faults):
     if not tree.is_whole or not (TOP / "packaging/man").is_dir():
         return
-    from packaging import pages
+    from packaging import manual
 
-    server = Page("chpw_server.8", pages.page("chpw_server.8"), faults)
+    server = Page("chpw_server.8", manual.page("chpw_server.8"), faults)
     commands = of_source()
     server.same_names("SYNOPSIS: a command", commands, [it for it in server.synopses if it])
     for command, options in commands.items():
@@ -190,11 +190,11 @@ def check(tree, faults):
         if tree.program is not None:
             server.compare(of_program(tree.program, command), command, command, False)
     for name in ("kdc_mit.8", "kdc_heimdal.8"):
-        page = Page(name, pages.page(name), faults)
+        page = Page(name, manual.page(name), faults)
         options, named = of_agent()
         page.same("the options of its usage", sorted(named), sorted(options))
         page.compare(options, "DESCRIPTION", None)
-    check_settings(Page("boddrelyn.toml.5", pages.page("boddrelyn.toml.5"), faults))
+    check_settings(Page("boddrelyn.toml.5", manual.page("boddrelyn.toml.5"), faults))
 
 
 def check_settings(page):

@@ -32,14 +32,14 @@ def commands(text):
 
 
 def check(tree, faults):
-    if not tree.is_whole or not (TOP / "packaging/links.py").is_file():
+    if not tree.is_whole or not (TOP / "tests/packages/planted_links.py").is_file():
         return
-    from packaging import links
+    from tests.packages import planted_links
 
     def is_of_the_user(word):
-        return any(word == folder or f"{folder}/" in word for folder in links.FOLDERS)
+        return any(word == folder or f"{folder}/" in word for folder in planted_links.FOLDERS)
 
-    for document, number, text in links.blocks():
+    for document, number, text in planted_links.blocks():
         for words, files in commands(text):
             is_users = any(" ".join(words).startswith(it) for it in AS_THE_USER)
             holds = not any(map(is_of_the_user, files)) and (is_users or not any(map(is_of_the_user, words)))

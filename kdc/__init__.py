@@ -1,1 +1,0 @@
-"""The agents at a KDC, and their tests."""

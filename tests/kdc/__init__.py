@@ -1,0 +1,1 @@
+"""The agents, and the service with them and stock clients, at real KDCs."""
