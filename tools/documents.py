@@ -1,6 +1,6 @@
 """Holds the documents against the source.
 
-Reads README.md, CONTRIBUTING.md, CHANGELOG.md, docs/*.md and each README.md of a folder, or the documents named, and
+Reads README.md, CONTRIBUTING.md, CHANGELOG.md, those of docs/ and each README.md of a folder, or the documents named, and
 checks:
 
     links     relative links and their anchors lead somewhere
@@ -17,7 +17,7 @@ checks:
     rooted    no command that is printed for root meets a name that the service's user could have made
     tasks     the blocks of docs/ADMIN.md that can be copied whole are those that tests.packages runs
     samples   blocks of commands, and the scripts of samples/drill, print what stands there (with --program)
-    dates     no document but docs/RESULTS.md and CHANGELOG.md has a date
+    dates     no document but docs/RESULTS.md, CHANGELOG.md and docs/decisions has a date
     papers    no file cites a paper by its number
     versions  the version and the toolchain that the program prints are those of CHANGELOG.md, of the documents, and of rt
     widths    no source, definition or proof has a line of more than 160 characters

@@ -1,9 +1,12 @@
-"""Writes docs/promises.md: all promises, from the tables of the crates' READMEs, in the order of crates.txt.
+#!/usr/bin/env python3
+"""Writes docs/promises.md, which the repository doesn't keep: all promises, from the tables of the crates' READMEs, in the
+order of crates.txt.
 
 A table of promises is the first one of a README whose heading begins with `Promise`:
 `| Promise | Call | Clause | Spec |`, or the same with `Call, clause` in one column or `Definition` for `Spec`.
 """
 
+import pathlib
 import re
 import sys
 
@@ -34,10 +37,10 @@ def relinked(line, crate):
     return re.sub(r"\]\((?!https?:|#|/)([^)]+)\)", rf"](../crates/{crate}/\1)", line)
 
 
-def document():
+def document(tables):
+    """The page, of each crate's table."""
     parts, without = [HEAD], []
-    for crate in crates():
-        table = table_of((CRATES / crate / "README.md").read_text())
+    for crate, table in tables.items():
         if table:
             lines = "\n".join(relinked(line, crate) for line in table)
             parts.append(f"## {crate}\n\n{lines}\n")
@@ -49,14 +52,16 @@ def document():
 
 
 def main():
-    parser = Parser(__doc__, None, "the file differs, with --check")
-    parser.add_argument("--check", action="store_true", help="change nothing, and report whether the file differs")
-    given = parser.parse_args()
-    text = document()
-    if not given.check:
-        FILE.write_text(text)
-    elif not FILE.is_file() or FILE.read_text() != text:
-        sys.exit("docs/promises.md differs from the crates' READMEs: run python3 -m tools.promises")
+    parser = Parser(__doc__, "ROWS promises of CRATES crates: FILE", "a crate has no README")
+    parser.add_argument("--to", type=pathlib.Path, default=FILE, metavar="FILE", help="another file to write")
+    file = parser.parse_args().to
+    without = [it for it in crates() if not (CRATES / it / "README.md").is_file()]
+    if without:
+        sys.exit(f"no README.md of {', '.join(without)}")
+    tables = {it: table_of((CRATES / it / "README.md").read_text()) for it in crates()}
+    file.write_text(document(tables))
+    rows = sum(len(table) - 2 for table in tables.values() if table)
+    print(f"{rows} promises of {sum(map(bool, tables.values()))} crates: {file}")
 
 
 if __name__ == "__main__":

@@ -5,7 +5,7 @@ import sys
 
 from .tree import TOP
 
-SCRIPTS = ("promises", "quotes", "picture", "way")
+SCRIPTS = ("decisions", "quotes", "picture", "way")
 
 
 def check(_tree, faults):

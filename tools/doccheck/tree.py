@@ -86,7 +86,7 @@ class Tree:
         for name in ("README.md", "CONTRIBUTING.md", "CHANGELOG.md"):
             if (TOP / name).is_file():
                 yield TOP / name
-        yield from sorted((TOP / "docs").glob("*.md"))
+        yield from sorted(it for it in (TOP / "docs").rglob("*.md") if it.name != "promises.md")  # that one is made on demand
         yield from sorted((TOP / "crates").glob("*/README.md"))
         yield from sorted(TOP.glob("*/README.md"))
 
