@@ -1,4 +1,6 @@
-"""Whether `tools.documents` finds faults, `tools.believe` prints what it says, and each script has the common form.
+#!/usr/bin/env python3
+"""Whether `tools/documents` finds faults, `tools/believe` prints what it says, `tools/house` counts, and each script has the
+common form.
 
 Plants a fault of each kind in a copy of the repository and runs `tools.documents` there once: each has to be found. Asks
 `tools.believe` for contracts, instances of traits and several of them, and for more than is read; and `packaging.gate_record` for
@@ -288,6 +290,44 @@ def recorded():
         yield "sources changed later", asked("check")[0].startswith("not proved: the sources have changed since the gate")
 
 
+# A function of seven parameters and a body of 41 lines, in each language.
+PARAMETERS = [f"planted_{number}" for number in range(7)]
+LONG = {
+    "chpw_*/src/**/*.rt": "fn planted({}) {{\n{}}}".format(", ".join(f"{it}: u8" for it in PARAMETERS), "    // planted\n" * 41),
+    "*.py": "def planted({}):\n{}    return None".format(", ".join(PARAMETERS), "    # planted\n" * 41),
+    "*.c": "static int planted({})\n{{\n{}}}".format(", ".join(f"int {it}" for it in PARAMETERS), "    planted();\n" * 41),
+}
+
+
+def house(copy):
+    """What tools/house counts, by name; and its last line."""
+    run = subprocess.run([sys.executable, copy.top / "tools/house"], capture_output=True, text=True, check=False)
+    rows = (re.match(r"(\S.*?) +(\d+)(?: +\d+)?$", it) for it in run.stdout.splitlines())
+    return {it[1]: int(it[2]) for it in rows if it}, (run.stdout.splitlines() or [run.stderr])[-1]
+
+
+def housed():
+    """What tools/house has to count once it is planted, and whether it does."""
+    with tempfile.TemporaryDirectory(prefix="house-") as top:
+        copy = Copy(top)
+        before, last = house(copy)
+        yield f"tools/house ends with: {last}", re.fullmatch(r"\d+ counts, \d+ over their limits", last) is not None
+        for name in ("README.md", "docs/DESIGN.md", "crates/krb_aes/README.md", "docs/decisions/torn-tail.md", "CHANGELOG.md"):
+            copy.append(name, "planted words")
+        for pattern, text in LONG.items():
+            chosen = next(it for it in sorted(copy.top.rglob(pattern)) if it.read_text().count("\n") < 300)
+            copy.append(str(chosen.relative_to(copy.top)), text)
+        (copy.top / "tools/planted.py").write_text("planted\n" * 500 + "sys" + ".path\n")
+        (copy.top / "trials/krb_aes/planted.edit").write_text("planted")
+        for number in range(101):
+            copy.append("crates/krb_protocol/src/lib.rt", f"fn planted_{number}() {{}}")
+        after, _ = house(copy)
+        more = {name: after[name] - count for name, count in before.items() if name in after}
+        for name, count in zip(more, (8, 2, 2, 2, 2, 1, 3, 3, 1, 1, 0, 1)):
+            yield f"tools/house: {more[name]} more {name} and not {count}", more[name] == count
+        yield f"tools/house: {len(before)} counts and not 12", len(before) == 12
+
+
 def scripts():
     """The commands of the scripts that somebody calls."""
     yield [TOP / "prove"]
@@ -321,6 +361,7 @@ def main():
         forms = pool.map(has_form, scripts())
         results = [(words, is_found) for words, is_found in planted(program)]
         results += believed()
+        results += housed()
         results += [(f"packaging/gate_record.py: {words}", is_right) for words, is_right in recorded()]
         results += [(words, words is None) for words in forms]
     for words, is_right in results:
