@@ -12,8 +12,8 @@ from harness.command import Parser
 from tools.source import TOP, crates
 
 FILE = TOP / "docs" / "layers.svg"
-WIDTH, MARGIN, COLUMNS = 960, 12, 7
-BOX, HEIGHT, GAP = 122, 26, 8
+WIDTH, MARGIN, COLUMNS = 960, 12, 6
+BOX, HEIGHT, GAP = 144, 26, 8
 HEAD, FOOT = 40, 10
 STYLE = """
   text { font: 13px sans-serif; fill: #1b1b1b; dominant-baseline: central }
