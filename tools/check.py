@@ -306,21 +306,30 @@ def house(copy):
     return {it[1]: int(it[2]) for it in rows if it}, (run.stdout.splitlines() or [run.stderr])[-1]
 
 
+def plant_words(copy):
+    """Two words more in a page of each kind."""
+    for name in ("README.md", "docs/DESIGN.md", "crates/krb_aes/README.md", "docs/decisions/torn-tail.md", "CHANGELOG.md"):
+        copy.append(name, "planted words")
+
+
+def plant_code(copy):
+    """A long function in each language, a long file with a line of paths, a wrong body, and a crate of many functions."""
+    for pattern, text in LONG.items():
+        chosen = next(it for it in sorted(copy.top.rglob(pattern)) if it.read_text().count("\n") < 300)
+        copy.append(str(chosen.relative_to(copy.top)), text)
+    (copy.top / "tools/planted.py").write_text("planted\n" * 500 + "sys" + ".path\n")
+    (copy.top / "trials/krb_aes/planted.edit").write_text("planted")
+    copy.append("crates/krb_protocol/src/lib.rt", "\n".join(f"fn planted_{number}() {{}}" for number in range(101)))
+
+
 def housed():
     """What tools/house has to count once it is planted, and whether it does."""
     with tempfile.TemporaryDirectory(prefix="house-") as top:
         copy = Copy(top)
         before, last = house(copy)
         yield f"tools/house ends with: {last}", re.fullmatch(r"\d+ counts, \d+ over their limits", last) is not None
-        for name in ("README.md", "docs/DESIGN.md", "crates/krb_aes/README.md", "docs/decisions/torn-tail.md", "CHANGELOG.md"):
-            copy.append(name, "planted words")
-        for pattern, text in LONG.items():
-            chosen = next(it for it in sorted(copy.top.rglob(pattern)) if it.read_text().count("\n") < 300)
-            copy.append(str(chosen.relative_to(copy.top)), text)
-        (copy.top / "tools/planted.py").write_text("planted\n" * 500 + "sys" + ".path\n")
-        (copy.top / "trials/krb_aes/planted.edit").write_text("planted")
-        for number in range(101):
-            copy.append("crates/krb_protocol/src/lib.rt", f"fn planted_{number}() {{}}")
+        plant_words(copy)
+        plant_code(copy)
         after, _ = house(copy)
         more = {name: after[name] - count for name, count in before.items() if name in after}
         for name, count in zip(more, (8, 2, 2, 2, 2, 1, 3, 3, 1, 1, 0, 1)):
