@@ -318,7 +318,8 @@ def plant_code(copy):
         chosen = next(it for it in sorted(copy.top.rglob(pattern)) if it.read_text().count("\n") < 300)
         copy.append(str(chosen.relative_to(copy.top)), text)
     (copy.top / "tools/planted.py").write_text("planted\n" * 500 + "sys" + ".path\n")
-    (copy.top / "trials/krb_aes/planted.edit").write_text("planted")
+    (copy.top / "trials/planted").mkdir()
+    (copy.top / "trials/planted/planted.edit").write_text("planted")
     copy.append("crates/krb_protocol/src/lib.rt", "\n".join(f"fn planted_{number}() {{}}" for number in range(101)))
 
 
