@@ -1,6 +1,6 @@
 """Holds the documents against the source.
 
-Reads README.md, CONTRIBUTING.md, CHANGELOG.md, those of docs/ and each README.md of a folder, or the documents named, and
+Reads README.md, CONTRIBUTING.md, SECURITY.md, CHANGELOG.md, those of docs/ and each README.md of a folder, or the documents named, and
 checks:
 
     links     relative links and their anchors lead somewhere

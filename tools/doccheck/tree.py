@@ -83,7 +83,7 @@ class Tree:
         return path if path.is_file() else TOP / name
 
     def usual(self):
-        for name in ("README.md", "CONTRIBUTING.md", "CHANGELOG.md"):
+        for name in ("README.md", "CONTRIBUTING.md", "SECURITY.md", "CHANGELOG.md"):
             if (TOP / name).is_file():
                 yield TOP / name
         yield from sorted(it for it in (TOP / "docs").rglob("*.md") if it.name != "promises.md")  # that one is made on demand
