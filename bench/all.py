@@ -1,8 +1,10 @@
-"""Measures everything that docs/RESULTS.md shows of speed, on this machine, in one run and one after the other.
+#!/usr/bin/env python3
+"""Measures everything that docs/results/bench.md shows of speed, on this machine, in one run and one after the other.
 
 The scripts of bench/ run as they are (keys.py beside OpenSSL); then the service, MIT's kadmind and Heimdal's kpasswdd take
 turns: changes a second by clients, processor and system calls a change, and an honest client's wait beside silent and
-dripping connections. The tables go into docs/RESULTS.md and the pictures into docs/results/, or with --out into a folder.
+dripping connections. The tables go into docs/results/bench.md, of which tools/tables puts some into docs/RESULTS.md, and the
+pictures into docs/results/; or both with --out into a folder.
 
 The packages are those of harness/fetch.sh; without them the service is measured alone. A figure that can't be had is a dash,
 and its reason stands below. Let nothing else run on the machine. --quick does each part once and small, to try the script.
@@ -22,7 +24,7 @@ from harness.command import TOP, Parser
 from harness.document_part import write_part
 
 NAMES = {kind: it.NAME for kind, it in three_servers.KINDS.items()}
-RESULTS = TOP / "docs/RESULTS.md"
+RESULTS = TOP / "docs/results/bench.md"
 PICTURES = TOP / "docs/results"
 
 
@@ -245,7 +247,7 @@ def write(measured, out):
     folder.mkdir(parents=True, exist_ok=True)
     for name, text in measured.draw().items():
         (folder / f"{name}.svg").write_text(text)
-    text = "\n".join(measured.text("" if out else "results/"))
+    text = "\n".join(measured.text(""))
     if out:
         (out / "results.md").write_text(text)
     else:

@@ -5,7 +5,7 @@ row of compare_rows.py is asked by a user of its own, over UDP and, where the se
 code, with a KRB-ERROR's error code in brackets, and `changed` where the key changed at the end; `silent` is no answer
 within three seconds, `closed` a connection that ended without one, `it ends` that the service's process did. What TCP
 answers is told where it differs. A cell that isn't what the row's rule asks ends in `!`. Packages that can't be had give a
-dash. --write puts the table into docs/RESULTS.md.
+dash. --write puts the table into docs/results/compare.md.
 """
 
 import concurrent.futures
@@ -20,7 +20,13 @@ from harness.command import TOP, Parser
 from harness.document_part import write_part
 from tests.clients.compare_rows import RULES, rows
 
-RESULTS = TOP / "docs/RESULTS.md"
+import crafting
+import three_servers
+from command import Parser
+from compare_rows import RULES, rows
+from made import write_part
+
+RESULTS = pathlib.Path(__file__).resolve().parent.parent / "docs/results/compare.md"
 WAYS = {"udp": "u", "tcp": "t"}
 
 
@@ -151,7 +157,7 @@ def main():
     parser.add_program("--program")
     form = parser.add_mutually_exclusive_group()
     form.add_argument("--markdown", action="store_true", help="tables in Markdown")
-    form.add_argument("--write", action="store_true", help="these tables go into docs/RESULTS.md")
+    form.add_argument("--write", action="store_true", help="these tables go into docs/results/compare.md")
     parser.add_argument("--servers", nargs="+", choices=three_servers.KINDS, default=list(three_servers.KINDS),
                         help="these alone")
     arguments = parser.parse_args()
