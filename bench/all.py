@@ -1,9 +1,8 @@
-#!/usr/bin/env python3
 """Measures everything that docs/results/bench.md shows of speed, on this machine, in one run and one after the other.
 
 The scripts of bench/ run as they are (keys.py beside OpenSSL); then the service, MIT's kadmind and Heimdal's kpasswdd take
 turns: changes a second by clients, processor and system calls a change, and an honest client's wait beside silent and
-dripping connections. The tables go into docs/results/bench.md, of which tools/tables puts some into docs/RESULTS.md, and the
+dripping connections. The tables go into docs/results/bench.md, of which tools.tables puts some into docs/RESULTS.md, and the
 pictures into docs/results/; or both with --out into a folder.
 
 The packages are those of harness/fetch.sh; without them the service is measured alone. A figure that can't be had is a dash,

@@ -4,7 +4,6 @@ The client has its ticket before the clock starts, makes a message and a connect
 answer. The rounds of the two take turns, so that both see the same machine; the best round counts.
 """
 
-
 from harness import configuration
 from harness.command import Parser
 from harness.realm import Failed, Realm

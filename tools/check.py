@@ -1,5 +1,4 @@
-#!/usr/bin/env python3
-"""Whether `tools/documents` finds faults, `tools/believe` prints what it says, `tools/house` counts, and each script has the
+"""Whether `tools.documents` finds faults, `tools.believe` prints what it says, `tools.house` counts, and each script has the
 common form.
 
 Plants a fault of each kind in a copy of the repository and runs `tools.documents` there once: each has to be found. Asks
@@ -130,9 +129,9 @@ def in_tables(copy):
 
 def in_made(copy):
     copy.change("docs/PROOFS.md", r"(<!-- (?:clause|definition) .* -->\n+```\w+\n)", lambda it: it[1] + "-- planted\n")
-    yield r"tools/quotes --check: .*/docs/PROOFS\.md: a quote differs"
+    yield r"tools.quotes --check: .*/docs/PROOFS\.md: a quote differs"
     copy.change("docs/decisions/torn-tail.md", r"\A# ", lambda it: "# Planted ")
-    yield r"tools/decisions --check: docs/decisions/README\.md differs"
+    yield r"tools.decisions --check: docs/decisions/README\.md differs"
     copy.append("docs/layers.svg", "<!-- planted -->")
     yield r"tools\.picture --check: docs/layers\.svg differs"
 
@@ -300,8 +299,8 @@ LONG = {
 
 
 def house(copy):
-    """What tools/house counts, by name; and its last line."""
-    run = subprocess.run([sys.executable, copy.top / "tools/house"], capture_output=True, text=True, check=False)
+    """What tools.house counts, by name; and its last line."""
+    run = subprocess.run([sys.executable, "-m", "tools.house"], cwd=copy.top, capture_output=True, text=True, check=False)
     rows = (re.match(r"(\S.*?) +(\d+)(?: +\d+)?$", it) for it in run.stdout.splitlines())
     return {it[1]: int(it[2]) for it in rows if it}, (run.stdout.splitlines() or [run.stderr])[-1]
 
@@ -324,18 +323,18 @@ def plant_code(copy):
 
 
 def housed():
-    """What tools/house has to count once it is planted, and whether it does."""
+    """What tools.house has to count once it is planted, and whether it does."""
     with tempfile.TemporaryDirectory(prefix="house-") as top:
         copy = Copy(top)
         before, last = house(copy)
-        yield f"tools/house ends with: {last}", re.fullmatch(r"\d+ counts, \d+ over their limits", last) is not None
+        yield f"tools.house ends with: {last}", re.fullmatch(r"\d+ counts, \d+ over their limits", last) is not None
         plant_words(copy)
         plant_code(copy)
         after, _ = house(copy)
         more = {name: after[name] - count for name, count in before.items() if name in after}
         for name, count in zip(more, (8, 2, 2, 2, 2, 1, 3, 3, 1, 0, 1, 0, 1)):
-            yield f"tools/house: {more[name]} more {name} and not {count}", more[name] == count
-        yield f"tools/house: {len(before)} counts and not 13", len(before) == 13
+            yield f"tools.house: {more[name]} more {name} and not {count}", more[name] == count
+        yield f"tools.house: {len(before)} counts and not 13", len(before) == 13
 
 
 def scripts():

@@ -1,4 +1,3 @@
-#!/usr/bin/env python3
 """Draws docs/layers.svg from crates.txt: a row for each layer, the highest on top, with the crates below its heading.
 
 A heading of crates.txt is a line `## NAME: what is in the layer`. A crate uses crates of its own layer that come before it,
@@ -94,7 +93,7 @@ def main():
     if not given.check:
         FILE.write_text(text)
     elif not FILE.is_file() or FILE.read_text() != text:
-        sys.exit("docs/layers.svg differs from crates.txt: run tools/picture")
+        sys.exit("docs/layers.svg differs from crates.txt: run python3 -m tools.picture")
 
 
 if __name__ == "__main__":

@@ -1,4 +1,3 @@
-#!/usr/bin/env python3
 """Writes docs/promises.md, which the repository doesn't keep: all promises, from the tables of the crates' READMEs, in the
 order of crates.txt.
 

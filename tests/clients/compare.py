@@ -20,13 +20,7 @@ from harness.command import TOP, Parser
 from harness.document_part import write_part
 from tests.clients.compare_rows import RULES, rows
 
-import crafting
-import three_servers
-from command import Parser
-from compare_rows import RULES, rows
-from made import write_part
-
-RESULTS = pathlib.Path(__file__).resolve().parent.parent / "docs/results/compare.md"
+RESULTS = TOP / "docs/results/compare.md"
 WAYS = {"udp": "u", "tcp": "t"}
 
 

@@ -7,7 +7,7 @@ from .tree import TOP
 
 # each with a file that it writes; a script whose file isn't kept has nothing to compare
 SCRIPTS = {
-    "promises": "docs/promises.md",
+    "decisions": "docs/decisions/README.md",
     "quotes": "docs/PROOFS.md",
     "tables": "docs/RESULTS.md",
     "picture": "docs/layers.svg",
@@ -17,7 +17,7 @@ SCRIPTS = {
 
 def check(_tree, faults):
     for name, made in SCRIPTS.items():
-        script = TOP / "tools" / name
-        if script.is_file() and (TOP / made).is_file():
-            run = subprocess.run([script, "--check"], cwd=TOP, capture_output=True, text=True, check=False)
-            faults.check(run.returncode == 0, f"tools/{name} --check", (run.stdout + run.stderr).strip())
+        if (TOP / "tools" / f"{name}.py").is_file() and (TOP / made).is_file():
+            command = [sys.executable, "-m", f"tools.{name}", "--check"]
+            run = subprocess.run(command, cwd=TOP, capture_output=True, text=True, check=False)
+            faults.check(run.returncode == 0, f"tools.{name} --check", (run.stdout + run.stderr).strip())

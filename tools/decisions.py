@@ -1,4 +1,3 @@
-#!/usr/bin/env python3
 """Writes docs/decisions/README.md: the decisions by subject, from the heads of their pages.
 
 A page is a file of docs/decisions: a title, a line `SUBJECT, DATE`, and the paragraphs **Question.**, **Decision.** and
@@ -8,10 +7,8 @@ A page is a file of docs/decisions: a title, a line `SUBJECT, DATE`, and the par
 import re
 import sys
 
-sys.dont_write_bytecode = True
-
-from source import TOP
-from command import Parser
+from tools.source import TOP
+from harness.command import Parser
 
 FOLDER = TOP / "docs" / "decisions"
 FILE = FOLDER / "README.md"
@@ -23,7 +20,7 @@ SUBJECTS = {
 }
 HEAD = """# Decisions
 
-What the standards and our own rules leave open, what was chosen, and why. `tools/decisions` makes this list.
+What the standards and our own rules leave open, what was chosen, and why. `tools.decisions` makes this list.
 """
 
 
@@ -64,7 +61,7 @@ def main():
     if not given.check:
         FILE.write_text(text)
     elif not FILE.is_file() or FILE.read_text() != text:
-        sys.exit("docs/decisions/README.md differs from the pages: run tools/decisions")
+        sys.exit("docs/decisions/README.md differs from the pages: run python3 -m tools.decisions")
 
 
 if __name__ == "__main__":

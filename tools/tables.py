@@ -1,7 +1,6 @@
-#!/usr/bin/env python3
 """Makes the tables of docs/RESULTS.md and docs/TESTS.md that come from data or from scripts.
 
-Such a table stands between a line `<!-- made by tools/tables WORDS -->` and a line `<!-- end of tools/tables -->`. WORDS are
+Such a table stands between a line `<!-- made by tools.tables WORDS -->` and a line `<!-- end of tools.tables -->`. WORDS are
 
     runs TABLE           the newest row of each run of that table in docs/results/runs.csv
     csv NAME             docs/results/NAME.csv
@@ -10,29 +9,25 @@ Such a table stands between a line `<!-- made by tools/tables WORDS -->` and a l
 
 In runs.csv a row is a run, and one further down is the newer one of the same `table` and `run`. `result` has the last line that was
 printed, or the figures; `program` says whether it was proved, `load` whether anything else ran beside it; what isn't known is left
-empty. Rows of a table that no document names, such as `once`, are kept as a record. bench/all and interop/compare write their own parts
+empty. Rows of a table that no document names, such as `once`, are kept as a record. bench.all and tests.clients.compare write their own parts
 of docs/results/.
 """
 
 import ast
 import csv
-import pathlib
 import re
 import sys
 
-sys.dont_write_bytecode = True
-TOP = pathlib.Path(__file__).resolve().parent.parent
-sys.path.append(str(TOP / "interop"))
-
-from command import Parser
+from harness.command import TOP, Parser
+from tests.hostile import SCRIPTS
 
 DATA = TOP / "docs/results"
 DOCUMENTS = (TOP / "docs/RESULTS.md", TOP / "docs/TESTS.md")
-PART = re.compile(r"(^<!-- made by tools/tables (.*?) -->\n)(.*?)(^<!-- end of tools/tables -->$)", re.DOTALL | re.MULTILINE)
+PART = re.compile(r"(^<!-- made by tools.tables (.*?) -->\n)(.*?)(^<!-- end of tools.tables -->$)", re.DOTALL | re.MULTILINE)
 # The last line of a script of cases, of which the tables have the number alone.
 CASES = re.compile(r"`cases (\d+) failed 0`")
-# The scripts of docs/TESTS.md by groups, as paths from the top; a file that can't be started is left out.
-SCRIPTS = {"gate": ("hostile/*", "interop/endings.py", "interop/faults.py")}
+# The scripts of docs/TESTS.md by groups, as modules.
+GROUPS = {"gate": [f"tests.hostile.{name}" for name in SCRIPTS]}
 
 
 def rows_of(name):
@@ -93,24 +88,16 @@ def part(name, heading):
 
 # ---- scripts
 
-def sentence(path):
-    """The first sentence of what a script says of itself, or nothing where it is none."""
-    text = path.read_text(errors="replace") if path.is_file() else ""
-    if "__main__" not in text or path.name.startswith("__"):
-        return None
-    try:
-        words = ast.get_docstring(ast.parse(text)) or ""
-    except SyntaxError:
-        return None
+def sentence(module):
+    """The first sentence of what a script says of itself."""
+    words = ast.get_docstring(ast.parse((TOP / f"{module.replace('.', '/')}.py").read_text()))
     first = " ".join(words.partition("\n\n")[0].split())
     return re.split(r"(?<=[a-z`)])\. (?=[A-Z`])", first)[0].rstrip(".")
 
 
 def scripts(group):
-    """The scripts of a group, in the order in which they are named."""
-    found = (path for name in SCRIPTS[group] for path in sorted(TOP.glob(name)))
-    named = ((str(path.relative_to(TOP)), sentence(path)) for path in found)
-    return table(["Script", "What it tries"], [[f"`{name}`", words] for name, words in named if words])
+    """The scripts of a group, in the order in which the gate runs them."""
+    return table(["Script", "What it tries"], [[f"`{name}`", sentence(name)] for name in GROUPS[group]])
 
 
 KINDS = {"runs": runs, "csv": whole, "part": part, "scripts": scripts}

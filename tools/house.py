@@ -1,4 +1,3 @@
-#!/usr/bin/env python3
 """Counts what makes the repository hard to take over, each beside its limit.
 
 Words are counted as `wc -w` does, those of a page's code, too. A function's lines are those of its body; in Python they are
@@ -8,13 +7,10 @@ all of its lines. Its parameters include `self`. The lines of a crate are those 
 import ast
 import re
 import signal
-import sys
 
-sys.dont_write_bytecode = True
-
-from doccheck.tree import TOP, Tree
-from source import CRATES, generics_end, head_at
-from command import Parser
+from tools.doccheck.tree import TOP, Tree
+from tools.source import CRATES, generics_end, head_at
+from harness.command import Parser
 
 FUNCTION = re.compile(r"^( *)(?:pub(?:\([a-z]+\))? )?(?:ghost |const |unsafe )*fn \w+", re.MULTILINE)
 IN_C = re.compile(r"^(?!typedef|struct|enum|union)\w[\w *]*?\b\w+\(([^;{}]*)\)\n?\s*\{\n(.*?)^\}", re.MULTILINE | re.DOTALL)
