@@ -17,7 +17,7 @@ checks:
     rooted    no command that is printed for root meets a name that the service's user could have made
     tasks     the blocks of docs/ADMIN.md that can be copied whole are those that tests.packages runs
     samples   blocks of commands, and the scripts of samples/drill, print what stands there (with --program)
-    dates     no document but docs/RESULTS.md, CHANGELOG.md and docs/decisions has a date
+    dates     no document but docs/RESULTS.md, docs/results, docs/decisions and CHANGELOG.md has a date
     papers    no file cites a paper by its number
     versions  the version and the toolchain that the program prints are those of CHANGELOG.md, of the documents, and of rt
     widths    no source, definition or proof has a line of more than 160 characters
