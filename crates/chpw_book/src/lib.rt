@@ -9,7 +9,6 @@ mod closing;
 mod deciding;
 mod desk;
 mod history;
-mod known;
 pub mod laws;
 mod naming;
 mod newest;

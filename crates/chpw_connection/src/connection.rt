@@ -13,6 +13,7 @@ use std::mem;
 /// Messages of one connection, at the most.
 pub const MAX_MESSAGES: u32 = 65_536;
 
+/// The stage of a connection.
 #[derive(Drop)]
 pub enum Phase {
     /// It reads its next message.
@@ -22,7 +23,7 @@ pub enum Phase {
     /// A worker answers this message.
     Answering(Remembered<Vec<u8>>),
     /// This reply is written once its change is confirmed.
-    Confirming(DeferredReply),
+    Confirming(Deferred),
     /// This reply is being written.
     Writing(Outgoing),
     /// Its last reply is out, and what still comes is discarded.
@@ -59,10 +60,11 @@ impl Incoming {
 
 /// A reply that waits until its change is confirmed.
 #[derive(Drop)]
-pub struct DeferredReply {
+pub struct Deferred {
     pub reply: Vec<u8>,
     /// Whether the connection ends after it.
     pub is_last: bool,
+    /// The ticket of the change.
     pub ticket: u64,
 }
 

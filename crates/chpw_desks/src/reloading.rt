@@ -10,13 +10,12 @@ ghost use Rattle.chpw_start.specs.declared.fault.ServeFault.TheVariants.{Memory}
 
 use crate::context::ServiceContext;
 use crate::openings::{Opening, next_opening};
-use crate::tallies::tell_rollover;
 use chpw_book::UnnamedDesk;
 use chpw_control::TakenOrder;
 use chpw_journal::FileSink;
 use chpw_logging::Notice;
 use chpw_orders::{CheckedReload, PendingReload, answer_or_empty, reload_answer, reload_refusal};
-use chpw_reload::{NextTable, RefusedReload, ReloadFault, finish};
+use chpw_reload::{Refused, ReloadFault, Reloaded, finish};
 use chpw_rules::Name;
 use chpw_serve::Clock as _;
 use chpw_start::{Rules, ServeFault};
@@ -33,7 +32,9 @@ use std::time::Clock;
 /// order is answered.
 #[tactic(auto, using(crate::proofs::ServiceRunLemmas::takes_new))]
 pub(crate) fn reload<'a, 'l, R: Wait + Clock + Eprint + AllocGlobal, T: Clock>(
-    context: &ServiceContext<'l, R, T>,
+    rt: &R,
+    time: &T,
+    hall: &ServiceContext<'l, R>,
     rules: &mut Rules,
     order: TakenOrder,
     anew: PendingReload,
@@ -44,7 +45,7 @@ pub(crate) fn reload<'a, 'l, R: Wait + Clock + Eprint + AllocGlobal, T: Clock>(
         → ⟦<FileSink<File> as JournalSink>⟧.failed sink < 2 ^ 64 - 1 }
     ensures goes_on { IfOk result (λ next. GoesOn table.state (table_of next.unnamed).state) }
     ensures rules { IfOk result (λ next. TakesRules anew table rules.old rules.new (table_of next.unnamed)) }
-    ensures workers { IfOk result (λ next. workers_of next.unnamed ≡ context.now.workers) }
+    ensures workers { IfOk result (λ next. workers_of next.unnamed ≡ hall.now.workers) }
     ensures fault { IfErr result (λ fault. fault ≡ Memory) }
 {
     let PendingReload {
@@ -54,24 +55,24 @@ pub(crate) fn reload<'a, 'l, R: Wait + Clock + Eprint + AllocGlobal, T: Clock>(
         names,
         warnings,
     } = anew;
-    let rt = context.rt;
     match made_anew(rt.alloc(), renewed, rest, table) {
-        Ok(NextTable { table, lacked }) => {
+        Ok(Reloaded { table, lacked }) => {
             *rules = next_rules;
-            tell_reloaded(context, &table, &lacked);
+            tell_reloaded(rt, time, hall, &table, &lacked);
             let answer = reloaded_answer(rt.alloc(), &warnings, &lacked);
-            context.engine.hold_table(rt, &table, names);
-            context.engine.answer_order(rt, order, answer);
+            hall.engine.hold_table(rt, &table, names);
+            hall.engine.answer_order(rt, order, answer);
             Ok(Opening {
-                unnamed: UnnamedDesk::of(table, context.workers),
+                unnamed: UnnamedDesk::of(table, hall.workers),
                 sink,
             })
         }
-        Err(RefusedReload { fault, closed }) => {
-            tell_rollover(context, &closed);
+        Err(Refused { fault, closed }) => {
+            hall.log
+                .tell_rollover(MachineClock::new(time).now(), &closed);
             let answer = refused_answer(rt.alloc(), &fault);
-            context.engine.answer_order(rt, order, answer);
-            next_opening(closed, sink, context.workers)
+            hall.engine.answer_order(rt, order, answer);
+            next_opening(closed, sink, hall.workers)
         }
     }
 }
@@ -82,7 +83,7 @@ fn made_anew(
     renewed: CheckedReload,
     rest: File,
     closed: Table,
-) -> Result<NextTable, RefusedReload>
+) -> Result<Reloaded, Refused>
     ensures goes_on { IfOk result (λ next. GoesOn closed.state next.table.state) }
     ensures broken { IfOk result (λ next. next.table.state.broken ≡ closed.state.broken) }
     ensures reloaded { IfOk result (λ next. (bytes : Option (List ℕ)) × IsReloaded renewed bytes closed next) }
@@ -107,14 +108,15 @@ fn refused_answer(alloc: Global, fault: &ReloadFault) -> Vec<u8>
 
 // Reports the reload in the log, and on standard error if the configuration lacks principals.
 fn tell_reloaded<'l, R: Wait + Eprint, T: Clock>(
-    context: &ServiceContext<'l, R, T>,
+    rt: &R,
+    time: &T,
+    hall: &ServiceContext<'l, R>,
     table: &Table,
     lacked: &[Name],
 ) {
-    let now = MachineClock::new(context.time).now();
-    let event = context.counters.lock(context.rt).reload(table);
-    context.log.put_event(now, &event);
+    let now = MachineClock::new(time).now();
+    hall.log.tell_reload(now, table);
     if !lacked.is_empty() {
-        context.log.tell(Notice::Lacked(lacked.len() as u64));
+        hall.log.tell(Notice::Lacked(lacked.len() as u64));
     }
 }

@@ -16,6 +16,7 @@ pub enum Peer {
 }
 
 impl Peer {
+    /// The peer of an address.
     pub fn of(address: IpAddr) -> Peer
         ensures value { result ≡ peer_of address }
     {

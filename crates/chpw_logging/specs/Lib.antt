@@ -1,4 +1,4 @@
-pub mod Counters
+pub mod Facts
 pub mod Names
 pub mod Notices
 pub mod Noting

@@ -7,7 +7,7 @@ ghost use Rattle.chpw_log.specs.Lines.{line_of};
 ghost use Rattle.chpw_logging.specs.Noting.{Noted, opened as opened_line, limited, journal_failed, updated as update_told};
 ghost use Rattle.chpw_logging.specs.Noting.{decided_line, failed_under, kind_of, noted_line, refused_line};
 
-use chpw_log::{ClientAndTarget, HeldKind, Line, MessageEvent};
+use chpw_log::{Asked, HeldKind, Line, MessageEvent};
 use chpw_serve::{Gate, Observer, Spot, UpdateObserver};
 use chpw_table::{Event, KdcUpdate, Moment, Opened, Receipt, UpdateVerdict, Verdict};
 use krb_protocol::Refusal;
@@ -87,12 +87,15 @@ impl<L: Lines> Observer for Logging<L> {
     fn decided(&mut self, peer: IpAddr, now: Moment, receipt: &Receipt, kvno: Option<u32>) {
         if let Event::Ask { opened, verdict } = &receipt.entry.event {
             tell_failed(&mut self.lines, now, *verdict);
-            let decision = Decision {
+            put_decided(
+                &mut self.lines,
+                self.worker,
+                peer,
+                now,
                 opened,
-                verdict: *verdict,
+                *verdict,
                 kvno,
-            };
-            put_decided(&mut self.lines, self.worker, peer, now, &decision);
+            );
         }
     }
 
@@ -123,38 +126,32 @@ fn tell_failed<L: Lines>(lines: &mut L, now: Moment, verdict: Verdict)
     }
 }
 
-// A request, its verdict, and the version of the keys that a change made.
-#[derive(Clone, Copy, Drop)]
-struct Decision<'a> {
-    opened: &'a Opened,
-    verdict: Verdict,
-    kvno: Option<u32>,
-}
-
 // Writes the line of a decision.
 fn put_decided<L: Lines>(
     lines: &mut L,
     worker: u8,
     peer: IpAddr,
     now: Moment,
-    decision: &Decision<'_>,
+    opened: &Opened,
+    verdict: Verdict,
+    kvno: Option<u32>,
 )
     requires moment { IsMoment now }
     requires micros { now.micros < 1000000 }
-    ensures taken { L.takes lines.old (noted_line (kind_of decision.now.verdict) now peer
-        (decided_line worker peer now decision.now.opened.now decision.now.verdict decision.now.kvno)) lines.new }
+    ensures taken { L.takes lines.old
+        (noted_line (kind_of verdict) now peer (decided_line worker peer now opened.now verdict kvno)) lines.new }
 {
     let line = Line {
         moment: now,
         worker,
         peer,
         news: MessageEvent::Decided {
-            asked: ClientAndTarget::of(decision.opened),
-            verdict: decision.verdict,
-            kvno: decision.kvno,
+            asked: Asked::of(opened),
+            verdict,
+            kvno,
         },
     };
-    match kind_of(decision.verdict) {
+    match kind_of(verdict) {
         Some(kind) => lines.put_limited(kind, &line),
         None => lines.put(&line),
     }
@@ -190,7 +187,7 @@ fn put_full<L: Lines>(
         worker,
         peer,
         news: MessageEvent::Full {
-            asked: ClientAndTarget::of(opened),
+            asked: Asked::of(opened),
             refusal,
         },
     });

@@ -63,6 +63,7 @@ impl<K> Model for KeyTree<K> {
 }
 
 impl<K: Drop> KeyTree<K> {
+    /// No keys.
     pub fn new() -> KeyTree<K>
         ensures empty { result ≡ [] }
     {
@@ -84,6 +85,7 @@ impl<K: Drop> KeyTree<K> {
         })
     }
 
+    /// How many keys there are.
     pub fn len(&self) -> usize
         ensures value { result ≡ length self.now }
     {
@@ -131,6 +133,7 @@ impl<K: Drop> KeyTree<K> {
         }
     }
 
+    /// The first key.
     pub fn first(&self) -> Option<&K>
         ensures value { option_copied result ≡ slice_get self.now 0 }
     {

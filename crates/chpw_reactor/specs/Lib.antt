@@ -1,4 +1,5 @@
 pub mod Attending
+pub mod Bounds
 pub mod Engines
 pub mod Pools
 pub mod Reports

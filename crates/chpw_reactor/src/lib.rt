@@ -7,6 +7,7 @@ mod datagrams;
 mod engine;
 mod kdc;
 mod mirror;
+mod options;
 mod outcome;
 mod reactor;
 mod seat;
@@ -15,8 +16,9 @@ mod talking;
 mod tasks;
 
 pub use engine::Engine;
-pub use kdc::KdcTerms;
+pub use kdc::{KdcTerms, NoKdc};
 pub use mirror::dialog_with;
+pub use options::PoolOptions;
 pub use outcome::{Pool, outcome_of};
 pub use seat::{EngineCrew, Seat};
 pub use status_reporter::StatusReporter;

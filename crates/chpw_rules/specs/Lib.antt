@@ -1,4 +1,3 @@
-pub mod Ascending
 pub mod Fitting
 pub mod Limits
 pub mod Names

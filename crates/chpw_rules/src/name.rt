@@ -61,6 +61,7 @@ impl Name {
     }
 }
 
+// A component.
 impl Limited for Items<u8> {
     ghost fits = { is_component };
 

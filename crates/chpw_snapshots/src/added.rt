@@ -39,6 +39,7 @@ impl AddedRow {
         AddedRow { name, shown: None }
     }
 
+    // Its name.
     pub(crate) fn name(&self) -> ShortName
         ensures value { short_name result ≡ self.now.name }
     {
@@ -72,7 +73,7 @@ impl AddedRow {
     }
 }
 
-// The place of a name's row among rows in the order of their names.
+// Where the row of a name stands among rows in the order of their names.
 pub(crate) fn place_of_name(rows: &[AddedRow], name: &Name) -> Option<usize>
     requires order { IsStrictlySortedBy name_cmp (names_of_rows rows.now) }
     ensures value { result ≡ place_in rows.now name.now }

@@ -34,6 +34,7 @@ impl FittingUpdate {
         }
     }
 
+    /// The update.
     pub fn update(self) -> KdcUpdate
         ensures value { result ≡ self.update }
         ensures fits { update_fits result ≡ true }

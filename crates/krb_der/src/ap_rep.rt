@@ -34,6 +34,7 @@ impl Element for ApRep {
     ghost legal = { refl };
 }
 
+/// The fields in turn.
 type ReplyFields = Application<
     15,
     (
@@ -99,6 +100,7 @@ impl Element for EncApRepPart {
     ghost legal = { refl };
 }
 
+/// The fields in turn.
 type PartFields = Application<
     27,
     (

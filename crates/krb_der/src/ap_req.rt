@@ -39,6 +39,7 @@ impl Element for ApReq {
     ghost legal = { refl };
 }
 
+/// The fields in turn.
 type Fields = Application<
     14,
     (

@@ -44,6 +44,7 @@ impl Element for Authenticator {
     ghost legal = { refl };
 }
 
+/// The fields in turn.
 type Fields = Application<
     2,
     (

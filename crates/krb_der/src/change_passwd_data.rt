@@ -38,6 +38,7 @@ impl Element for ChangePasswdData {
     ghost legal = { refl };
 }
 
+/// The fields in turn.
 type Fields = ExtensibleSequence<
     FIRST_FURTHER,
     LAST_FURTHER,

@@ -103,6 +103,7 @@ impl Element for EncTicketPart {
     ghost legal = { refl };
 }
 
+/// The fields in turn.
 type PartFields = Application<
     3,
     (

@@ -49,6 +49,7 @@ impl Element for KrbError {
     ghost legal = { refl };
 }
 
+/// The fields in turn.
 type Fields = Application<
     30,
     (

@@ -35,6 +35,7 @@ impl Element for KrbPriv {
     ghost legal = { refl };
 }
 
+/// The fields in turn.
 type MessageFields = Application<
     21,
     (
@@ -103,6 +104,7 @@ impl Element for EncKrbPrivPart {
     ghost legal = { refl };
 }
 
+/// The fields in turn.
 type PartFields = Application<
     28,
     (

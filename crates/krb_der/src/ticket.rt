@@ -37,6 +37,7 @@ impl Element for Ticket {
     ghost legal = { refl };
 }
 
+/// The fields in turn.
 type Fields = Application<
     1,
     (

@@ -48,6 +48,7 @@ impl PreparedUpdate {
         self.row.is_taken()
     }
 
+    /// The update.
     pub fn update(&self) -> &KdcUpdate
         ensures value { result.now ≡ self.now.update }
     {

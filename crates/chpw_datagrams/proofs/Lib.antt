@@ -1,0 +1,4 @@
+pub mod AnswerLemmas
+pub mod KeptLemmas
+pub mod PresentLemmas
+pub mod WithinLemmas

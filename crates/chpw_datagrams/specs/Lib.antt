@@ -1,0 +1,4 @@
+pub mod Answers
+pub mod Fields
+pub mod Laws
+pub mod Senders

@@ -1,0 +1,13 @@
+//! Messages that come in datagrams (RFC 3244 section 2): which of them are answered, and which get the reply again that
+//! was given before. Without sockets, clock or threads.
+#![tactic(auto)]
+
+mod answered;
+mod kept;
+pub mod laws;
+mod presented;
+mod sender;
+
+pub use answered::{Answered, MAX_ANSWERS, MAX_BYTES};
+pub use kept::MAX_AGE;
+pub use sender::{KPASSWD_PORT, Sender, is_answerable};
