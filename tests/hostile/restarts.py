@@ -2,9 +2,11 @@
 
 A client whose connection is refused, or ends without a reply, sends the very same request again: if it had been decided, the
 answer would be that it is replayed. Each request has to be accepted, within a second of when it was first sent, and its change
-has to be in the journal at the end. On a machine that is busy with something else a wait may be longer.
+has to be in the journal at the end. Where other programs wait for the processors, or the machine's host takes them away, a wait
+may be as many times longer.
 """
 
+import os
 import threading
 import time
 
@@ -17,6 +19,20 @@ from harness.serving import CHANGED, PATIENCE, REPLAYED, Client, Watch, ServiceC
 PRINCIPALS, CLIENTS, RESTARTS = 10_000, 8, 5
 # seconds that a service goes on between two restarts, between two tries of a client, and that a request may take
 APART, AGAIN, LONGEST = 2, 0.02, 1
+
+
+def processor_time():
+    """What the processors have done since the machine's start, and what of it the machine's host took away."""
+    with open("/proc/stat", encoding="ascii") as file:
+        numbers = [int(it) for it in file.readline().split()[1:9]]
+    return sum(numbers), numbers[-1]
+
+
+def slowness(since):
+    """How many times as long as by itself a service has taken since then."""
+    whole, taken = (now - before for now, before in zip(processor_time(), since))
+    waiting = os.getloadavg()[0] / os.cpu_count()
+    return max(1, waiting) / max(1 - taken / max(whole, 1), 0.1)
 
 
 class Changer(threading.Thread):
@@ -73,13 +89,14 @@ def stop(case):
     return lines
 
 
-def tell_answers(case, changers):
+def tell_answers(case, changers, slow):
     count = sum(len(it.sent) for it in changers)
     print(f"{count} requests, {sum(it.tries for it in changers)} tries without an answer", flush=True)
     case.tell("other answers", [told for it in changers for told in it.told if told != CHANGED], [])
     case.tell("some had to try again", any(it.tries for it in changers), True)
     longest = max(wait for it in changers for wait in it.waits)
-    case.tell(f"the longest wait is at most {LONGEST} s ({longest:.2f})", longest <= LONGEST, True)
+    told = f"the longest wait is at most {LONGEST} s, or {LONGEST * slow:.2f} here ({longest:.2f})"
+    case.tell(told, longest <= LONGEST * slow, True)
 
 
 def tell_kept(case, changers, lines):
@@ -97,6 +114,7 @@ class Restarts(ServiceCase):
         """Stopped and started again and again; how long nobody listened is told."""
         self.realm([f"user{number}" for number in range(PRINCIPALS)])
         start(self)
+        begin = processor_time()
         changers = [Changer(self.server, f"user{number * PRINCIPALS // CLIENTS}") for number in range(CLIENTS)]
         for changer in changers:
             changer.start()
@@ -115,7 +133,7 @@ class Restarts(ServiceCase):
                 changer.over.set()
             for changer in changers:
                 changer.join()
-        tell_answers(self, changers)
+        tell_answers(self, changers, slowness(begin))
         again = [self.client().ask(it) for changer in changers for it in (changer.sent[0], changer.sent[-1])]
         self.tell("the first and the last of each once more", again, [REPLAYED] * 2 * CLIENTS)
         while self.clients:
