@@ -4,7 +4,7 @@ use crate::page::Page;
 use crate::stop::{Stop, called, open_result};
 use crate::streams::{Exchange, exchanged, reply_of};
 use crate::world::sent_request;
-use chpw_client::{Sent, client_line};
+use chpw_client::{SentRequest, client_line};
 use chpw_frame::split_reply;
 use krb_msgs::read_reply;
 
@@ -34,7 +34,7 @@ fn run_reply_call(page: &mut Page, call: &str, exchange: &Exchange) -> Result<()
 }
 
 /// What the client prints for a reply.
-pub fn put_line(page: &mut Page, sent: &Sent, reply: &[u8]) -> Result<(), Stop> {
+pub fn put_line(page: &mut Page, sent: &SentRequest, reply: &[u8]) -> Result<(), Stop> {
     match called(client_line(page.alloc(), sent, reply))? {
         None => Err(Stop::Wrong("a reply that isn't read")),
         Some((line, status)) => {
@@ -46,7 +46,7 @@ pub fn put_line(page: &mut Page, sent: &Sent, reply: &[u8]) -> Result<(), Stop> 
     }
 }
 
-fn put_reply(page: &mut Page, sent: &Sent, reply: &[u8]) -> Result<(), Stop> {
+fn put_reply(page: &mut Page, sent: &SentRequest, reply: &[u8]) -> Result<(), Stop> {
     let Ok(parts) = split_reply(reply) else {
         return Err(Stop::Wrong("no reply"));
     };

@@ -4,7 +4,7 @@ use crate::page::Page;
 use crate::records::bytes_of;
 use crate::stop::{Stop, called};
 use chpw_frame::{
-    ChangeFault, Received, join_old_request, join_reply, join_request, read_change_data, read_tcp,
+    ChangeFault, TcpOutcome, join_old_request, join_reply, join_request, read_change_data, read_tcp,
 };
 use std::alloc::Global;
 
@@ -54,7 +54,7 @@ fn asked_password(alloc: Global, text: &[u8]) -> Result<Vec<u8>, Stop> {
 fn read_message(alloc: Global, stream: &[u8]) -> Result<Vec<u8>, Stop> {
     let mut stream = stream;
     match called(read_tcp(alloc, &mut stream))? {
-        Received::Message(message) => Ok(message),
+        TcpOutcome::Message(message) => Ok(message),
         _ => Err(Stop::Wrong("no message")),
     }
 }

@@ -31,7 +31,7 @@ mod workers;
 mod world;
 
 use calls::run_call;
-use chpw_read_fully::{Filled, fill};
+use chpw_read_fully::{FillOutcome, fill};
 use page::Page;
 use pools::Machine;
 use std::io::{self, Error, ErrorKind, Write};
@@ -63,7 +63,7 @@ where
     let mut input = [0; INPUT];
     let mut reads = u64::MAX;
     let count = match fill(&mut rt.reader(), &mut input, &mut reads) {
-        Filled::Short(count) => count,
+        FillOutcome::Short(count) => count,
         _ => return Err(Error::from(ErrorKind::InvalidInput)),
     };
     let (input, _) = input.split_at(count.min(INPUT));

@@ -5,7 +5,7 @@ use crate::page::Page;
 use crate::records::bytes_of;
 use crate::stop::{Stop, beside, called, open_result};
 use crate::world::{PEER, realm_config, sent_request};
-use chpw_client::Sent;
+use chpw_client::SentRequest;
 use chpw_frame::{Parts, split_request};
 use chpw_messages::Service;
 use krb_der::{
@@ -80,7 +80,7 @@ fn error_of(alloc: Global, text: &[u8]) -> Result<Vec<u8>, Stop> {
 }
 
 /// The parts of alice's request.
-fn parts_of(sent: &Sent) -> Result<Parts<'_>, Stop> {
+fn parts_of(sent: &SentRequest) -> Result<Parts<'_>, Stop> {
     split_request(sent.message.as_slice()).map_err(|_| Stop::Wrong("no request"))
 }
 
@@ -97,7 +97,7 @@ fn ap_opened(page: &mut Page) -> Result<(), Stop> {
     put_ap(page, &sent)
 }
 
-fn put_ap(page: &mut Page, sent: &Sent) -> Result<(), Stop> {
+fn put_ap(page: &mut Page, sent: &SentRequest) -> Result<(), Stop> {
     let parts = parts_of(sent)?;
     let found = open(page.alloc(), parts.ap)?;
     put_opened(page, &found);
@@ -124,7 +124,7 @@ fn priv_opened(page: &mut Page) -> Result<(), Stop> {
     put_priv_of(page, &sent)
 }
 
-fn put_priv_of(page: &mut Page, sent: &Sent) -> Result<(), Stop> {
+fn put_priv_of(page: &mut Page, sent: &SentRequest) -> Result<(), Stop> {
     let parts = parts_of(sent)?;
     let found = beside(open(page.alloc(), parts.ap))?;
     put_priv(page, &found, parts.tail)

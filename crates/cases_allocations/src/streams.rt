@@ -8,7 +8,7 @@ use crate::page::Page;
 use crate::stop::{Fell, Stop, beside};
 use crate::tables::start_alone;
 use crate::world::{REPLIES, realm_config, sent_request};
-use chpw_client::Sent;
+use chpw_client::SentRequest;
 use chpw_frame::{LONGEST_MESSAGE, write_tcp};
 use chpw_messages::Service;
 use chpw_serve::Ended;
@@ -34,13 +34,13 @@ pub trait Serves: Decides {
 /// A request of alice's, the stream that it makes, and the service that it is for.
 #[derive(Drop)]
 pub struct Request {
-    pub sent: Sent,
+    pub sent: SentRequest,
     pub stream: Vec<u8>,
     pub service: Service,
 }
 
 impl Request {
-    pub fn of(alloc: Global, sent: Sent) -> Result<Request, Stop> {
+    pub fn of(alloc: Global, sent: SentRequest) -> Result<Request, Stop> {
         let (stream, service) = served_with(alloc, sent.message.as_slice())?;
         Ok(Request {
             sent,
@@ -179,7 +179,7 @@ fn serve_accepted<D: Serves>(
     is_accepted(alloc, &request.sent, &written)
 }
 
-fn is_accepted(alloc: Global, sent: &Sent, written: &[u8]) -> Result<(), Stop> {
+fn is_accepted(alloc: Global, sent: &SentRequest, written: &[u8]) -> Result<(), Stop> {
     let mut line = Page::new(alloc);
     beside(put_line(&mut line, sent, reply_of(written)))?;
     line.whole()?;

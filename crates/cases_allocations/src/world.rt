@@ -4,7 +4,7 @@ ghost use Rattle.chpw_rules.specs.Fitting.{config_fits};
 ghost use Rattle.chpw_rules.specs.Names.{is_name};
 
 use crate::stop::{Stop, called};
-use chpw_client::{LAST_START, LONGEST_PASSWORD, Sent, client_request};
+use chpw_client::{LAST_START, LONGEST_PASSWORD, SentRequest, client_request};
 use chpw_rules::{Config, Name};
 use chpw_table::{Counts, Digest, Moment, Opened, Table};
 use krb_keys::CONFOUNDER_LEN;
@@ -61,7 +61,7 @@ pub fn table(alloc: Global) -> Result<Table, Stop> {
 }
 
 /// Alice's request, with these microseconds; each is for another password.
-pub fn sent_request(alloc: Global, micros: u32) -> Result<Sent, Stop> {
+pub fn sent_request(alloc: Global, micros: u32) -> Result<SentRequest, Stop> {
     let now = Moment {
         seconds: NOW.seconds,
         micros,
@@ -70,7 +70,7 @@ pub fn sent_request(alloc: Global, micros: u32) -> Result<Sent, Stop> {
 }
 
 /// Alice's request at a moment, for the password of this number.
-pub fn sent_at(alloc: Global, now: Moment, number: u32) -> Result<Sent, Stop> {
+pub fn sent_at(alloc: Global, now: Moment, number: u32) -> Result<SentRequest, Stop> {
     let password = password(alloc, number)?;
     let alice = known_name(alloc, "alice")?;
     let config = realm_config(alloc)?;
@@ -84,7 +84,7 @@ fn request(
     client: &Name,
     password: &[u8],
     now: Moment,
-) -> Result<Sent, Stop>
+) -> Result<SentRequest, Stop>
     requires fits { config_fits config.now ≡ true }
     requires client { is_name client.now ≡ true }
 {

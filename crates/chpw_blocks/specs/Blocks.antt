@@ -1,4 +1,4 @@
--- Byte strings one behind the other, each behind its length: four bytes, high byte first.
+-- Byte strings one after the other, each after its length: four bytes, high byte first.
 use Rattle.std.specs.Prelude.{◌≡◌, ℕ, ◌<◌, ◌^◌, List, ◌++◌, length}
 use Rattle.std.specs.Int.{to_be_bytes, w32}
 use Rattle.std.specs.List.{flat_map, AllByRecursion}

@@ -1,4 +1,4 @@
-//! Byte strings one behind the other, each behind its length.
+//! Byte strings one after the other, each after its length.
 #![tactic(auto)]
 
 pub mod laws;

@@ -5,10 +5,9 @@ ghost use Rattle.chpw_blocks.specs.Blocks.{block, joined, AreShort, IsShort};
 use chpw_rules::Items;
 use std::alloc::{AllocError, Global};
 
-// How many bytes a length has.
 const LENGTH_BYTES: usize = 4;
 
-/// Copies of the byte strings that stand in this text, each behind its length: four bytes, high byte first. None if the last one
+/// Copies of the byte strings in this text, each after its length: four bytes, high byte first. None if the last one
 /// is cut off.
 pub fn read_blocks(alloc: Global, text: &[u8]) -> Result<Option<Vec<Items<u8>>>, AllocError>
     ensures value { IfOk result (λ found. MatchOption found
@@ -27,7 +26,7 @@ pub fn read_blocks(alloc: Global, text: &[u8]) -> Result<Option<Vec<Items<u8>>>,
     Ok(Some(blocks))
 }
 
-// The first block's bytes, and what stands behind them.
+// The first block's bytes, and what follows them.
 fn split_block(text: &[u8]) -> Option<(&[u8], &[u8])>
     ensures value { MatchOption result
         ((bytes : List ℕ) → (rest : List ℕ) → IsShort bytes → text.now ≢ block bytes ++ rest)

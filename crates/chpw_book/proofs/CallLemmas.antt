@@ -12,7 +12,7 @@ use Rattle.chpw_table.specs.declared.outcome.DecideFault.TheVariants.{Full, Need
 use Rattle.chpw_table.specs.State.{State}
 use Rattle.chpw_table.specs.declared.updating.KdcUpdate.{KdcUpdate}
 use Rattle.chpw_table.specs.declared.updating.UpdateVerdict.{UpdateVerdict}
-use Rattle.chpw_table.specs.declared.change.Accepted.{Accepted}
+use Rattle.chpw_table.specs.declared.change.AcceptedChange.{AcceptedChange}
 use Rattle.chpw_table.specs.Updates.{is_taken, name_in}
 use Rattle.chpw_table.specs.Updating.{adds_principal}
 use Rattle.chpw_table.specs.Versions.{accepted}
@@ -98,13 +98,13 @@ asks_of_first opening workers prior b now o f k h = record {
       (same_missing b.table.state (outcome opening b.history) now o k.agrees) h;
 }
 
-kept_back : (opening t s : State) (list all : List Accepted) (u : KdcUpdate) (f : NotPrepared) → Agrees t s → list ≡ all
+kept_back : (opening t s : State) (list all : List AcceptedChange) (u : KdcUpdate) (f : NotPrepared) → Agrees t s → list ≡ all
     → IsKeptBack opening t list u f → IsKeptBack opening s all u f
 kept_back opening t s list all u f a is h =
-    (ap is_taken (sym (same_update t s u false a)) ∙ h.0, subst (λ (cs : List Accepted). IsNotPrepared opening cs (name_in u) f) is h.1)
+    (ap is_taken (sym (same_update t s u false a)) ∙ h.0, subst (λ (cs : List AcceptedChange). IsNotPrepared opening cs (name_in u) f) is h.1)
 
 -- so is the table's or the list's own refusal of an update
-pub refused_after : (opening : State) (workers : ℕ) (prior : List ℕ) (b : RecordedView) (list : List Accepted) (u : KdcUpdate) (f : DeskUpdateFault)
+pub refused_after : (opening : State) (workers : ℕ) (prior : List ℕ) (b : RecordedView) (list : List AcceptedChange) (u : KdcUpdate) (f : DeskUpdateFault)
     → IsLinearized opening workers prior b → list ≡ accepted opening b.history → IsUpdateFault opening list b.table u f → IsRefusedAfter opening u f
 refused_after opening workers prior b list u f k is h = record { before = b.history; legal = k.legal; why = at f h }
   where

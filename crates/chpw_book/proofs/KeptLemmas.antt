@@ -6,8 +6,8 @@ use Rattle.std.specs.List.{list_any}
 use Rattle.chpw_rules.specs.declared.name.Name.{Name}
 use Rattle.chpw_rules.specs.Names.{is_same_name}
 use Rattle.chpw_table.specs.declared.times.Moment.{Moment}
-use Rattle.chpw_table.specs.declared.change.Accepted.{Accepted}
-use Rattle.chpw_table.specs.declared.change.Accepted.TheVariants.{Key}
+use Rattle.chpw_table.specs.declared.change.AcceptedChange.{AcceptedChange}
+use Rattle.chpw_table.specs.declared.change.AcceptedChange.TheVariants.{Key}
 use Rattle.chpw_table.specs.declared.history.Event.{Event}
 use Rattle.chpw_table.specs.declared.history.Event.TheVariants.{Ask, Raise, Update}
 use Rattle.chpw_table.specs.declared.updating.KdcUpdate.{KdcUpdate}
@@ -37,8 +37,8 @@ same_change t s (Update u v) a = refl
 pub kept_list : KeptListsGoOn
 kept_list opening table history list e agrees is =
     let s : State = outcome opening history in
-    ap (λ (xs : List Accepted). xs ++ entry_change table e) is
-    ∙ (ap (λ (c : Accepted). accepted opening history ++ (if is_accepted e.event then c ∷ [] else [])) (same_change table s e.event agrees)
+    ap (λ (xs : List AcceptedChange). xs ++ entry_change table e) is
+    ∙ (ap (λ (c : AcceptedChange). accepted opening history ++ (if is_accepted e.event then c ∷ [] else [])) (same_change table s e.event agrees)
     ∙ sym (accepted_on opening history e))
 
 known_put : (b : Bool) (kept : ℕ) (key : KeyRow) (held : Option (List KeyRow)) → IsSome (if b then option_map (put kept key) held else held) → IsSome held
@@ -78,11 +78,12 @@ known_event s now io (Update u v) name legal h =
     (subst (λ (x : Option (List KeyRow)). IsSome x) (keys_updated v s now u io name) after)
 
 -- one of an event's changes and the others is such
-first_adopts : (p : Accepted → Bool) (b : Bool) (c : Accepted) (cs : List Accepted) → (b && p c) ≡ true → list_any p ((if b then c ∷ [] else []) ++ cs) ≡ true
+first_adopts : (p : AcceptedChange → Bool) (b : Bool) (c : AcceptedChange) (cs : List AcceptedChange)
+    → (b && p c) ≡ true → list_any p ((if b then c ∷ [] else []) ++ cs) ≡ true
 first_adopts p true c cs h = ap (λ (x : Bool). x || list_any p cs) h
 first_adopts p false c cs h = absurd (cc)
 
-rest_adopts : (p : Accepted → Bool) (b : Bool) (c : Accepted) (cs : List Accepted)
+rest_adopts : (p : AcceptedChange → Bool) (b : Bool) (c : AcceptedChange) (cs : List AcceptedChange)
     → list_any p cs ≡ true → list_any p ((if b then c ∷ [] else []) ++ cs) ≡ true
 rest_adopts p true c cs h = at (p c)
   where
@@ -94,8 +95,8 @@ rest_adopts p false c cs h = h
 pub names_known : NamesAreKnown
 names_known s [] name legal h = inl h
 names_known s (e ∷ es) name legal h =
-    let c : Accepted = change_by s e.event in
-    let more : List Accepted = accepted (step_entry s e) es in
+    let c : AcceptedChange = change_by s e.event in
+    let more : List AcceptedChange = accepted (step_entry s e) es in
     ⊎_elim (λ (before : IsSome (keys_held (step_entry s e) name)).
     ⊎_elim (λ (had : IsSome (keys_held s name)). inl had)
     (λ (now : (is_accepted e.event && adopts name c) ≡ true). inr (first_adopts (adopts name) (is_accepted e.event) c more now))

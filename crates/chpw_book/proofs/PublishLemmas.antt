@@ -11,8 +11,8 @@ use Rattle.chpw_table.specs.declared.history.Entry.{Entry}
 use Rattle.chpw_table.specs.declared.verdict.Verdict.{Verdict}
 use Rattle.chpw_table.specs.declared.verdict.Verdict.TheVariants.{Broken, Done}
 use Rattle.chpw_table.specs.declared.change.KeyChange.{KeyChange}
-use Rattle.chpw_table.specs.declared.change.Accepted.{Accepted}
-use Rattle.chpw_table.specs.declared.change.Accepted.TheVariants.{Key}
+use Rattle.chpw_table.specs.declared.change.AcceptedChange.{AcceptedChange}
+use Rattle.chpw_table.specs.declared.change.AcceptedChange.TheVariants.{Key}
 use Rattle.chpw_table.specs.declared.history.Event.{Event}
 use Rattle.chpw_table.specs.declared.history.Event.TheVariants.{Ask}
 use Rattle.chpw_table.specs.State.{State, new_count}
@@ -48,10 +48,10 @@ change_at s now o name row count n c =
 
 -- ---- the list
 
-shorter : (xs ys : List Accepted) → IsPrefix xs ys → length xs ≤ length ys
+shorter : (xs ys : List AcceptedChange) → IsPrefix xs ys → length xs ≤ length ys
 shorter xs ys p =
     let a = length-append xs p.0 in
-    let same : length (xs ++ p.0) ≡ length ys = ap (λ (l : List Accepted). length l) p.1 in
+    let same : length (xs ++ p.0) ≡ length ys = ap (λ (l : List AcceptedChange). length l) p.1 in
     omega (arith, a, same)
 
 -- after an accepted event the pass was told more than it knew
@@ -60,14 +60,14 @@ told_more : (opening : State) (before : List Entry) (e : Entry) (mine more : Kno
     → more ≡ told_list (is_accepted e.event) (accepted opening (before ++ e ∷ [])) mine → is_accepted e.event ≡ true
     → (length mine.told < length more.told) × (length mine.seen < length more.told)
 told_more opening before e mine more begins saw is done =
-    let c : Accepted = change_by (outcome opening before) e.event in
-    let all : List Accepted = accepted opening before in
+    let c : AcceptedChange = change_by (outcome opening before) e.event in
+    let all : List AcceptedChange = accepted opening before in
     let longer : accepted opening (before ++ e ∷ []) ≡ all ++ c ∷ [] =
     accepted_on opening before e ∙ ap (λ (d : Bool). all ++ (if d then c ∷ [] else [])) done in
     let told : more.told ≡ all ++ c ∷ [] =
     ap (λ (k : Known). k.told) is
     ∙ (ap (λ (d : Bool). (told_list d (accepted opening (before ++ e ∷ [])) mine).told) done ∙ longer) in
-    let long : length more.told ≡ length (all ++ c ∷ []) = ap (λ (l : List Accepted). length l) told in
+    let long : length more.told ≡ length (all ++ c ∷ []) = ap (λ (l : List AcceptedChange). length l) told in
     let one = length-append all (c ∷ []) in
     let a = shorter mine.told all begins in
     let b = shorter mine.seen all saw in
@@ -85,7 +85,7 @@ published_at opening before e b broken event s t p a is h done accepts =
         → s.list ++ (if done then change_by b event ∷ [] else []) ≡ accepted opening (before ++ e ∷ [])
         → IsPublished opening (before ++ e ∷ []) broken (published done t)
     at true y list = record {
-      list = ap (λ (w : Option Accepted). joined w t.list) (h.waits y) ∙ (ap (λ (xs : List Accepted). xs ++ change_by b event ∷ []) h.list ∙ list);
+      list = ap (λ (w : Option AcceptedChange). joined w t.list) (h.waits y) ∙ (ap (λ (xs : List AcceptedChange). xs ++ change_by b event ∷ []) h.list ∙ list);
       free = λ w. refl;
     }
     at false y list = record { list = h.list ∙ (sym (append-nil s.list) ∙ list); free = h.free y }
@@ -100,7 +100,7 @@ published_next opening workers prior b later mine mid s t now event p h =
     (published_at opening b.history h.entry b.table.state later.table.state.broken event s t p h.linearized.0.agrees
     (ap (λ (e : Entry). e.event) h.enters.entry_is) h.pending (is_accepted event) refl)
 
-joined_accepted : (opening : State) (es : List Entry) (waiting : Option Accepted) (list : List Accepted) → IsLegal opening es
+joined_accepted : (opening : State) (es : List Entry) (waiting : Option AcceptedChange) (list : List AcceptedChange) → IsLegal opening es
     → joined waiting list ≡ accepted opening es → IfSome waiting (λ change. AreAccepted opening (list ++ change ∷ []))
 joined_accepted opening es None list legal is = tt
 joined_accepted opening es (Some c) list legal is = record { history = es; legal = legal; list_is = is }
@@ -120,7 +120,7 @@ pub list_room : (opening : State) (workers : ℕ) (prior : List ℕ) (b later : 
     (s t : PublishedList) (now : Moment) (event : Event)
     → IsPublished opening b.history b.table.state.broken s → IsRecorded opening workers prior b later mine mid s t now event → length t.list + 1 < 2 ^ 31
 list_room opening workers prior b later mine mid s t now event p h =
-    let long : length t.list ≡ length (accepted opening b.history) = ap (λ (xs : List Accepted). length xs) (h.pending.list ∙ p.list) in
+    let long : length t.list ≡ length (accepted opening b.history) = ap (λ (xs : List AcceptedChange). length xs) (h.pending.list ∙ p.list) in
     let counted = changes_counted opening b.history in
     let some = count_by-le-length (λ (e : Entry). is_accepted e.event) b.history in
     let grown : length later.history ≡ length b.history + 1 = ap (λ (es : List Entry). length es) h.grows.history ∙ one_longer b.history h.entry in
@@ -136,10 +136,10 @@ pub adds_next : (opening : State) (workers : ℕ) (prior : List ℕ) (b later : 
 adds_next opening workers prior b later mine mid more s t u now event p h q begins is =
     let place : more.place ≡ told_list (is_accepted event) (accepted opening (b.history ++ h.entry ∷ [])) mine.place =
     ap (λ (c : PassView). c.place) is
-    ∙ (ap (λ (xs : List Accepted). told_list (is_accepted event) xs mid.place) (q.list ∙ ap (λ (es : List Entry). accepted opening es) h.grows.history)
+    ∙ (ap (λ (xs : List AcceptedChange). told_list (is_accepted event) xs mid.place) (q.list ∙ ap (λ (es : List Entry). accepted opening es) h.grows.history)
     ∙ ap (λ (k : Known). told_list (is_accepted event) (accepted opening (b.history ++ h.entry ∷ [])) k) h.place) in
-    let told : IsPrefix mine.place.told (accepted opening b.history) = subst (λ (xs : List Accepted). IsPrefix mine.place.told xs) p.list begins in
-    let saw : IsPrefix mine.place.seen (accepted opening b.history) = subst (λ (xs : List Accepted). IsPrefix mine.place.seen xs) p.list h.saw in
+    let told : IsPrefix mine.place.told (accepted opening b.history) = subst (λ (xs : List AcceptedChange). IsPrefix mine.place.told xs) p.list begins in
+    let saw : IsPrefix mine.place.seen (accepted opening b.history) = subst (λ (xs : List AcceptedChange). IsPrefix mine.place.seen xs) p.list h.saw in
     let event_is : h.entry.event ≡ event = ap (λ (e : Entry). e.event) h.enters.entry_is in
     let place_is : more.place ≡ told_list (is_accepted h.entry.event) (accepted opening (b.history ++ h.entry ∷ [])) mine.place =
     place ∙ ap (λ (x : Event). told_list (is_accepted x) (accepted opening (b.history ++ h.entry ∷ [])) mine.place) (sym event_is) in
@@ -164,7 +164,7 @@ was_whole : (was io now : Bool) → now ≡ (was || io) → now ≡ false → wa
 was_whole true io now ni b = absurd (let x : now ≡ true = ni in cc)
 was_whole false io now ni b = refl
 
-pending_at : (before : State) (was now io d : Bool) (event : Event) (c : Accepted) (s t : PublishedList) → (was ≡ false → s.waiting ≡ None)
+pending_at : (before : State) (was now io d : Bool) (event : Event) (c : AcceptedChange) (s t : PublishedList) → (was ≡ false → s.waiting ≡ None)
     → is_accepted event ≡ (d && not io) → now ≡ (was || io) → c ≡ change_by before event
     → t ≡ with_waiting d c s → LeavesPending before now event s t
 pending_at before was now io true event c s t free ai ni ci ti = record {
@@ -185,7 +185,7 @@ pending_at before was now io false event c s t free ai ni ci ti = record {
 
 -- An event was to be accepted unless its append failed, and its change was prepared if so: it is prepared then, and
 -- otherwise none is.
-pub pending_next : (before : State) (was now io d : Bool) (event : Event) (c : Accepted) (s t : PublishedList) → (was ≡ false → s.waiting ≡ None)
+pub pending_next : (before : State) (was now io d : Bool) (event : Event) (c : AcceptedChange) (s t : PublishedList) → (was ≡ false → s.waiting ≡ None)
     → is_accepted event ≡ (d && not io) → now ≡ (was || io) → c ≡ change_by before event
     → t ≡ with_waiting d c s → LeavesPending before now event s t
 pending_next before was now io d event c s t free ai ni ci ti = pending_at before was now io d event c s t free ai ni ci ti

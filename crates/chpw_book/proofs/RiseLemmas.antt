@@ -11,8 +11,8 @@ use Rattle.chpw_table.specs.declared.verdict.Verdict.{Verdict}
 use Rattle.chpw_table.specs.declared.verdict.Verdict.TheVariants.{Done}
 use Rattle.chpw_table.specs.declared.raising.RaiseVerdict.TheVariants as raise
 use Rattle.chpw_table.specs.declared.change.KeyChange.{KeyChange}
-use Rattle.chpw_table.specs.declared.change.Accepted.{Accepted}
-use Rattle.chpw_table.specs.declared.change.Accepted.TheVariants.{Key, Count}
+use Rattle.chpw_table.specs.declared.change.AcceptedChange.{AcceptedChange}
+use Rattle.chpw_table.specs.declared.change.AcceptedChange.TheVariants.{Key, Count}
 use Rattle.chpw_table.specs.declared.history.Event.{Event}
 use Rattle.chpw_table.specs.declared.history.Event.TheVariants.{Ask, Raise, Update}
 use Rattle.chpw_table.specs.declared.history.Entry.{Entry}
@@ -57,7 +57,7 @@ higher count n true broken e h = absurd (cc)
 higher count n false true e h = absurd (cc)
 higher count n false false e h = grind (arith, nat_tests)
 
--- the change of an accepted event may come behind those before it
+-- the change of an accepted event may come after those before it
 event_next : (opening : State) (es : List Entry) (now : Moment) (io : Bool) (event : Event)
     → IsLegal opening es → IsJudged (outcome opening es) now io event → BringsWhole (outcome opening es) event → is_accepted event ≡ true
     → IsNextVersion opening (accepted opening es) (change_by (outcome opening es) event)
@@ -81,13 +81,13 @@ event_next opening es now io (Update u v) legal decided whole done =
     (ap is_taken (sym decided.verdict_is) ∙ done) whole.0
 
 -- what is shown of the count after the accepted changes is the count of a table that agrees
-count_shown : (opening t : State) (es : List Entry) (list : List Accepted) → IsLegal opening es
+count_shown : (opening t : State) (es : List Entry) (list : List AcceptedChange) → IsLegal opening es
     → Agrees t (outcome opening es) → list ≡ accepted opening es → new_count t ≡ shown_count opening list
 count_shown opening t es list legal agrees is =
-    agrees.count ∙ (sym (shows_count opening es legal) ∙ ap (λ (cs : List Accepted). shown_count opening cs) (sym is))
+    agrees.count ∙ (sym (shows_count opening es legal) ∙ ap (λ (cs : List AcceptedChange). shown_count opening cs) (sym is))
 
 -- and so may the row that a table makes, which agrees with the history
-pub row_next : (opening t : State) (es : List Entry) (list : List Accepted) (now : Moment) (o : Opened) (name : Name) (row : Shown) (count : ℕ)
+pub row_next : (opening t : State) (es : List Entry) (list : List AcceptedChange) (now : Moment) (o : Opened) (name : Name) (row : Shown) (count : ℕ)
     → IsLegal opening es → Agrees t (outcome opening es) → list ≡ accepted opening es → IsNextRow t now o name row → count ≡ new_count t
     → IsNextVersion opening list (Key (record { name = name; kvno = row.kvno; count = count }))
 row_next opening t es list now o name row count legal agrees is next counted =
@@ -95,7 +95,7 @@ row_next opening t es list now o name row count legal agrees is next counted =
     let made : (new_key t o).kvno ≡ newest_kvno (unwrap_or (keys_held t name) []) + 1 =
     ap (λ (n : Name). newest_kvno (unwrap_or (keys_held t n) []) + 1) (sym next.target) in (
       shown_keys held.0,
-      ap (λ (cs : List Accepted). shown opening cs name) is ∙ (shows_held opening es name legal
+      ap (λ (cs : List AcceptedChange). shown opening cs name) is ∙ (shows_held opening es name legal
           ∙ (ap (λ (x : Option (List KeyRow)). option_map shown_keys x) (sym (agrees.principals name))
           ∙ ap (λ (x : Option (List KeyRow)). option_map shown_keys x) held.1)),
       sym (ap (λ (c : KeyChange). c.kvno) next.change) ∙ (made ∙ ap (λ (x : Option (List KeyRow)). newest_kvno (unwrap_or x []) + 1) held.1),
@@ -103,24 +103,24 @@ row_next opening t es list now o name row count legal agrees is next counted =
     )
 
 -- and a count above that table's
-pub count_next : (opening t : State) (es : List Entry) (list : List Accepted) (count : ℕ)
+pub count_next : (opening t : State) (es : List Entry) (list : List AcceptedChange) (count : ℕ)
     → IsLegal opening es → Agrees t (outcome opening es) → list ≡ accepted opening es → new_count t < count
     → IsNextVersion opening list (Count count)
 count_next opening t es list count legal agrees is above = subst (λ (n : ℕ). n < count) (count_shown opening t es list legal agrees is) above
 
 -- and so may the change of an update that the table takes unless its append fails
-pub taken_next : (opening t : State) (es : List Entry) (list : List Accepted) (u : KdcUpdate)
+pub taken_next : (opening t : State) (es : List Entry) (list : List AcceptedChange) (u : KdcUpdate)
     → IsLegal opening es → Agrees t (outcome opening es) → list ≡ accepted opening es → is_taken (update_verdict t u false) ≡ true
     → update_fits u ≡ true → IsNextVersion opening list (change_in u)
 taken_next opening t es list u legal agrees is taken fits =
     update_next opening t list u false
-    (λ name. ap (λ (cs : List Accepted). shown opening cs name) is ∙ (shows_held opening es name legal
+    (λ name. ap (λ (cs : List AcceptedChange). shown opening cs name) is ∙ (shows_held opening es name legal
     ∙ ap (λ (x : Option (List KeyRow)). option_map shown_keys x) (sym (agrees.principals name)))) taken fits
 
-next_more : (opening : State) (before rest : List Accepted) (c : Accepted) (b : Bool) → (b ≡ true → IsNextVersion opening before c)
+next_more : (opening : State) (before rest : List AcceptedChange) (c : AcceptedChange) (b : Bool) → (b ≡ true → IsNextVersion opening before c)
     → AreNextVersions opening (before ++ (if b then c ∷ [] else [])) rest → AreNextVersions opening before ((if b then c ∷ [] else []) ++ rest)
 next_more opening before rest c true here later = (here refl, later)
-next_more opening before rest c false here later = subst (λ (cs : List Accepted). AreNextVersions opening cs rest) (append-nil before) later
+next_more opening before rest c false here later = subst (λ (cs : List AcceptedChange). AreNextVersions opening cs rest) (append-nil before) later
 
 rise_on : (opening : State) (before es : List Entry) → IsLegal opening before → IsLegal (outcome opening before) es
     → AreWhole (outcome opening before) es → AreNextVersions opening (accepted opening before) (accepted (outcome opening before) es)
@@ -135,7 +135,7 @@ rise_on opening before (e ∷ es) legal more whole =
     rise_on opening all es (legal_on opening before e legal more.0) goes brings in
     let later : AreNextVersions opening (accepted opening before ++ entry_change s e) (accepted (step_entry s e) es) =
     subst (λ (t : State). AreNextVersions opening (accepted opening before ++ entry_change s e) (accepted t es)) (outcome_on opening before e)
-    (subst (λ (cs : List Accepted). AreNextVersions opening cs (accepted (outcome opening all) es)) (accepted_on opening before e) on) in
+    (subst (λ (cs : List AcceptedChange). AreNextVersions opening cs (accepted (outcome opening all) es)) (accepted_on opening before e) on) in
     next_more opening (accepted opening before) (accepted (step_entry s e) es) (change_by s e.event)
     (is_accepted e.event) (λ done. event_next opening before e.now e.io_failed e.event legal more.0 (whole.0 done) done) later
 

@@ -2,7 +2,7 @@
 use Rattle.std.proofs.Common.{◌≡◌, ℕ, ◌+◌, List, length, map, Option, Some, None, refl, sym, ◌∙◌, ap, subst}
 use Rattle.std.specs.Prelude.{option_map}
 use mathlib.Core.List.{IsPrefix}
-use Rattle.chpw_table.specs.declared.change.Accepted.{Accepted}
+use Rattle.chpw_table.specs.declared.change.AcceptedChange.{AcceptedChange}
 use Rattle.chpw_record.specs.declared.key.KeyRow.{KeyRow}
 use Rattle.chpw_table.specs.State.{State, keys_held, new_count}
 use Rattle.chpw_table.specs.Decision.{newest_kvno}
@@ -26,7 +26,7 @@ keys_shown policy seen (Some keys) = refl
 pub histories_shown : LookupsShowHistories
 histories_shown opening t history name legal agrees seen =
     let s : State = opening.state in
-    let list : List Accepted = accepted s history in
+    let list : List AcceptedChange = accepted s history in
     let count : ℕ = opening.seen + length list in
     let same : new_count t.state ≡ shown_count s list = agrees.count ∙ sym (shows_count s history legal) in
     ap (λ (x : Option Shown). option_map (lookup_with (shown_count s list) count) x) (shows_held s history name legal)
@@ -43,8 +43,8 @@ lookups_of_histories opening mine more name found h =
       legal = a.legal;
       list_is = a.list_is;
       shows = λ t agrees seen. h.shown
-          ∙ (ap (λ (l : List Accepted). lookup_after opening l name) a.list_is
-          ∙ histories_shown opening t a.history name a.legal agrees (seen ∙ ap (λ (l : List Accepted). opening.seen + length l) a.list_is));
-      saw = beginnings opening.state a.history mine.seen (subst (λ (l : List Accepted). IsPrefix mine.seen l) a.list_is h.later);
-      told = beginnings opening.state a.history mine.told (subst (λ (l : List Accepted). IsPrefix mine.told l) a.list_is h.after);
+          ∙ (ap (λ (l : List AcceptedChange). lookup_after opening l name) a.list_is
+          ∙ histories_shown opening t a.history name a.legal agrees (seen ∙ ap (λ (l : List AcceptedChange). opening.seen + length l) a.list_is));
+      saw = beginnings opening.state a.history mine.seen (subst (λ (l : List AcceptedChange). IsPrefix mine.seen l) a.list_is h.later);
+      told = beginnings opening.state a.history mine.told (subst (λ (l : List AcceptedChange). IsPrefix mine.told l) a.list_is h.after);
     }

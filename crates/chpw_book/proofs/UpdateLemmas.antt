@@ -7,7 +7,7 @@ use Rattle.chpw_rules.specs.declared.name.Name.{Name}
 use Rattle.chpw_rules.specs.Names.{is_name}
 use Rattle.chpw_rules.specs.Limits.{is_in, kvnos, iteration_counts}
 use Rattle.chpw_record.specs.declared.key.KeyRow.{KeyRow}
-use Rattle.chpw_table.specs.declared.change.Accepted.{Accepted}
+use Rattle.chpw_table.specs.declared.change.AcceptedChange.{AcceptedChange}
 use Rattle.chpw_table.specs.declared.updating.KdcUpdate.{KdcUpdate}
 use Rattle.chpw_table.specs.declared.updating.KdcUpdate.TheVariants.{Adopt, Lift, Remove}
 use Rattle.chpw_table.specs.declared.updating.UpdateVerdict.{UpdateVerdict}
@@ -97,8 +97,8 @@ held_shown : (held : Option (List KeyRow)) (row : Option Shown) → row ≡ opti
 held_shown None row is h = absurd (cc)
 held_shown (Some keys) row is h = (shown_keys keys, is)
 
--- where it is taken, it may come behind a list that shows what is held
-pub update_next : (opening s : State) (list : List Accepted) (u : KdcUpdate) (io : Bool)
+-- where it is taken, it may come after a list that shows what is held
+pub update_next : (opening s : State) (list : List AcceptedChange) (u : KdcUpdate) (io : Bool)
     → ((name : Name) → shown opening list name ≡ option_map shown_keys (keys_held s name))
     → is_taken (update_verdict s u io) ≡ true → update_fits u ≡ true → IsNextVersion opening list (change_in u)
 update_next opening s list (Adopt name key) io shows h fits =

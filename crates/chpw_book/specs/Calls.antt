@@ -1,5 +1,5 @@
 -- What one call does, under the lock and at a desk. At a desk other workers may have called before, so the
--- history that the entry stands after isn't known there.
+-- history that the entry comes after isn't known there.
 use Rattle.std.specs.Prelude.{◌≡◌, ◌<◌, ℕ, List, [], ◌∷◌, ◌++◌, true, false}
 use Rattle.chpw_table.specs.declared.times.Moment.{Moment}
 use Rattle.chpw_table.specs.declared.request.Opened.{Opened}
@@ -12,7 +12,7 @@ use Rattle.chpw_table.specs.declared.updating.UpdateFault.{UpdateFault}
 use Rattle.chpw_table.specs.declared.updating.UpdateFault.TheVariants as table_fault
 use Rattle.chpw_table.specs.Agreement.{Held}
 use Rattle.chpw_table.specs.Updates.{is_taken, name_in, update_verdict}
-use Rattle.chpw_table.specs.declared.change.Accepted.{Accepted}
+use Rattle.chpw_table.specs.declared.change.AcceptedChange.{AcceptedChange}
 use Rattle.chpw_table.specs.Versions.{accepted}
 use Rattle.chpw_table.specs.Updating.{adds_principal, has_too_many}
 use Rattle.chpw_table.specs.History.{IsLegal, is_accepted, outcome, missing}
@@ -82,12 +82,12 @@ abbrev pub HasRoomFor : Held → KdcUpdate → Type 0
 HasRoomFor t u = (t.events < t.max_entries) × (has_too_many t u ≡ false)
 
 -- it is taken unless its append fails, but the snapshots refuse it after these changes
-abbrev pub IsKeptBack : State → State → List Accepted → KdcUpdate → NotPrepared → Type 0
+abbrev pub IsKeptBack : State → State → List AcceptedChange → KdcUpdate → NotPrepared → Type 0
 IsKeptBack opening s list u fault = (is_taken (update_verdict s u false) ≡ true) × IsNotPrepared opening list (name_in u) fault
 
 -- An update is refused for a full table; or, if it has room, because it would add a principal to as many as there may be;
 -- or, where it would be taken, because lookups have no row for its name and get none; or for want of memory.
-abbrev pub IsUpdateFault : State → List Accepted → Held → KdcUpdate → DeskUpdateFault → Type 0
+abbrev pub IsUpdateFault : State → List AcceptedChange → Held → KdcUpdate → DeskUpdateFault → Type 0
 IsUpdateFault opening list t u update_fault.Full = t.events ≡ t.max_entries
 IsUpdateFault opening list t u update_fault.TooMany = (t.events < t.max_entries) × (has_too_many t u ≡ true)
 IsUpdateFault opening list t u update_fault.Composite = HasRoomFor t u × IsKeptBack opening t.state list u snapshots_fault.Composite

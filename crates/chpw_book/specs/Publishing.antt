@@ -12,7 +12,7 @@ use Rattle.chpw_table.specs.State.{State, keys_held, kept_count, new_count}
 use Rattle.chpw_table.specs.Agreement.{Held}
 use Rattle.chpw_table.specs.Decision.{newest_kvno}
 use Rattle.chpw_table.specs.History.{is_accepted}
-use Rattle.chpw_table.specs.declared.change.Accepted.{Accepted}
+use Rattle.chpw_table.specs.declared.change.AcceptedChange.{AcceptedChange}
 use Rattle.chpw_table.specs.Versions.{change_by, accepted}
 use Rattle.chpw_changelog.specs.declared.change.NumberedChange.{NumberedChange}
 use Rattle.chpw_changelog.specs.declared.change.NumberedChange.TheVariants.{Keys, Count}
@@ -29,7 +29,7 @@ use Rattle.chpw_book.specs.Recorded.{RecordedView, IsLinearized, Enters, Grows, 
 -- what is under the lock: the table with its history, and the published list
 pub record BookView : Type 0 where
   pub kept : RecordedView
-  pub list : List Accepted
+  pub list : List AcceptedChange
 
 -- over this table, with no entry yet, for this many workers
 abbrev pub new_book : Held → ℕ → Option (List ℕ) → BookView
@@ -41,7 +41,7 @@ pub record IsPublished (opening : State) (history : List Entry) (broken : Bool) 
   pub free : broken ≡ false → s.waiting ≡ None
 
 -- the change is prepared, if one is made
-abbrev pub with_waiting : Bool → Accepted → PublishedList → PublishedList
+abbrev pub with_waiting : Bool → AcceptedChange → PublishedList → PublishedList
 with_waiting made c s = if made then record s { waiting = Some c } else s
 
 -- an event leaves the published list, and its change is prepared if it was accepted; otherwise none is, unless the
@@ -64,7 +64,7 @@ pub record IsRecorded (opening : State) (workers : ℕ) (prior : List ℕ)
   pub few : length later.history < 2 ^ 31
 
 -- the prepared change has joined the list
-abbrev pub joined : Option Accepted → List Accepted → List Accepted
+abbrev pub joined : Option AcceptedChange → List AcceptedChange → List AcceptedChange
 joined None list = list
 joined (Some c) list = list ++ c ∷ []
 
@@ -72,7 +72,7 @@ abbrev pub published : Bool → PublishedList → PublishedList
 published done s = if done then record { list = joined s.waiting s.list; waiting = None } else s
 
 -- the pass learns this list after a change of its own
-abbrev pub told_list : Bool → List Accepted → Known → Known
+abbrev pub told_list : Bool → List AcceptedChange → Known → Known
 told_list done list k = if done then record k { told = list; own = Some list } else k
 
 -- A call whose event was accepted or not, with this history before it and that one after: what the pass had learnt
@@ -102,10 +102,10 @@ kvno_in (Count count) = None
 
 -- nothing was learnt and there is no version; or this is the version in the last change of what was learnt, unless that
 -- is empty
-abbrev pub IsKvnoTold : State → Option (List Accepted) → Option ℕ → Type 0
+abbrev pub IsKvnoTold : State → Option (List AcceptedChange) → Option ℕ → Type 0
 IsKvnoTold opening own kvno =
     ((own ≡ None) × (kvno ≡ None))
-    ⊎ ((front : List Accepted) × (own ≡ Some front) × (change : NumberedChange) × (kvno ≡ kvno_in change) × EndsWith opening front change)
+    ⊎ ((front : List AcceptedChange) × (own ≡ Some front) × (change : NumberedChange) × (kvno ≡ kvno_in change) × EndsWith opening front change)
 
 -- the row of a name of which this is shown
 abbrev pub row_showing : Name → Lookup → Row

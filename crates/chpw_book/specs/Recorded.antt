@@ -26,7 +26,7 @@ new_recorded t workers told = record { table = t; history = []; counts = replica
 
 -- What the workers did at the same time equals what one thread does with the history, entry by entry from
 -- the opening: it gives each verdict stored and leads to the table. What each accepted entry brings in is
--- whole; each worker's calls stand in it once each, numbered; what the sink tells is what it told before and then its journal.
+-- whole; each worker's calls are in it once each, numbered; what the sink tells is what it told before and then its journal.
 pub record IsLinearized (opening : State) (workers : ℕ) (prior : List ℕ) (b : RecordedView) : Type 0 where
   pub legal : IsLegal opening b.history
   pub agrees : Agrees b.table.state (outcome opening b.history)

@@ -2,7 +2,7 @@
 use Rattle.std.specs.Prelude.{◌≡◌, ◌≤◌, List, [], ◌++◌, false, Some}
 use Rattle.chpw_rules.specs.declared.name.Name.{Name}
 use Rattle.chpw_table.specs.declared.history.Entry.{Entry}
-use Rattle.chpw_table.specs.declared.change.Accepted.{Accepted}
+use Rattle.chpw_table.specs.declared.change.AcceptedChange.{AcceptedChange}
 use Rattle.chpw_table.specs.State.{State}
 use Rattle.chpw_table.specs.History.{IsLegal}
 use Rattle.chpw_table.specs.Versions.{Shown, accepted, shown, shown_count}
@@ -17,12 +17,12 @@ VersionsRise = (opening : State) (history : List Entry) → IsLegal opening hist
 
 -- if a list goes on so, what it shows of a name is no older, unless the name is removed
 abbrev pub LaterListsShowNoOlder : Type 0
-LaterListsShowNoOlder = (opening : State) (before more : List Accepted) →
+LaterListsShowNoOlder = (opening : State) (before more : List AcceptedChange) →
     (name : Name) (row : Shown) → AreNextVersions opening before more → is_removed name more ≡ false →
     shown opening before name ≡ Some row →
     (later : Shown) × (shown opening (before ++ more) name ≡ Some later) × (row.kvno ≤ later.kvno)
 
 -- and its count of new keys is no lower
 abbrev pub LaterListsShowNoLower : Type 0
-LaterListsShowNoLower = (opening : State) (before more : List Accepted) → AreNextVersions opening before more →
+LaterListsShowNoLower = (opening : State) (before more : List AcceptedChange) → AreNextVersions opening before more →
     shown_count opening before ≤ shown_count opening (before ++ more)

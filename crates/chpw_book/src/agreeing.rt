@@ -39,7 +39,7 @@ pub fn agree(history: &[Entry], worker: u8, receipts: &[Receipt]) -> Option<u32>
     }
 }
 
-// Where an entry stands: the worker's entries before it, its position, and the accepted entries before it.
+// The place of an entry: the worker's entries before it, its position, and the accepted entries before it.
 #[derive(Clone, Copy, Drop)]
 struct Standing {
     count: u32,
@@ -47,7 +47,7 @@ struct Standing {
     basis: u32,
 }
 
-// Whether this is the receipt of the entry that stands here.
+// Whether this is the receipt of the entry at this place.
 fn is_of(receipt: &Receipt, entry: &Entry, standing: Standing) -> bool
     requires room { standing.count < 2 ^ 32 - 1 }
     ensures same { Decides result (receipt.now ≡ record {

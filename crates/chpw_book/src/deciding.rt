@@ -1,32 +1,28 @@
 //! One decision of the table, with its entry.
-ghost use Rattle.std.specs.Prelude.{◌≡◌, ◌<◌, IfOk, IfErr, OnOk, OnErr, true, length, vec_len, vec_capacity};
+ghost use Rattle.std.specs.Prelude.{◌≡◌, ◌<◌, IfOk, IfErr, OnOk, OnErr, vec_len, vec_capacity};
 ghost use mathlib.Core.List.{IsPrefix};
 ghost use Rattle.chpw_table.specs.declared.outcome.DecideFault.TheVariants.{Memory};
 ghost use Rattle.chpw_changelog.specs.Pens.{opening_state};
 ghost use Rattle.chpw_table.specs.declared.history.Event.TheVariants.{Ask};
 ghost use Rattle.chpw_table.specs.declared.verdict.Verdict.TheVariants.{Done};
-ghost use Rattle.chpw_table.specs.State.{keys_held};
 ghost use Rattle.chpw_table.specs.History.{IsLegal, outcome};
 ghost use Rattle.chpw_table.specs.Versions.{change_by};
 ghost use Rattle.chpw_table.specs.Agreement.{Agrees};
 ghost use Rattle.chpw_table.specs.Preparing.{IsReady};
 ghost use Rattle.chpw_table.specs.Times.{IsMoment};
-ghost use Rattle.chpw_table.specs.Requests.{target_of};
 ghost use Rattle.chpw_table.specs.Refusals.{IsRefused};
 ghost use Rattle.chpw_table.specs.Verdicts.{is_done};
-ghost use Rattle.chpw_journal.specs.Runs.{IsWholeKey};
 ghost use Rattle.chpw_book.specs.Recorded.{IsLinearized};
 ghost use Rattle.chpw_book.specs.Publishing.{IsRecorded, IsPublished, with_waiting};
-ghost use Rattle.chpw_book.specs.Wholeness.{FirstIsWhole, NewestIsWhole};
 
+use crate::known::know_accepted_key;
 use crate::naming::DeskName;
 use crate::pass::Pass;
 use crate::recorded::RecordedTable;
-use chpw_rules::Name;
 use chpw_snapshots::SnapshotWriter;
 use chpw_table::{
-    Body, DecideFault, Entry, Event, JournalSink, KeyRow, Moment, Opened, Outcome, Prepared,
-    Receipt, Refused, Table, Verdict,
+    DecideFault, Entry, Event, JournalSink, Moment, Opened, Outcome, Prepared, Receipt, Refused,
+    Table, Verdict,
 };
 use std::alloc::AllocError;
 
@@ -68,7 +64,7 @@ impl<D: DeskName, S: JournalSink> RecordedTable<D, S> {
             io_failed,
             opened,
         } = self.table.finish(prepared, &mut self.sink);
-        read_newest(&self.table, &opened, verdict);
+        know_accepted_key(&self.table, &opened, verdict);
         let event = Event::Ask { opened, verdict };
         let copy = Event::Ask {
             opened: copy,
@@ -102,63 +98,6 @@ fn prepare<D: DeskName>(
         Ok(prepared)
     } else {
         Err(given_up(prepared))
-    }
-}
-
-// If the request was accepted: reads the newest key of its target, which has the lengths of its type as each key that a
-// table holds.
-fn read_newest(table: &Table, opened: &Opened, verdict: Verdict)
-    ensures whole { is_done verdict ≡ true
-        → NewestIsWhole (keys_held table.now.state (target_of opened.now).name) }
-{
-    if verdict != Verdict::Done {
-        return;
-    }
-    read_newest_of(table, target_name(opened));
-}
-
-/// Reads the newest key of a name, if it has one.
-pub(crate) fn read_newest_of(table: &Table, name: &Name)
-    ensures whole { NewestIsWhole (keys_held table.now.state name.now) }
-{
-    match table.keys_of(name) {
-        None => {}
-        Some(keys) => read_first(keys),
-    }
-}
-
-// The first of some keys has the lengths of its type.
-fn read_first(keys: &[KeyRow])
-    ensures whole { FirstIsWhole keys.now }
-{
-    match keys {
-        [] => {}
-        [newest, ..] => read_key(newest),
-    }
-}
-
-fn read_key(key: &KeyRow)
-    ensures whole { IsWholeKey key.now }
-{
-    read_bytes(&key.aes128);
-    read_bytes(&key.aes256);
-}
-
-// An array has as many bytes as its type says.
-fn read_bytes<const N: usize>(bytes: &[u8; N])
-    ensures length { length bytes.now ≡ N }
-{}
-
-// The principal whose password was to be changed.
-fn target_name(opened: &Opened) -> &Name
-    ensures value { result.now ≡ (target_of opened.now).name }
-{
-    match &opened.body {
-        Body::Ask {
-            target: Some(target),
-            ..
-        } => &target.name,
-        _ => &opened.client,
     }
 }
 

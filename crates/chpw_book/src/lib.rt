@@ -9,6 +9,7 @@ mod closing;
 mod deciding;
 mod desk;
 mod history;
+mod known;
 pub mod laws;
 mod naming;
 mod newest;

@@ -3,7 +3,7 @@ ghost use Rattle.std.specs.Prelude.{◌≡◌, ◌<◌, IfOk, IfErr, OnOk, OnErr
 ghost use mathlib.Core.List.{IsPrefix};
 ghost use Rattle.chpw_rules.specs.Limits.{is_in, iteration_counts};
 ghost use Rattle.chpw_changelog.specs.Pens.{opening_state};
-ghost use Rattle.chpw_table.specs.declared.change.Accepted.TheVariants.{Count};
+ghost use Rattle.chpw_table.specs.declared.change.AcceptedChange.TheVariants.{Count};
 ghost use Rattle.chpw_table.specs.declared.history.Event.TheVariants.{Raise};
 ghost use Rattle.chpw_table.specs.History.{IsLegal, outcome};
 ghost use Rattle.chpw_table.specs.Agreement.{Agrees};

@@ -13,7 +13,7 @@ ghost use Rattle.chpw_book.specs.Calls.{IsUpdateFault};
 ghost use Rattle.chpw_book.specs.Recorded.{IsLinearized};
 ghost use Rattle.chpw_book.specs.Publishing.{IsRecorded, IsPublished, with_waiting};
 
-use crate::deciding::read_newest_of;
+use crate::known::know_newest_key;
 use crate::naming::DeskName;
 use crate::pass::Pass;
 use crate::recorded::RecordedTable;
@@ -139,7 +139,7 @@ impl<D: DeskName, S: JournalSink> RecordedTable<D, S> {
         } = self
             .table
             .finish_update(prepared, &mut self.sink, durability);
-        read_newest_of(&self.table, update.name());
+        know_newest_key(&self.table, update.name());
         let event = Event::Update { update, verdict };
         let copy = Event::Update {
             update: copy,

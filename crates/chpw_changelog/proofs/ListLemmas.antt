@@ -3,11 +3,11 @@ use Rattle.std.proofs.Common.{◌≡◌, ℕ, ◌==◌, ◌<◌, ◌≤◌, Bool
 use Rattle.std.proofs.Common.{refl, ap, sym, ◌∙◌, subst, arith, append_assoc, length-append, append-nil}
 use Rattle.std.proofs.lemmas.Bool.Decides.{nat_tests}
 use mathlib.Core.List.{IsPrefix}
-use Rattle.chpw_table.specs.declared.change.Accepted.{Accepted}
+use Rattle.chpw_table.specs.declared.change.AcceptedChange.{AcceptedChange}
 use Rattle.chpw_changelog.specs.declared.entry.LogEntry.{LogEntry}
 use Rattle.chpw_changelog.specs.Pens.{written_by, pen_after, IsUnspent, newest_or}
 
-written_step : (b : Bool) (c : Accepted) (a1 a0 r1 r0 : List Accepted) (p1 p0 : ℕ) (ys : List LogEntry)
+written_step : (b : Bool) (c : AcceptedChange) (a1 a0 r1 r0 : List AcceptedChange) (p1 p0 : ℕ) (ys : List LogEntry)
     → a1 ≡ r1 ++ written_by p1 ys → a0 ≡ r0 ++ written_by p0 ys
     → (if b then c ∷ a1 else a0) ≡ (if b then c ∷ r1 else r0) ++ written_by (if b then p1 else p0) ys
 written_step true c a1 a0 r1 r0 p1 p0 ys h1 h0 = ap (λ w. c ∷ w) h1
@@ -101,14 +101,15 @@ prefix_same (x ∷ xs) (y ∷ ys) (z ∷ zs) p q e =
     let rest = prefix_same xs ys zs (p.0, cc (p.1)) (q.0, cc (q.1)) (omega arith) in
     cc (heads, rest)
 
--- a list f and the list l of one log: f begins l with c behind it where it is shorter than that, or as long and ends with c
-pub begins_shorter : (f l z : List Accepted) (c : Accepted) → IsPrefix f z → IsPrefix l z → length f < length (l ++ c ∷ []) → IsPrefix f (l ++ c ∷ [])
+-- a list f and the list l of one log: f begins l with c after it where it is shorter than that, or as long and ends with c
+pub begins_shorter : (f l z : List AcceptedChange) (c : AcceptedChange)
+    → IsPrefix f z → IsPrefix l z → length f < length (l ++ c ∷ []) → IsPrefix f (l ++ c ∷ [])
 begins_shorter f l z c pf pl less =
     let a = length-append l (c ∷ []) in
     prefix_trans f l (l ++ c ∷ []) (prefix_shorter f l z pf pl (omega (arith, a, less))) (c ∷ [], refl)
 
-pub begins_whole : (f l z : List Accepted) (c d : Accepted) → IsPrefix f z → IsPrefix l z
-    → length f ≡ length (l ++ c ∷ []) → (rest : List Accepted) → f ≡ rest ++ d ∷ [] → d ≡ c → IsPrefix f (l ++ c ∷ [])
+pub begins_whole : (f l z : List AcceptedChange) (c d : AcceptedChange) → IsPrefix f z → IsPrefix l z
+    → length f ≡ length (l ++ c ∷ []) → (rest : List AcceptedChange) → f ≡ rest ++ d ∷ [] → d ≡ c → IsPrefix f (l ++ c ∷ [])
 begins_whole f l z c d pf pl e rest is same =
     let a = length-append l (c ∷ []) in
     let b = length-append rest (d ∷ []) in

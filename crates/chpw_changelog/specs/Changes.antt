@@ -3,8 +3,8 @@ use Rattle.std.specs.Prelude.{◌≡◌, ℕ, zero, suc, ◌<◌, Bool, false, L
 use Rattle.chpw_rules.specs.declared.name.Name.{Name}
 use Rattle.chpw_table.specs.declared.table.Principal.{Principal}
 use Rattle.chpw_table.specs.declared.change.KeyChange.{KeyChange}
-use Rattle.chpw_table.specs.declared.change.Accepted.{Accepted}
-use Rattle.chpw_table.specs.declared.change.Accepted.TheVariants as accepted
+use Rattle.chpw_table.specs.declared.change.AcceptedChange.{AcceptedChange}
+use Rattle.chpw_table.specs.declared.change.AcceptedChange.TheVariants as accepted
 use Rattle.chpw_table.specs.State.{State}
 use Rattle.chpw_changelog.specs.declared.change.Whose.{Whose}
 use Rattle.chpw_changelog.specs.declared.change.Whose.TheVariants.{Number, Short}
@@ -41,17 +41,17 @@ abbrev pub key_change : Name → ℕ → ℕ → KeyChange
 key_change name kvno count = record { name = name; kvno = kvno; count = count }
 
 -- the change of this name's keys
-abbrev pub change_of_name : Name → KeysChange → Accepted
+abbrev pub change_of_name : Name → KeysChange → AcceptedChange
 change_of_name name (Key kvno count) = accepted.Key (key_change name kvno count)
 change_of_name name (Adopted kvno count) = accepted.Adopted (key_change name kvno count)
 change_of_name name (Lifted kvno) = accepted.Lifted name kvno
 change_of_name name Removed = accepted.Removed name
 
 -- any change, with its principal's name
-abbrev pub named : State → NumberedChange → Accepted
+abbrev pub named : State → NumberedChange → AcceptedChange
 named opening (Keys whose change) = change_of_name (name_whose opening whose) change
 named opening (Count n) = accepted.Count n
 
 -- the list ends with this change, unless it is empty
-abbrev pub EndsWith : State → List Accepted → NumberedChange → Type 0
-EndsWith opening list c = 0 < length list → (rest : List Accepted) × (list ≡ rest ++ named opening c ∷ [])
+abbrev pub EndsWith : State → List AcceptedChange → NumberedChange → Type 0
+EndsWith opening list c = 0 < length list → (rest : List AcceptedChange) × (list ≡ rest ++ named opening c ∷ [])

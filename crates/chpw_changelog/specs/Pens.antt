@@ -2,12 +2,12 @@
 use Rattle.std.specs.Prelude.{◌≡◌, ℕ, ◌==◌, List, [], ◌∷◌, if◌then◌else◌, false, pos}
 use Rattle.chpw_table.specs.State.{State}
 use Rattle.chpw_table.specs.Agreement.{Held}
-use Rattle.chpw_table.specs.declared.change.Accepted.{Accepted}
-use Rattle.chpw_table.specs.declared.change.Accepted.TheVariants.{Count}
+use Rattle.chpw_table.specs.declared.change.AcceptedChange.{AcceptedChange}
+use Rattle.chpw_table.specs.declared.change.AcceptedChange.TheVariants.{Count}
 use Rattle.chpw_changelog.specs.declared.entry.LogEntry.{LogEntry}
 
 -- the changes that this pen, and the pens that took over from it, have written
-abbrev pub written_by : ℕ → List LogEntry → List Accepted
+abbrev pub written_by : ℕ → List LogEntry → List AcceptedChange
 written_by pen [] = []
 written_by pen (e ∷ es) = if e.by == pen then e.change ∷ written_by e.next es else written_by pen es
 
@@ -61,5 +61,5 @@ abbrev pub opening_state : List LogEntry → State
 opening_state root = (opening_table root).state
 
 -- the accepted changes of that list in a log
-abbrev pub changes_in : List LogEntry → List LogEntry → List Accepted
+abbrev pub changes_in : List LogEntry → List LogEntry → List AcceptedChange
 changes_in root log = written_by (first_pen root) log

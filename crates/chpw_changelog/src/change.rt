@@ -1,4 +1,4 @@
-//! Accepted changes, as code carries them: with no memory of their own.
+//! AcceptedChange changes, as code carries them: with no memory of their own.
 ghost use Rattle.std.specs.Prelude.{◌≡◌, IsTrue};
 ghost use Rattle.chpw_changelog.specs.declared.change.NumberedChange.TheVariants.{Count};
 
@@ -26,7 +26,7 @@ pub enum KeysChange {
     Removed,
 }
 
-/// What was accepted (`chpw_table::Accepted`).
+/// What was accepted (`chpw_table::AcceptedChange`).
 #[derive(Clone, Copy, Drop)]
 pub enum NumberedChange {
     /// A change of a principal's keys.

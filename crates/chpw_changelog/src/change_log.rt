@@ -29,12 +29,12 @@ pub struct ChangeLog<D: LogName> {
 impl<D: LogName> Model for ChangeLog<D> {
     ghost use Rattle.std.specs.Prelude.{◌≡◌, List, length};
     ghost use Rattle.logbook.specs.Pages.{may_write};
-    ghost use Rattle.chpw_table.specs.declared.change.Accepted.{Accepted};
+    ghost use Rattle.chpw_table.specs.declared.change.AcceptedChange.{AcceptedChange};
     ghost use Rattle.chpw_changelog.specs.Changes.{EndsWith};
     ghost use Rattle.chpw_changelog.specs.Pens.{first_pen, opening_state, changes_in, pen_after};
     ghost use Rattle.chpw_changelog.specs.Rules.{head_of};
 
-    ghost Value = { List Accepted };
+    ghost Value = { List AcceptedChange };
 
     ghost view = { λ k. changes_in D.root k.seen.log };
 

@@ -20,11 +20,11 @@ pub struct Front<D: LogName> {
 
 impl<D: LogName> Model for Front<D> {
     ghost use Rattle.std.specs.Prelude.{◌≡◌, List, length};
-    ghost use Rattle.chpw_table.specs.declared.change.Accepted.{Accepted};
+    ghost use Rattle.chpw_table.specs.declared.change.AcceptedChange.{AcceptedChange};
     ghost use Rattle.chpw_changelog.specs.Changes.{EndsWith};
     ghost use Rattle.chpw_changelog.specs.Pens.{opening_state, changes_in};
 
-    ghost Value = { List Accepted };
+    ghost Value = { List AcceptedChange };
 
     ghost view = { λ f. changes_in D.root f.seen.log };
 

@@ -9,7 +9,7 @@ use std::cmp::Ordering;
 /// The most bytes of such a name, which a component may have.
 pub const SHORT_NAME_LIMIT: usize = 128;
 
-/// A name of one component of at most 128 bytes. Behind them there are zeros.
+/// A name of one component of at most 128 bytes. After them there are zeros.
 #[derive(Clone, Copy, Drop)]
 pub struct ShortName {
     len: usize,

@@ -28,7 +28,7 @@ use Rattle.chpw_client.specs.Questions.{IsAskable, Question}
 use Rattle.chpw_client.specs.Requests.{ap_req_text, authenticator, bit, change, longest_ap_req, longest_krb_priv}
 use Rattle.chpw_client.specs.Requests.{loopback, principal, priv_text, private_part, ticket, ticket_part, ticket_text, user_data}
 use Rattle.chpw_client.specs.Words.{drawn_key}
-use Rattle.chpw_client.specs.declared.drawing.Drawing.{Drawing}
+use Rattle.chpw_client.specs.declared.drawing.RequestWords.{RequestWords}
 use Rattle.chpw_client.proofs.LengthLemmas.{close_fits, closest, texts_are_close}
 
 -- ---- names
@@ -73,34 +73,34 @@ initial_range false = refl
 -- ---- the ticket
 
 -- as many words as are drawn for each
-pub record HasSizes (w : Drawing) : Type 0 where
+pub record HasSizes (w : RequestWords) : Type 0 where
   pub session : length w.session ≡ 8
   pub subkey : length w.subkey ≡ 8
   pub ticket : length w.ticket ≡ 4
   pub authenticator : length w.authenticator ≡ 4
   pub private : length w.private ≡ 4
 
-ticket_part_close : (q : Question) (w : Drawing) → IsAskable q → HasSizes w
+ticket_part_close : (q : Question) (w : RequestWords) → IsAskable q → HasSizes w
     → closest types.enc_ticket_part (enc_ticket_part_value (ticket_part q w)) ≤ 1560
 ticket_part_close q w ask sizes =
     let name = principal_close q.client ask.client in
     let key = length-word_bytes w.session in
     omega (arith, name, key, ask.realm, sizes.session)
 
-ticket_part_range : (q : Question) (w : Drawing) → IsAskable q
+ticket_part_range : (q : Question) (w : RequestWords) → IsAskable q
     → is_in_range types.enc_ticket_part (enc_ticket_part_value (ticket_part q w)) ≡ true
 ticket_part_range q w ask =
     let start = time_range q.now.seconds (omega (arith, ints, ask.start)) (omega (arith, ints, ask.end)) in
     let end = time_range _ (omega (arith, ints, ask.start)) (omega (arith, ints, ask.end)) in
     and_both (initial_range q.initial) (and_both (principal_range q.client) (and_both start (and_both end refl)))
 
-pub ticket_part_fits : (q : Question) (w : Drawing) → IsAskable q → HasSizes w
+pub ticket_part_fits : (q : Question) (w : RequestWords) → IsAskable q → HasSizes w
     → fits types.enc_ticket_part (enc_ticket_part_value (ticket_part q w)) ≡ true
 ticket_part_fits q w ask sizes =
     let close = ticket_part_close q w ask sizes in
     close_fits _ _ (ticket_part_range q w ask) (omega (arith, close))
 
-ticket_part_short : (q : Question) (w : Drawing) → IsAskable q → HasSizes w
+ticket_part_short : (q : Question) (w : RequestWords) → IsAskable q → HasSizes w
     → length (text types.enc_ticket_part (enc_ticket_part_value (ticket_part q w))) ≤ 1560
 ticket_part_short q w ask sizes =
     let close = ticket_part_close q w ask sizes in
@@ -111,14 +111,14 @@ ticket_part_short q w ask sizes =
 sixteen : (words : List ℕ) → length words ≡ 4 → length (word_bytes words) ≡ 16
 sixteen words n = omega (arith, length-word_bytes words, n)
 
-pub ticket_fits : (q : Question) (w : Drawing) → IsAskable q → HasSizes w
+pub ticket_fits : (q : Question) (w : RequestWords) → IsAskable q → HasSizes w
     → fits types.ticket (ticket_value (ticket q w)) ≡ true
 ticket_fits q w ask sizes =
     let short = ticket_part_short q w ask sizes in
     tickets_fit q.realm (ticket_part q w) q.service (word_bytes w.ticket) (sixteen w.ticket sizes.ticket) ask.kvno
     (omega (arith, short, ask.realm))
 
-ticket_close : (q : Question) (w : Drawing) → IsAskable q → HasSizes w
+ticket_close : (q : Question) (w : RequestWords) → IsAskable q → HasSizes w
     → closest types.ticket (ticket_value (ticket q w)) ≤ 2010
 ticket_close q w ask sizes =
     let v = enc_ticket_part_value (ticket_part q w) in
@@ -128,26 +128,26 @@ ticket_close q w ask sizes =
 
 -- ---- the AP-REQ
 
-authenticator_close : (q : Question) (w : Drawing) → IsAskable q → HasSizes w
+authenticator_close : (q : Question) (w : RequestWords) → IsAskable q → HasSizes w
     → closest types.authenticator (authenticator_value (authenticator q w)) ≤ 1540
 authenticator_close q w ask sizes =
     let name = principal_close q.client ask.client in
     let key = length-word_bytes w.subkey in
     omega (arith, name, key, ask.realm, sizes.subkey)
 
-authenticator_range : (q : Question) (w : Drawing) → IsAskable q
+authenticator_range : (q : Question) (w : RequestWords) → IsAskable q
     → is_in_range types.authenticator (authenticator_value (authenticator q w)) ≡ true
 authenticator_range q w ask =
     let now = time_range q.now.seconds (omega (arith, ints, ask.start)) (omega (arith, ints, ask.end)) in
     and_both (principal_range q.client) (and_both (micros_range q.now.micros ask.micros) (and_both now refl))
 
-pub authenticator_fits : (q : Question) (w : Drawing) → IsAskable q → HasSizes w
+pub authenticator_fits : (q : Question) (w : RequestWords) → IsAskable q → HasSizes w
     → fits types.authenticator (authenticator_value (authenticator q w)) ≡ true
 authenticator_fits q w ask sizes =
     let close = authenticator_close q w ask sizes in
     close_fits _ _ (authenticator_range q w ask) (omega (arith, close))
 
-authenticator_short : (q : Question) (w : Drawing) → IsAskable q → HasSizes w
+authenticator_short : (q : Question) (w : RequestWords) → IsAskable q → HasSizes w
     → length (text types.authenticator (authenticator_value (authenticator q w))) ≤ 1540
 authenticator_short q w ask sizes =
     let close = authenticator_close q w ask sizes in
@@ -155,7 +155,7 @@ authenticator_short q w ask sizes =
     omega (arith, close, short)
 
 -- with any ticket that the ticket's text spells
-pub ap_req_fits : (q : Question) (w : Drawing) (t : Ticket) → IsAskable q → HasSizes w
+pub ap_req_fits : (q : Question) (w : RequestWords) (t : Ticket) → IsAskable q → HasSizes w
     → SpellsTicket (ticket_text q w) t
     → fits types.ap_req (ap_req_value (ap_req_of t
     (bit protocol.mutual_required) (authenticator q w) (drawn_key w.session) (word_bytes w.authenticator))) ≡ true
@@ -167,7 +167,7 @@ ap_req_fits q w t ask sizes spelled =
     (sixteen w.authenticator sizes.authenticator) (omega arith) (ticket_fits q w ask sizes) spelled
     (omega (arith, close, long, short))
 
-pub ap_req_short : (q : Question) (w : Drawing) (t : Ticket) → IsAskable q → HasSizes w
+pub ap_req_short : (q : Question) (w : RequestWords) (t : Ticket) → IsAskable q → HasSizes w
     → SpellsTicket (ticket_text q w) t → length (ap_req_text t q w) ≤ longest_ap_req
 ap_req_short q w t ask sizes spelled =
     let v = authenticator_value (authenticator q w) in
@@ -184,7 +184,7 @@ ap_req_short q w t ask sizes spelled =
     (omega (arith, close, short, len)) in
     omega (arith, all, close, short, len)
 
-pub ap_req_some : (q : Question) (w : Drawing) (t : Ticket) → 0 < length (ap_req_text t q w)
+pub ap_req_some : (q : Question) (w : RequestWords) (t : Ticket) → 0 < length (ap_req_text t q w)
 ap_req_some q w t = some_text types.ap_req (ap_req_value (ap_req_of t
     (bit protocol.mutual_required) (authenticator q w) (drawn_key w.session) (word_bytes w.authenticator))) refl
 
@@ -245,13 +245,13 @@ private_part_short q ask =
     let part = texts_are_close types.enc_krb_priv_part (enc_krb_priv_part_value (private_part q)) (omega (arith, short)) in
     omega (arith, short, part)
 
-pub priv_fits : (q : Question) (w : Drawing) → IsAskable q → HasSizes w
+pub priv_fits : (q : Question) (w : RequestWords) → IsAskable q → HasSizes w
     → fits types.krb_priv (krb_priv_value (priv_of (private_part q) (drawn_key w.subkey) (word_bytes w.private))) ≡ true
 priv_fits q w ask sizes =
     let short = private_part_short q ask in
     privs_fit (private_part q) (drawn_key w.subkey) (word_bytes w.private) (sixteen w.private sizes.private) (omega (arith, short))
 
-pub priv_short : (q : Question) (w : Drawing) → IsAskable q → HasSizes w → length (priv_text q w) ≤ longest_krb_priv
+pub priv_short : (q : Question) (w : RequestWords) → IsAskable q → HasSizes w → length (priv_text q w) ≤ longest_krb_priv
 priv_short q w ask sizes =
     let v = enc_krb_priv_part_value (private_part q) in
     let short = private_part_short q ask in

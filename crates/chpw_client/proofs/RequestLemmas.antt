@@ -13,7 +13,7 @@ use Rattle.krb_msgs.specs.Making.{SpellsTicket, ap_req_of, priv_of, ticket_of, w
 use Rattle.chpw_client.specs.Questions.{Question}
 use Rattle.chpw_client.specs.Requests.{ap_req_text, authenticator, bit, priv_text, private_part, ticket_part, ticket_text}
 use Rattle.chpw_client.specs.Words.{drawn_key}
-use Rattle.chpw_client.specs.declared.drawing.Drawing.{Drawing}
+use Rattle.chpw_client.specs.declared.drawing.RequestWords.{RequestWords}
 use Rattle.krb_protocol.specs.Numbers as protocol
 
 -- the text of a ticket that fits spells it
@@ -23,18 +23,18 @@ ticket_taken made bytes fit is =
     subst (λ (z : List ℕ). SpellsTicket z made) (sym is) (text_spells types.ticket refl (ticket_value made) fit)
 
 -- the ticket's text, by its parts
-pub same_ticket : (q : Question) (w : Drawing) (part : EncTicketPart) (c bytes : List ℕ) → part ≡ ticket_part q w → c ≡ word_bytes w.ticket
+pub same_ticket : (q : Question) (w : RequestWords) (part : EncTicketPart) (c bytes : List ℕ) → part ≡ ticket_part q w → c ≡ word_bytes w.ticket
     → bytes ≡ text types.ticket (ticket_value (ticket_of q.realm part q.service c)) → bytes ≡ ticket_text q w
 same_ticket q w part c bytes p words is = is ∙ rw (p, words) refl
 
 -- the AP-REQ's text
-pub same_request : (q : Question) (w : Drawing) (t : Ticket) (a : Authenticator) (key : Key) (c bytes : List ℕ)
+pub same_request : (q : Question) (w : RequestWords) (t : Ticket) (a : Authenticator) (key : Key) (c bytes : List ℕ)
     → a ≡ authenticator q w → key ≡ drawn_key w.session → c ≡ word_bytes w.authenticator
     → bytes ≡ text types.ap_req (ap_req_value (ap_req_of t (bit protocol.mutual_required) a key c)) → bytes ≡ ap_req_text t q w
 same_request q w t a key c bytes is_a is_key words is = is ∙ rw (is_a, is_key, words) refl
 
 -- the KRB-PRIV's text
-pub same_priv : (q : Question) (w : Drawing) (part : EncKrbPrivPart) (key : Key) (c bytes : List ℕ)
+pub same_priv : (q : Question) (w : RequestWords) (part : EncKrbPrivPart) (key : Key) (c bytes : List ℕ)
     → part ≡ private_part q → key ≡ drawn_key w.subkey → c ≡ word_bytes w.private
     → bytes ≡ text types.krb_priv (krb_priv_value (priv_of part key c)) → bytes ≡ priv_text q w
 same_priv q w part key c bytes is_part is_key words is = is ∙ rw (is_part, is_key, words) refl

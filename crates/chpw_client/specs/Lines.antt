@@ -7,7 +7,7 @@ use Rattle.krb_msgs.specs.declared.fault.ReplyFault.{ReplyFault}
 use Rattle.krb_msgs.specs.declared.reply.Reply.{Reply}
 use Rattle.chpw_frame.specs.Framing.{ap_of, first_fault, reply_versions, tail_of}
 use Rattle.chpw_frame.specs.declared.fault.FrameFault.{FrameFault}
-use Rattle.chpw_client.specs.declared.request.Sent.{Sent}
+use Rattle.chpw_client.specs.declared.request.SentRequest.{SentRequest}
 
 -- the error code of a KRB-ERROR in words
 abbrev pub error_words : Option ℤ → List ℕ
@@ -24,17 +24,17 @@ abbrev pub status_of : Reply → ℕ
 status_of r = if r.code == 0 && is_none r.error then 0 else 1
 
 -- what the parts of a reply say to the client that sent the request
-abbrev pub Says : Sent → List ℕ → Result Reply ReplyFault → Type 0
+abbrev pub Says : SentRequest → List ℕ → Result Reply ReplyFault → Type 0
 Says sent reply = OpensReply sent.session sent.subkey sent.ctime sent.cusec (ap_of reply)
     (tail_of reply)
 
 -- a reply that can't be split into its parts, or whose parts have a fault
-abbrev pub IsUnread : Sent → List ℕ → Type 0
+abbrev pub IsUnread : SentRequest → List ℕ → Type 0
 IsUnread sent reply = ((fault : FrameFault) × (first_fault reply_versions true reply ≡ Some fault))
     ⊎ ((fault : ReplyFault) × Says sent reply (Err fault))
 
 -- the result of a reply: none if it can't be read, otherwise a line and a status
-abbrev pub IsLine : Sent → List ℕ → Option (List ℕ × ℕ) → Type 0
+abbrev pub IsLine : SentRequest → List ℕ → Option (List ℕ × ℕ) → Type 0
 IsLine sent reply None = IsUnread sent reply
 IsLine sent reply (Some told) = (first_fault reply_versions true reply ≡ None)
     × ((r : Reply) × Says sent reply (Ok r) × (told ≡ (line_of r, status_of r)))

@@ -4,7 +4,7 @@ use Rattle.krb_msgs.specs.declared.service_keys.ServiceKey.{ServiceKey}
 use Rattle.chpw_rules.specs.Names.{is_name}
 use Rattle.chpw_rules.specs.declared.name.Name.{Name}
 use Rattle.chpw_table.specs.declared.times.Moment.{Moment}
-use Rattle.chpw_client.specs.declared.asked.Asked.{Asked}
+use Rattle.chpw_client.specs.declared.request_terms.RequestTerms.{RequestTerms}
 
 pub record Question : Type 0 where
   -- of client, target and service
@@ -21,7 +21,7 @@ pub record Question : Type 0 where
   -- whether it asks in the earlier protocol
   pub old : Bool
 
-abbrev pub question_of : Asked → Question
+abbrev pub question_of : RequestTerms → Question
 question_of a = record {
   realm = a.realm.now;
   service = a.service.now;

@@ -20,8 +20,8 @@ use Rattle.chpw_frame.specs.Framing.{framed, old_request_version, request_versio
 use Rattle.chpw_rules.specs.declared.name.Name.{Name}
 use Rattle.chpw_client.specs.Questions.{Question}
 use Rattle.chpw_client.specs.Words.{drawn_key}
-use Rattle.chpw_client.specs.declared.drawing.Drawing.{Drawing}
-use Rattle.chpw_client.specs.declared.request.Sent.{Sent}
+use Rattle.chpw_client.specs.declared.drawing.RequestWords.{RequestWords}
+use Rattle.chpw_client.specs.declared.request.SentRequest.{SentRequest}
 
 -- ---- the records
 
@@ -39,7 +39,7 @@ bit n = 2 ^ (31 - n)
 abbrev pub lifetime : ℕ
 lifetime = 3600
 
-abbrev pub ticket_part : Question → Drawing → EncTicketPart
+abbrev pub ticket_part : Question → RequestWords → EncTicketPart
 ticket_part q w = record {
   flags = record { 0 = if q.initial then bit protocol.ticket_initial else 0 };
   key = sent_key w.session;
@@ -54,7 +54,7 @@ ticket_part q w = record {
   authorization_data = None;
 }
 
-abbrev pub authenticator : Question → Drawing → Authenticator
+abbrev pub authenticator : Question → RequestWords → Authenticator
 authenticator q w = record {
   authenticator_vno = protocol.pvno;
   crealm = q.realm;
@@ -90,18 +90,18 @@ loopback = V4 (record { octets = 127 ∷ 0 ∷ 0 ∷ 1 ∷ [] })
 abbrev pub private_part : Question → EncKrbPrivPart
 private_part q = priv_part_of loopback (user_data q) 0
 
-abbrev pub ticket : Question → Drawing → Ticket
+abbrev pub ticket : Question → RequestWords → Ticket
 ticket q w = ticket_of q.realm (ticket_part q w) q.service (word_bytes w.ticket)
 
-abbrev pub ticket_text : Question → Drawing → List ℕ
+abbrev pub ticket_text : Question → RequestWords → List ℕ
 ticket_text q w = text types.ticket (ticket_value (ticket q w))
 
 -- with this ticket and the option mutual-required
-abbrev pub ap_req_text : Ticket → Question → Drawing → List ℕ
+abbrev pub ap_req_text : Ticket → Question → RequestWords → List ℕ
 ap_req_text t q w = text types.ap_req (ap_req_value (ap_req_of t (bit protocol.mutual_required)
     (authenticator q w) (drawn_key w.session) (word_bytes w.authenticator)))
 
-abbrev pub priv_text : Question → Drawing → List ℕ
+abbrev pub priv_text : Question → RequestWords → List ℕ
 priv_text q w = text types.krb_priv (krb_priv_value
     (priv_of (private_part q) (drawn_key w.subkey) (word_bytes w.private)))
 
@@ -114,7 +114,7 @@ abbrev pub longest_krb_priv : ℕ
 longest_krb_priv = 61800
 
 -- the message with a ticket that the ticket's text spells, and what its reply is read with
-pub record IsRequest (q : Question) (w : Drawing) (sent : Sent) : Type 0 where
+pub record IsRequest (q : Question) (w : RequestWords) (sent : SentRequest) : Type 0 where
   pub message : (t : Ticket) × SpellsTicket (ticket_text q w) t
       × (sent.message ≡ framed (version q) (ap_req_text t q w) (priv_text q w))
   pub session : sent.session ≡ drawn_key w.session

@@ -4,12 +4,12 @@ ghost use Rattle.krb_msgs.specs.Making.{word_bytes};
 ghost use Rattle.chpw_serve.specs.InTurn.{InTurn};
 ghost use Rattle.chpw_client.specs.Words.{words_of};
 
-use chpw_serve::Words;
+use chpw_serve::{Words, next_words};
 use krb_msgs::word_bytes;
 
 /// The words of a request: 8 words for a key, 4 for a confounder.
 #[derive(Clone, Copy, Drop)]
-pub(crate) struct Drawing {
+pub(crate) struct RequestWords {
     pub session: [u32; 8],
     pub subkey: [u32; 8],
     /// The confounders of ticket, authenticator and KRB-PRIV.
@@ -19,45 +19,21 @@ pub(crate) struct Drawing {
 }
 
 /// Draws them in turn.
-pub(crate) fn draw<X: Words>(words: &mut X) -> Drawing
+pub(crate) fn draw_words<X: Words>(words: &mut X) -> RequestWords
     ensures words { InTurn X.gives words.old (words_of result) words.new }
 {
-    let session = next_eight(words);
-    let subkey = next_eight(words);
-    let ticket = next_four(words);
-    let authenticator = next_four(words);
-    let private = next_four(words);
-    Drawing {
+    let session = next_words::<8, X>(words);
+    let subkey = next_words::<8, X>(words);
+    let ticket = next_words::<4, X>(words);
+    let authenticator = next_words::<4, X>(words);
+    let private = next_words::<4, X>(words);
+    RequestWords {
         session,
         subkey,
         ticket,
         authenticator,
         private,
     }
-}
-
-fn next_four<X: Words>(words: &mut X) -> [u32; 4]
-    ensures words { InTurn X.gives words.old result words.new }
-{
-    let w0 = words.next();
-    let w1 = words.next();
-    let w2 = words.next();
-    let w3 = words.next();
-    [w0, w1, w2, w3]
-}
-
-fn next_eight<X: Words>(words: &mut X) -> [u32; 8]
-    ensures words { InTurn X.gives words.old result words.new }
-{
-    let w0 = words.next();
-    let w1 = words.next();
-    let w2 = words.next();
-    let w3 = words.next();
-    let w4 = words.next();
-    let w5 = words.next();
-    let w6 = words.next();
-    let w7 = words.next();
-    [w0, w1, w2, w3, w4, w5, w6, w7]
 }
 
 /// Eight words as bytes.

@@ -2,12 +2,12 @@
 //! service's key, and reads the reply.
 #![tactic(auto)]
 
-mod asked;
 mod drawing;
 mod line;
 mod messages;
 mod records;
 mod request;
+mod request_terms;
 
 pub use line::client_line;
-pub use request::{LAST_START, LONGEST_PASSWORD, Sent, client_request};
+pub use request::{LAST_START, LONGEST_PASSWORD, SentRequest, client_request};

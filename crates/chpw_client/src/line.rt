@@ -2,7 +2,7 @@
 ghost use Rattle.std.specs.Prelude.{◌≡◌, IfOk, option_map};
 ghost use Rattle.chpw_client.specs.Lines.{IsLine, line_of, status_of};
 
-use crate::request::Sent;
+use crate::request::SentRequest;
 use chpw_frame::split_reply;
 use chpw_printing::put_words;
 use krb_msgs::{OpenError, Reply, read_reply};
@@ -13,7 +13,7 @@ use std::alloc::{AllocError, Global};
 /// that aren't printable ASCII, and `\`, are `\x` and two hexadecimal digits. `None` if the reply can't be read.
 pub fn client_line(
     alloc: Global,
-    sent: &Sent,
+    sent: &SentRequest,
     reply: &[u8],
 ) -> Result<Option<(Vec<u8>, u8)>, AllocError>
     ensures line { IfOk result (λ told. IsLine sent.now reply.now

@@ -6,9 +6,9 @@ ghost use Rattle.chpw_client.specs.Requests.{ap_req_text, longest_ap_req, longes
 ghost use Rattle.chpw_client.specs.Words.{drawn_key};
 ghost use Rattle.chpw_client.specs.Questions.{IsAskable, question_of};
 
-use crate::asked::Asked;
-use crate::drawing::{Drawing, key_bytes};
+use crate::drawing::{RequestWords, key_bytes};
 use crate::records::{authenticator, private_part, ticket_part};
+use crate::request_terms::RequestTerms;
 use krb_keys::Key;
 use krb_msgs::{make_ap_req, make_priv, make_ticket, word_bytes};
 use krb_protocol::MUTUAL_REQUIRED;
@@ -27,8 +27,8 @@ pub(crate) fn drawn_key(words: [u32; 8]) -> Key
 /// The AP-REQ, with its ticket.
 pub(crate) fn ap_req(
     alloc: Global,
-    asked: &Asked<'_>,
-    words: &Drawing,
+    asked: &RequestTerms<'_>,
+    words: &RequestWords,
 ) -> Result<Vec<u8>, AllocError>
     requires askable { IsAskable (question_of asked.now) }
     ensures text { IfOk result (λ bytes. (t : Ticket)
@@ -59,8 +59,8 @@ pub(crate) fn ap_req(
 /// The KRB-PRIV, sealed under the subkey.
 pub(crate) fn krb_priv(
     alloc: Global,
-    asked: &Asked<'_>,
-    words: &Drawing,
+    asked: &RequestTerms<'_>,
+    words: &RequestWords,
 ) -> Result<Vec<u8>, AllocError>
     requires askable { IsAskable (question_of asked.now) }
     ensures text { IfOk result (λ bytes. bytes.items

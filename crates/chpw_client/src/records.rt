@@ -8,8 +8,8 @@ ghost use Rattle.chpw_client.specs.Requests.{private_part as private_part_of, se
 ghost use Rattle.chpw_client.specs.Requests.{ticket_part as ticket_part_of, user_data as user_data_of};
 ghost use Rattle.chpw_client.specs.Questions.{IsAskable, question_of};
 
-use crate::asked::Asked;
-use crate::drawing::{Drawing, key_bytes};
+use crate::drawing::{RequestWords, key_bytes};
+use crate::request_terms::RequestTerms;
 use chpw_rules::{Items, Name};
 use krb_der::{
     Authenticator, Bytes, ChangePasswdData, EncKrbPrivPart, EncTicketPart, EncryptionKey,
@@ -59,8 +59,8 @@ fn sent_key(alloc: Global, words: [u32; 8]) -> Result<EncryptionKey, AllocError>
 /// The sealed part of the ticket (RFC 4120 section 5.3).
 pub(crate) fn ticket_part(
     alloc: Global,
-    asked: &Asked<'_>,
-    words: &Drawing,
+    asked: &RequestTerms<'_>,
+    words: &RequestWords,
 ) -> Result<EncTicketPart, AllocError>
     requires askable { IsAskable (question_of asked.now) }
     ensures value { IfOk result (λ part. part ≡ ticket_part_of (question_of asked.entry.now) words.now) }
@@ -86,8 +86,8 @@ pub(crate) fn ticket_part(
 /// The authenticator (RFC 4120 section 5.5.1).
 pub(crate) fn authenticator(
     alloc: Global,
-    asked: &Asked<'_>,
-    words: &Drawing,
+    asked: &RequestTerms<'_>,
+    words: &RequestWords,
 ) -> Result<Authenticator, AllocError>
     ensures value { IfOk result (λ a. a ≡ authenticator_of (question_of asked.entry.now) words.now) }
 {
@@ -105,7 +105,7 @@ pub(crate) fn authenticator(
 }
 
 /// The new password and whose it is (RFC 3244 section 2).
-fn change_data(alloc: Global, asked: &Asked<'_>) -> Result<ChangePasswdData, AllocError>
+fn change_data(alloc: Global, asked: &RequestTerms<'_>) -> Result<ChangePasswdData, AllocError>
     ensures value { IfOk result (λ d. d ≡ change (question_of asked.entry.now)) }
 {
     let newpasswd = copy_bytes(alloc, asked.password)?;
@@ -123,7 +123,7 @@ fn change_data(alloc: Global, asked: &Asked<'_>) -> Result<ChangePasswdData, All
     }
 }
 
-fn change_text(alloc: Global, asked: &Asked<'_>) -> Result<Vec<u8>, AllocError>
+fn change_text(alloc: Global, asked: &RequestTerms<'_>) -> Result<Vec<u8>, AllocError>
     requires askable { IsAskable (question_of asked.now) }
     ensures text { IfOk result (λ bytes. bytes.items ≡ text change_passwd_data
         (change_passwd_data_value (change (question_of asked.entry.now)))) }
@@ -133,7 +133,7 @@ fn change_text(alloc: Global, asked: &Asked<'_>) -> Result<Vec<u8>, AllocError>
 }
 
 /// The new password itself, or a ChangePasswdData.
-fn user_data(alloc: Global, asked: &Asked<'_>) -> Result<OctetString, AllocError>
+fn user_data(alloc: Global, asked: &RequestTerms<'_>) -> Result<OctetString, AllocError>
     requires askable { IsAskable (question_of asked.now) }
     ensures value { IfOk result (λ bytes. bytes ≡ user_data_of (question_of asked.entry.now)) }
 {
@@ -145,7 +145,10 @@ fn user_data(alloc: Global, asked: &Asked<'_>) -> Result<OctetString, AllocError
 }
 
 /// The sealed part of the KRB-PRIV (RFC 4120 section 5.7.1).
-pub(crate) fn private_part(alloc: Global, asked: &Asked<'_>) -> Result<EncKrbPrivPart, AllocError>
+pub(crate) fn private_part(
+    alloc: Global,
+    asked: &RequestTerms<'_>,
+) -> Result<EncKrbPrivPart, AllocError>
     requires askable { IsAskable (question_of asked.now) }
     ensures value { IfOk result (λ part. part ≡ private_part_of (question_of asked.entry.now)) }
 {

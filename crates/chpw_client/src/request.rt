@@ -8,12 +8,12 @@ ghost use Rattle.chpw_client.specs.Requests.{IsRequest};
 ghost use Rattle.chpw_client.specs.Questions.{IsAskable, latest_second, question_of};
 ghost use Rattle.chpw_client.specs.Configured.{IsFirstKey};
 ghost use Rattle.chpw_client.specs.Words.{words_of};
-ghost use Rattle.chpw_client.specs.declared.drawing.Drawing.{Drawing};
+ghost use Rattle.chpw_client.specs.declared.drawing.RequestWords.{RequestWords};
 ghost use Rattle.krb_msgs.specs.declared.service_keys.ServiceKey.{ServiceKey};
 
-use crate::asked::Asked;
-use crate::drawing::{Drawing, draw};
+use crate::drawing::{RequestWords, draw_words};
 use crate::messages::{ap_req, drawn_key, krb_priv};
+use crate::request_terms::RequestTerms;
 use chpw_frame::{join_old_request, join_request};
 use chpw_rules::{Config, Items, Name, ServiceRow};
 use chpw_serve::Words;
@@ -31,7 +31,7 @@ pub const LAST_START: i64 = 253_402_297_199;
 
 /// A request, and what its reply is read with.
 #[derive(Drop)]
-pub struct Sent {
+pub struct SentRequest {
     /// At most 65,535 bytes.
     pub message: Items<u8>,
     pub session: Key,
@@ -60,7 +60,7 @@ pub fn client_request<X: Words>(
     initial: bool,
     old: bool,
     words: &mut X,
-) -> Result<Sent, AllocError>
+) -> Result<SentRequest, AllocError>
     requires fits { config_fits config.now ≡ true }
     requires keys { 0 < length config.now.service }
     requires client { is_name client.now ≡ true }
@@ -70,7 +70,7 @@ pub fn client_request<X: Words>(
     requires start { pos 0 ≤ℤ now.seconds }
     requires end { now.seconds ≤ℤ pos latest_second }
     requires micros { now.micros < 1000000 }
-    ensures sent { IfOk result (λ sent. (key : ServiceKey) × (drawn : Drawing)
+    ensures sent { IfOk result (λ sent. (key : ServiceKey) × (drawn : RequestWords)
         × IsFirstKey config.now.service key
         × InTurn X.gives words.old (words_of drawn) words.new
         × IsRequest (record {
@@ -87,7 +87,7 @@ pub fn client_request<X: Words>(
     let realm = config.realm.as_slice();
     let rows = config.service.as_slice();
     let service = first_key(rows);
-    let asked = Asked {
+    let asked = RequestTerms {
         realm,
         service: &service,
         now,
@@ -97,11 +97,10 @@ pub fn client_request<X: Words>(
         initial,
         old,
     };
-    let drawn = draw(words);
+    let drawn = draw_words(words);
     request_of(alloc, &asked, &drawn)
 }
 
-// The first service key.
 fn first_key(rows: &[ServiceRow]) -> ServiceKey
     requires some { 0 < length rows.now }
     requires fit { list_all service_key_fits rows.now ≡ true }
@@ -120,7 +119,11 @@ fn first_key(rows: &[ServiceRow]) -> ServiceKey
 }
 
 // The message, and what its reply is read with.
-fn request_of(alloc: Global, asked: &Asked<'_>, words: &Drawing) -> Result<Sent, AllocError>
+fn request_of(
+    alloc: Global,
+    asked: &RequestTerms<'_>,
+    words: &RequestWords,
+) -> Result<SentRequest, AllocError>
     requires askable { IsAskable (question_of asked.now) }
     ensures request { IfOk result (IsRequest (question_of asked.entry.now) words.now) }
 {
@@ -131,7 +134,7 @@ fn request_of(alloc: Global, asked: &Asked<'_>, words: &Drawing) -> Result<Sent,
     } else {
         join_request(alloc, &ap, &tail)?
     };
-    Ok(Sent {
+    Ok(SentRequest {
         message: Items::of(message),
         session: drawn_key(words.session),
         subkey: drawn_key(words.subkey),

@@ -122,7 +122,6 @@ fn member<'a>(table: Option<&'a Value>, name: &str) -> Option<&'a Value> {
     table?.as_table()?.get(name)
 }
 
-// The element of a list at this index.
 fn element(list: Option<&Value>, index: usize) -> Option<&Value> {
     list?.as_array()?.as_slice().get(index)
 }

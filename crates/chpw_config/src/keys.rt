@@ -16,7 +16,7 @@ use toml::{Table, Value};
 
 /// A name, and the text that spells it.
 #[derive(Drop)]
-pub struct Named<'a> {
+pub struct SpelledName<'a> {
     pub name: Name,
     pub text: &'a str,
 }
@@ -30,7 +30,6 @@ pub fn get<'a>(table: &'a Table, key: &str) -> Option<&'a Value>
 }
 
 impl Location {
-    // The value of a required key.
     fn required_value<'a>(self, table: &'a Table, key: &str) -> Result<&'a Value, ConfigFault>
         ensures value { MatchResult result
             (λ value. present self key.now (table_view table.now) ≡ Ok (view value.now))
@@ -69,7 +68,6 @@ impl Location {
         a_flag(value).map_err(|kind| self.fault(kind))
     }
 
-    /// A table.
     pub fn table<'a>(self, table: &'a Table, key: &str) -> Result<&'a Table, ConfigFault>
         ensures value { MatchResult result
             (λ inner. required self key.now a_table (table_view table.now)
@@ -86,14 +84,14 @@ impl Location {
         alloc: Global,
         table: &'a Table,
         key: &str,
-    ) -> Result<Named<'a>, ConfigError>
+    ) -> Result<SpelledName<'a>, ConfigError>
         ensures value { UnlessMemory (result_map_both (λ named. named.name) (λ error. error) result)
             (required self key.now a_name (table_view table.now)) }
         ensures text { IfOk result (λ named. name_of named.text.now ≡ Some named.name) }
     {
         let text = self.any_text(table, key)?;
         match Name::parse(alloc, text)? {
-            Some(name) => Ok(Named { name, text }),
+            Some(name) => Ok(SpelledName { name, text }),
             None => Err(ConfigError::Fault(self.fault(ConfigFaultKind::OutOfRange))),
         }
     }

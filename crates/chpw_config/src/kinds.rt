@@ -41,7 +41,6 @@ pub fn a_text<'a>(value: &'a Value, limits: Limits) -> Result<&'a str, ConfigFau
     }
 }
 
-/// A table.
 pub fn a_table(value: &Value) -> Result<&Table, ConfigFaultKind>
     ensures value { MatchResult result
         (λ table. a_table (view value.now) ≡ Ok (table_view table.now))

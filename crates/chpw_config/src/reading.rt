@@ -15,7 +15,7 @@ use chpw_rules::{
     AES128_LENGTH, AES256_LENGTH, Config, DEPTHS, ENTRY_COUNTS, ETYPES, ITERATION_COUNTS, Items,
     KEY_COUNTS, KVNOS, KeyBytes, MIN_CLASS_COUNTS, MIN_LENGTHS, PRINCIPAL_COUNTS, Policy,
     PrincipalRow, REALM_LENGTHS, RULE_COUNTS, Rule, Rules, SERVICE_KEY_COUNTS, ServiceRow,
-    key_length, stands_in,
+    is_in_list, key_length,
 };
 use std::alloc::Global;
 use std::collections::BTreeSet;
@@ -54,7 +54,7 @@ fn read_service_key(
         etype: etype as i32,
         key: Items::of(key),
     };
-    if stands_in(&row, before) {
+    if is_in_list(&row, before) {
         return Err(ConfigError::Fault(at.fault(ConfigFaultKind::Duplicate)));
     }
     Ok(row)

@@ -27,7 +27,7 @@ use Rattle.chpw_config_text.specs.Writable.{is_writable_principal, is_writable_r
 use Rattle.chpw_config_text.proofs.NameLemmas.{name_spelled}
 use Rattle.chpw_config_text.proofs.RowLemmas.{key_read, rule_read, service_key_read}
 
--- each row is read back behind those before it
+-- each row is read back after those before it
 abbrev pub AreRead : {A : Type 0} → (List A → Data → Result A ConfigFault) → (A → Data) → List A → List A → Type 0
 AreRead read written before [] = Unit {0}
 AreRead read written before (row ∷ rows) =

@@ -19,7 +19,7 @@ utf8_refused bytes other =
       | inr failed ↦ failed
     ]
 
--- one more part behind others
+-- one more part after others
 pub join_more : (c : ℕ) (first : List ℕ) (parts : List (List ℕ)) (part : List ℕ)
     → join_with_byte c ((first ∷ parts) ++ part ∷ []) ≡ join_with_byte c (first ∷ parts) ++ (c ∷ part)
 join_more c first [] part = refl

@@ -27,7 +27,6 @@ impl Fields {
         }
     }
 
-    /// Puts a value under a key.
     #[tactic(auto, using(crate::proofs::EntryLemmas::members_put))]
     pub fn put(&mut self, key: &str, value: Value) -> Result<(), AllocError>
         ensures value { OnOk result (table_view self.new.table
@@ -38,7 +37,6 @@ impl Fields {
         Ok(())
     }
 
-    /// The table as a value.
     pub fn into_value(self) -> Value
         ensures value { view result ≡ table (table_view self.table) }
     {

@@ -14,7 +14,6 @@ use chpw_rules::{KeyBytes, PrincipalRow, Rule, ServiceRow};
 use std::alloc::Global;
 use toml::Value;
 
-/// A row of a list.
 pub trait Row {
     ghost form: { Self → Data };
 
@@ -22,7 +21,6 @@ pub trait Row {
 
     ghost is_typed: { Self → Bool };
 
-    /// The row's table.
     fn table(&self, alloc: Global) -> Result<Value, WriteFault>
         ensures value { IfOk result (λ table. view table ≡ form self.now) }
         ensures just { JustWritable result (is_writable self.now) }

@@ -5,7 +5,7 @@ use Rattle.chpw_connection.specs.Stages.{Stage, ended, Event, came, taken, repli
 use Rattle.chpw_connection.specs.Lives.{Life, behind, life, Final}
 use Rattle.chpw_connection.proofs.LifeLemmas.{made}
 
--- behind the end nothing happens
+-- after the end nothing happens
 at_end : (c : List ℕ) (h : List (List ℕ)) (r : List (List ℕ × List ℕ)) (w : List ℕ) (n : ℕ) (e : Event) → behind (made c h r w n ended) e ≡ made c h r w n ended
 at_end c h r w n (came more) = rw (append-nil c, append-nil h, append-nil r, append-nil w) refl
 at_end c h r w n taken = rw (append-nil c, append-nil h, append-nil r, append-nil w) refl

@@ -58,7 +58,7 @@ same : (c : List ℕ) (h : List (List ℕ)) (r : List (List ℕ × List ℕ)) (w
 same c h r w n s o =
     rw (append-nil c, append-nil h, append-nil r, append-nil w) o
 
--- a fact for either place behind more bytes
+-- a fact for either place after more bytes
 read_cases : (P : Stage → Type 0) (all : List ℕ) → (wanted_after all ≡ 0 → P (queued all)) → (0 < wanted_after all → P (reading all)) → P (read_to all)
 read_cases P all whole part =
     ⊎_elim
@@ -152,7 +152,7 @@ bool_cases : (P : Bool → Type 0) (b : Bool) → (b ≡ true → P true) → (b
 bool_cases P true yea nay = yea refl
 bool_cases P false yea nay = nay refl
 
--- behind a reply that isn't the last
+-- after a reply that isn't the last
 below_last : (n : ℕ) (last : Bool) → is_last_reply n last ≡ false → n + 1 ≤ 65535
 below_last n true is = absurd cc
 below_last n false is = grind (arith, nat_tests)

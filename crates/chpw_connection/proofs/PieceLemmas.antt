@@ -80,7 +80,7 @@ whole_of_body b all four some grows len same none =
     omega (arith, wanted_whole b four short, wanted_whole all four' short', all_whole all four' short'))
     (cases_lt longest (stated_length b))
 
--- just what is wanted behind a message that isn't whole makes it whole, or it isn't whole yet
+-- just what is wanted after a message that isn't whole makes it whole, or it isn't whole yet
 made_whole : (b more : List ℕ) → 0 < wanted_after b → wanted_after (b ++ take (wanted_after b) more) ≡ 0
     → length (b ++ take (wanted_after b) more) ≡ whole_after (b ++ take (wanted_after b) more)
 made_whole b more some none =
@@ -97,7 +97,7 @@ pub piece_is_whole : (b more : List ℕ) → 0 < wanted_after b
     → wanted_after (b ++ take (wanted_after b) more) ≡ 0 → IsPiece (b ++ take (wanted_after b) more)
 piece_is_whole b more some none = whole_is_piece (b ++ take (wanted_after b) more) (made_whole b more some none)
 
--- the bytes of a message that isn't whole, with those that are wanted behind them
+-- the bytes of a message that isn't whole, with those that are wanted after them
 pub whole_by : (b more all : List ℕ) → nat_lt 0 (wanted_after b) ≡ true → all ≡ b ++ take (wanted_after b) more
     → (wanted_after all == 0) ≡ true → length all ≡ whole_after all
 whole_by b more all some is none =

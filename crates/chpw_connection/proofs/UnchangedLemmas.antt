@@ -105,7 +105,7 @@ step c h r w n (confirming reply last ticket) (wrote k) = nothing_seen c h r w n
 step c h r w n (confirming reply last ticket) closed = nothing_seen c h r w n (writing reply last)
 step c h r w n (confirming reply last ticket) failed = refl
 
--- one list of events behind another
+-- one list of events after another
 life-append : (l : Life) (xs ys : List Event) → life l (xs ++ ys) ≡ life (life l xs) ys
 life-append l [] ys = refl
 life-append l (x ∷ xs) ys = life-append (behind l x) xs ys

@@ -13,7 +13,6 @@ use std::mem;
 /// Messages of one connection, at the most.
 pub const MAX_MESSAGES: u32 = 65_536;
 
-/// The stage of a connection.
 #[derive(Drop)]
 pub enum Phase {
     /// It reads its next message.
@@ -23,7 +22,7 @@ pub enum Phase {
     /// A worker answers this message.
     Answering(Remembered<Vec<u8>>),
     /// This reply is written once its change is confirmed.
-    Confirming(Deferred),
+    Confirming(DeferredReply),
     /// This reply is being written.
     Writing(Outgoing),
     /// Its last reply is out, and what still comes is discarded.
@@ -60,11 +59,10 @@ impl Incoming {
 
 /// A reply that waits until its change is confirmed.
 #[derive(Drop)]
-pub struct Deferred {
+pub struct DeferredReply {
     pub reply: Vec<u8>,
     /// Whether the connection ends after it.
     pub is_last: bool,
-    /// The ticket of the change.
     pub ticket: u64,
 }
 

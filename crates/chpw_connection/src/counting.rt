@@ -7,7 +7,7 @@ use crate::connection::{Connection, Phase};
 
 /// The stages of connections that are counted separately. Each connection is in one of them.
 #[derive(Clone, Copy, PartialEq, Eq, Debug, Drop)]
-pub enum Counted {
+pub enum CountedStage {
     /// It reads its next message.
     Reading,
     /// Its message waits for a worker.
@@ -24,16 +24,16 @@ pub enum Counted {
 
 impl Connection {
     /// Whether it is counted in this stage.
-    pub fn is_counted(&self, which: Counted) -> bool
+    pub fn is_counted(&self, which: CountedStage) -> bool
         ensures value { result ≡ is_counted_in which (stage self.now) }
     {
         match &self.phase {
-            Phase::Reading(_) => which == Counted::Reading,
-            Phase::Queued(_) => which == Counted::Waiting,
-            Phase::Answering(_) | Phase::Abandoned => which == Counted::Answering,
-            Phase::Confirming(_) => which == Counted::Confirming,
-            Phase::Writing(_) => which == Counted::Writing,
-            Phase::Lingering | Phase::Ended => which == Counted::Ending,
+            Phase::Reading(_) => which == CountedStage::Reading,
+            Phase::Queued(_) => which == CountedStage::Waiting,
+            Phase::Answering(_) | Phase::Abandoned => which == CountedStage::Answering,
+            Phase::Confirming(_) => which == CountedStage::Confirming,
+            Phase::Writing(_) => which == CountedStage::Writing,
+            Phase::Lingering | Phase::Ended => which == CountedStage::Ending,
         }
     }
 }

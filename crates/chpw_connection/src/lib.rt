@@ -3,9 +3,9 @@
 //! room. Moments are milliseconds of a clock that doesn't go back.
 #![tactic(auto)]
 
-mod change;
 mod connection;
 mod counting;
+mod event;
 mod eviction;
 pub mod laws;
 mod limits;
@@ -13,9 +13,9 @@ mod message;
 mod remembered;
 mod todo;
 
-pub use change::Change;
-pub use connection::{Connection, Deferred, Incoming, MAX_MESSAGES, Outgoing, Phase};
-pub use counting::Counted;
+pub use connection::{Connection, DeferredReply, Incoming, MAX_MESSAGES, Outgoing, Phase};
+pub use counting::CountedStage;
+pub use event::ConnectionEvent;
 pub use eviction::EvictionRule;
 pub use limits::ConnectionLimits;
 pub use message::{WholeMessage, at_most};

@@ -5,7 +5,6 @@ ghost use Rattle.chpw_connection.specs.Todos.{todo_at};
 
 use crate::connection::{Connection, Phase};
 
-/// What is to be done for a connection.
 #[derive(Clone, Copy, PartialEq, Eq, Debug, Drop)]
 pub enum Todo {
     /// Read at most this many bytes.
@@ -21,7 +20,6 @@ pub enum Todo {
 }
 
 impl Connection {
-    /// What is to be done for it.
     pub fn todo(&self) -> Todo
         ensures value { result ≡ todo_at (stage self.now) }
     {

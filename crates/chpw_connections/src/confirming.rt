@@ -11,7 +11,7 @@ ghost use Rattle.chpw_connections.specs.Rest.{Rest};
 ghost use Rattle.chpw_connections.specs.Noting.{noted_by, NotesEach, IsFirstOverdue, slot_if, slots_where};
 
 use crate::set::Connections;
-use chpw_connection::Change;
+use chpw_connection::ConnectionEvent;
 use chpw_endpoints::Endpoints;
 use std::net::IpAddr;
 
@@ -160,7 +160,8 @@ impl Connections {
         ensures notes { NotesEach (noted_by self.old) (noted_by self.new) (slot ∷ []) }
         ensures queues { queues_of self.new ≡ queues_of self.old }
     {
-        self.slots.change(self.alloc, slot, Change::Released, now);
+        self.slots
+            .change(self.alloc, slot, ConnectionEvent::Released, now);
         self.note(slot);
     }
 }

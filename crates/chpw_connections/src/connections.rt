@@ -17,7 +17,7 @@ ghost use Rattle.chpw_connections.specs.Noting.{noted_by, room_to_note, NotesEac
 ghost use Rattle.chpw_connection.specs.Slot.{is_gone_in, ends_closed_in};
 
 use crate::set::Connections;
-use chpw_connection::{Change, Connection, ConnectionLimits, Phase};
+use chpw_connection::{Connection, ConnectionEvent, ConnectionLimits, Phase};
 use chpw_endpoints::{Endpoints, Peer};
 use chpw_slots::{Queues, Slots};
 use std::alloc::{AllocError, Global};
@@ -149,7 +149,8 @@ impl Connections {
         ensures queues { queues_of self.new ≡ queues_of self.old }
     {
         let can_end = self.is_reading(slot) || self.is_lingering(slot);
-        self.slots.change(self.alloc, slot, Change::Closed, 0);
+        self.slots
+            .change(self.alloc, slot, ConnectionEvent::Closed, 0);
         self.note_where(can_end, slot);
     }
 
@@ -165,7 +166,8 @@ impl Connections {
         let can_fail = !self.is_gone(slot);
         let number = self.slots.waiting_number(slot);
         self.queues.leave(number, slot);
-        self.slots.change(self.alloc, slot, Change::Failed, 0);
+        self.slots
+            .change(self.alloc, slot, ConnectionEvent::Failed, 0);
         self.note_where(can_fail, slot);
     }
 
@@ -185,7 +187,7 @@ impl Connections {
         ensures notes { noted_by self.new ≡ noted_by self.old }
         ensures queues { queues_of self.new ≡ queues_of self.old }
     {
-        let change = Change::Wrote { count };
+        let change = ConnectionEvent::Wrote { count };
         self.slots.change(self.alloc, slot, change, now);
     }
 

@@ -15,7 +15,7 @@ mod room;
 mod set;
 mod taking;
 
-pub use chpw_connection::{ConnectionLimits, Counted, MAX_MESSAGES, Todo};
+pub use chpw_connection::{ConnectionLimits, CountedStage, MAX_MESSAGES, Todo};
 pub use confirming::Unconfirmed;
 pub use kdc_change::KdcChange;
 pub use set::Connections;

@@ -7,7 +7,7 @@ ghost use Rattle.chpw_slots.specs.Counting.{count_in};
 ghost use Rattle.chpw_connections.specs.Held.{slots_of};
 
 use crate::set::Connections;
-use chpw_connection::{Counted, Phase, Todo};
+use chpw_connection::{CountedStage, Phase, Todo};
 
 impl Connections {
     /// What is to be done for the connection in a slot.
@@ -21,7 +21,7 @@ impl Connections {
     }
 
     /// How many are in this stage.
-    pub fn count(&self, which: Counted) -> usize
+    pub fn count(&self, which: CountedStage) -> usize
         ensures value { result ≡ count_in which (slots_of self.now) }
     {
         self.slots.count(which)

@@ -18,7 +18,7 @@ ghost use Rattle.chpw_connections.specs.Turns.{slot_of, ends_of, message_of};
 
 use crate::kdc_change::KdcChange;
 use crate::set::Connections;
-use chpw_connection::{Change, WholeMessage};
+use chpw_connection::{ConnectionEvent, WholeMessage};
 use chpw_endpoints::Endpoints;
 
 /// A message that a worker took, with its two addresses. Only `Connections::take` makes one, and it is used up by what the worker
@@ -158,7 +158,7 @@ impl Connections {
             message: _,
         } = taken;
         if self.find_room_to_reply(slot, reply.len(), now) {
-            let change = Change::Answered { reply, is_last };
+            let change = ConnectionEvent::Answered { reply, is_last };
             self.slots.change(self.alloc, slot, change, now);
         } else {
             self.end_unanswered(slot, now);
@@ -208,7 +208,7 @@ impl Connections {
             message: _,
         } = taken;
         if self.find_room_to_reply(slot, reply.len(), now) {
-            let change = Change::Deferred {
+            let change = ConnectionEvent::Deferred {
                 reply,
                 is_last,
                 ticket,
@@ -246,7 +246,8 @@ impl Connections {
         ensures queues { queues_of self.new ≡ queues_of self.old }
     {
         let is_with_worker = self.is_with_worker(slot);
-        self.slots.change(self.alloc, slot, Change::Unanswered, now);
+        self.slots
+            .change(self.alloc, slot, ConnectionEvent::Unanswered, now);
         self.note_where(is_with_worker, slot);
     }
 }

@@ -5,7 +5,7 @@ use Rattle.std.specs.List.{filter, find}
 use Rattle.std.specs.Option.{option_map, option_to_list, IfSome, IfNone}
 use Rattle.std.proofs.lemmas.Bool.{ltb-true}
 use Rattle.std.proofs.lemmas.List.{append-nil, map-append}
-use Rattle.chpw_datagrams.specs.declared.kept.Kept.{Kept}
+use Rattle.chpw_datagrams.specs.declared.kept.KeptAnswer.{KeptAnswer}
 use Rattle.chpw_datagrams.specs.declared.sender.Sender.{Sender}
 use Rattle.chpw_datagrams.specs.Answers.{Answer, is_for, is_recent, bytes_of, within, after_keep, reply_for}
 use Rattle.chpw_datagrams.specs.Fields.{answer_of, answers_of}
@@ -18,7 +18,7 @@ abbrev or_else : Option (List ℕ) → Option (List ℕ) → Option (List ℕ)
 or_else None second = second
 or_else (Some reply) second = Some reply
 
-reply_in_both : (xs ys : List Kept) (sender : Sender) (message : List ℕ) (now : ℕ)
+reply_in_both : (xs ys : List KeptAnswer) (sender : Sender) (message : List ℕ) (now : ℕ)
     → reply_for (answers_of (xs ++ ys)) sender message now
     ≡ or_else (reply_for (answers_of xs) sender message now) (reply_for (answers_of ys) sender message now)
 reply_in_both [] ys sender message now = refl
@@ -39,18 +39,18 @@ reply_in_both (x ∷ xs) ys sender message now =
     by_test true others = refl
     by_test false others = others
 
-pub reply_in_first : (xs ys all : List Kept) (sender : Sender) (message reply : List ℕ) (now : ℕ) → xs ++ ys ≡ all
+pub reply_in_first : (xs ys all : List KeptAnswer) (sender : Sender) (message reply : List ℕ) (now : ℕ) → xs ++ ys ≡ all
     → reply_for (answers_of xs) sender message now ≡ Some reply → reply_for (answers_of all) sender message now ≡ Some reply
 reply_in_first xs ys all sender message reply now e h =
-    ap (λ (zs : List Kept). reply_for (answers_of zs) sender message now) (sym e)
+    ap (λ (zs : List KeptAnswer). reply_for (answers_of zs) sender message now) (sym e)
     ∙ reply_in_both xs ys sender message now
     ∙ ap (λ (o : Option (List ℕ)). or_else o (reply_for (answers_of ys) sender message now)) h
 
-pub reply_in_second : (xs ys all : List Kept) (sender : Sender) (message : List ℕ) (now : ℕ) → xs ++ ys ≡ all
+pub reply_in_second : (xs ys all : List KeptAnswer) (sender : Sender) (message : List ℕ) (now : ℕ) → xs ++ ys ≡ all
     → reply_for (answers_of xs) sender message now ≡ None
     → reply_for (answers_of all) sender message now ≡ reply_for (answers_of ys) sender message now
 reply_in_second xs ys all sender message now e h =
-    ap (λ (zs : List Kept). reply_for (answers_of zs) sender message now) (sym e)
+    ap (λ (zs : List KeptAnswer). reply_for (answers_of zs) sender message now) (sym e)
     ∙ reply_in_both xs ys sender message now
     ∙ ap (λ (o : Option (List ℕ)). or_else o (reply_for (answers_of ys) sender message now)) h
 
@@ -81,7 +81,7 @@ map_filter {X} {Y} f p (x ∷ xs) = by_test (p (f x)) (map_filter f p xs)
     by_test true others = ap (λ (ys : List Y). f x ∷ ys) others
     by_test false others = others
 
-pub kept_is : (k : Kept) (recent : List Kept) (old : List Kept) → recent ≡ filter (λ (x : Kept). is_recent k.moment (answer_of x)) old
+pub kept_is : (k : KeptAnswer) (recent : List KeptAnswer) (old : List KeptAnswer) → recent ≡ filter (λ (x : KeptAnswer). is_recent k.moment (answer_of x)) old
     → within 4194304 (answers_of (k ∷ take 1023 recent)) ≡ after_keep (answers_of old) (answer_of k)
 kept_is k recent old e =
     ap (λ (xs : List Answer). within 4194304 (answer_of k ∷ xs))
@@ -89,9 +89,10 @@ kept_is k recent old e =
 
 -- ---- without the oldest
 
-pub within_without_last : (old new : List Kept) (last : Option Kept) → old ≡ new ++ option_to_list last → nat_lt 4194304 (bytes_of (answers_of old)) ≡ true
+pub within_without_last : (old new : List KeptAnswer) (last : Option KeptAnswer) → old ≡ new ++ option_to_list last
+    → nat_lt 4194304 (bytes_of (answers_of old)) ≡ true
     → within 4194304 (answers_of old) ≡ within 4194304 (answers_of new)
-within_without_last old new None e h = ap (λ (xs : List Kept). within 4194304 (answers_of xs)) (e ∙ append-nil new)
+within_without_last old new None e h = ap (λ (xs : List KeptAnswer). within 4194304 (answers_of xs)) (e ∙ append-nil new)
 within_without_last old new (Some k) e h =
     let parts : answers_of old ≡ answers_of new ++ answer_of k ∷ [] = ap answers_of e ∙ map-append answer_of new (k ∷ []) in
     let more : 4194304 < bytes_of (answers_of new ++ answer_of k ∷ []) =

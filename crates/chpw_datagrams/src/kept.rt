@@ -10,14 +10,14 @@ pub const MAX_AGE: u64 = 5_000;
 
 /// A message, its reply, and the moment of that in milliseconds.
 #[derive(Drop)]
-pub(crate) struct Kept {
+pub(crate) struct KeptAnswer {
     pub sender: Sender,
     pub message: Vec<u8>,
     pub reply: Vec<u8>,
     pub moment: u64,
 }
 
-impl Kept {
+impl KeptAnswer {
     // Whether it was given less than five seconds ago.
     pub(crate) fn is_recent(&self, now: u64) -> bool
         ensures value { result ≡ is_recent_answer now (answer_of self.now) }

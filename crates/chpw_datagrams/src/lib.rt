@@ -2,12 +2,12 @@
 //! was given before. Without sockets, clock or threads.
 #![tactic(auto)]
 
-mod answered;
+mod answer_cache;
 mod kept;
 pub mod laws;
 mod presented;
 mod sender;
 
-pub use answered::{Answered, MAX_ANSWERS, MAX_BYTES};
+pub use answer_cache::{AnswerCache, MAX_ANSWERS, MAX_BYTES};
 pub use kept::MAX_AGE;
 pub use sender::{KPASSWD_PORT, Sender, is_answerable};

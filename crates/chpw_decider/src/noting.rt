@@ -1,4 +1,4 @@
-//! The receipt of an event, behind those before it.
+//! The receipt of an event, after those before it.
 ghost use Rattle.std.specs.Prelude.{◌≡◌, ◌+◌, ◌-◌, ◌^◌, ◌<◌, ◌++◌, ◌∷◌, [], length, vec_len, vec_capacity, if◌then◌else◌};
 ghost use Rattle.chpw_table.specs.History.{is_accepted};
 ghost use Rattle.chpw_decider.specs.Keeping.{basis_after};

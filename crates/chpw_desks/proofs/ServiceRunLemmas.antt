@@ -7,7 +7,7 @@ use Rattle.chpw_table.specs.State.{State}
 use Rattle.chpw_table.specs.declared.history.Entry.{Entry}
 use Rattle.chpw_table.proofs.AgreementLemmas.{agrees_itself}
 use Rattle.chpw_reload.specs.declared.prepared_reload.PreparedReload.{PreparedReload}
-use Rattle.chpw_reload.specs.declared.reloading.Reloaded.{Reloaded}
+use Rattle.chpw_reload.specs.declared.reloading.NextTable.{NextTable}
 use Rattle.chpw_reload.specs.Reloading.{IsPrepared, IsReloaded}
 use Rattle.chpw_reload.specs.Reloads.{IsReload}
 use Rattle.chpw_reload.specs.ReloadRuns.{GoesOn, IsHistory, IsServiceRun}
@@ -39,11 +39,11 @@ use Rattle.chpw_reload.proofs.PartsLemmas.{reloaded_is_reload}
 use Rattle.chpw_reload.proofs.RunLemmas.{runs_begin, runs_go_on}
 
 -- a reload comes with its rules
-pub takes_new : (anew : PendingReload) (closed : Held) (old : Rules) (r : Reloaded)
+pub takes_new : (anew : PendingReload) (closed : Held) (old : Rules) (r : NextTable)
     → ((bytes : Option (List ℕ)) × IsReloaded anew.renewed bytes closed r) → TakesRules anew closed old anew.rules r.table
 takes_new anew closed old r reloaded = inl (refl, (reloaded.0, (r, (reloaded.1, refl))))
 
-pub reload_goes_on : (file : Config) (journal rest : Option (List ℕ)) (renewal : PreparedReload) (closed : Held) (next : Reloaded) →
+pub reload_goes_on : (file : Config) (journal rest : Option (List ℕ)) (renewal : PreparedReload) (closed : Held) (next : NextTable) →
     IsPrepared file journal renewal → IsReloaded renewal rest closed next → GoesOn closed.state next.table.state
 reload_goes_on file journal rest renewal closed next prepared reloaded =
     let made = reloaded_is_reload file journal rest renewal closed next closed.state prepared reloaded (agrees_itself closed.state) in
@@ -57,7 +57,7 @@ goes_on_itself s = inl (agrees_itself s)
 
 -- what was due does what the run says
 is_reload_by : (options : ServeOptions) (anew : PendingReload) (closed : Held) (new : Rules) (next : Held) → IsReadAnew options anew
-    → new ≡ anew.rules → (bytes : Option (List ℕ)) (r : Reloaded) → IsReloaded anew.renewed bytes closed r → next ≡ r.table
+    → new ≡ anew.rules → (bytes : Option (List ℕ)) (r : NextTable) → IsReloaded anew.renewed bytes closed r → next ≡ r.table
     → IsReloadBy options closed next new
 is_reload_by options anew closed new next read rules bytes r reloaded table =
     let made = reloaded_is_reload read.config read.journal bytes anew.renewed closed r closed.state read.prepared reloaded (agrees_itself closed.state) in

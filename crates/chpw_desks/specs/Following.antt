@@ -1,7 +1,7 @@
 -- The table with which the next history opens, and the rules by which it is served.
 use Rattle.std.specs.Prelude.{◌≡◌, ◌⊎◌, ℕ, List, Option, Some, None}
 use Rattle.chpw_reload.specs.Reloading.{IsReloaded}
-use Rattle.chpw_reload.specs.declared.reloading.Reloaded.{Reloaded}
+use Rattle.chpw_reload.specs.declared.reloading.NextTable.{NextTable}
 use Rattle.chpw_desks.specs.declared.orders.AfterClose.{AfterClose}
 use Rattle.chpw_desks.specs.declared.orders.AfterClose.TheVariants.{Reload, Compact}
 use Rattle.chpw_orders.specs.declared.rereading.PendingReload.{PendingReload}
@@ -15,7 +15,7 @@ reopened t = record t { events = 0; seen = 0 }
 -- the new configuration's rules, with a reload of the closed table; or the present rules, with the closed table
 abbrev pub TakesRules : PendingReload → Held → Rules → Rules → Held → Type 0
 TakesRules anew closed old new next =
-    ((new ≡ anew.rules) × ((bytes : Option (List ℕ)) × ((r : Reloaded) × (IsReloaded anew.renewed bytes closed r × (next ≡ r.table)))))
+    ((new ≡ anew.rules) × ((bytes : Option (List ℕ)) × ((r : NextTable) × (IsReloaded anew.renewed bytes closed r × (next ≡ r.table)))))
     ⊎ ((new ≡ old) × (next ≡ reopened closed))
 
 -- what was due after a closed desk: a reload; a compact journal, or nothing, and then the rules and the table stay

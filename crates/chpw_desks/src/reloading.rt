@@ -15,7 +15,7 @@ use chpw_control::TakenOrder;
 use chpw_journal::FileSink;
 use chpw_logging::Notice;
 use chpw_orders::{CheckedReload, PendingReload, answer_or_empty, reload_answer, reload_refusal};
-use chpw_reload::{Refused, ReloadFault, Reloaded, finish};
+use chpw_reload::{NextTable, RefusedReload, ReloadFault, finish};
 use chpw_rules::Name;
 use chpw_serve::Clock as _;
 use chpw_start::{Rules, ServeFault};
@@ -56,7 +56,7 @@ pub(crate) fn reload<'a, 'l, R: Wait + Clock + Eprint + AllocGlobal, T: Clock>(
         warnings,
     } = anew;
     match made_anew(rt.alloc(), renewed, rest, table) {
-        Ok(Reloaded { table, lacked }) => {
+        Ok(NextTable { table, lacked }) => {
             *rules = next_rules;
             tell_reloaded(rt, time, hall, &table, &lacked);
             let answer = reloaded_answer(rt.alloc(), &warnings, &lacked);
@@ -67,7 +67,7 @@ pub(crate) fn reload<'a, 'l, R: Wait + Clock + Eprint + AllocGlobal, T: Clock>(
                 sink,
             })
         }
-        Err(Refused { fault, closed }) => {
+        Err(RefusedReload { fault, closed }) => {
             hall.log
                 .tell_rollover(MachineClock::new(time).now(), &closed);
             let answer = refused_answer(rt.alloc(), &fault);
@@ -83,7 +83,7 @@ fn made_anew(
     renewed: CheckedReload,
     rest: File,
     closed: Table,
-) -> Result<Reloaded, Refused>
+) -> Result<NextTable, RefusedReload>
     ensures goes_on { IfOk result (λ next. GoesOn closed.state next.table.state) }
     ensures broken { IfOk result (λ next. next.table.state.broken ≡ closed.state.broken) }
     ensures reloaded { IfOk result (λ next. (bytes : Option (List ℕ)) × IsReloaded renewed bytes closed next) }

@@ -42,7 +42,7 @@ impl Endpoints {
     }
 
     /// In whose share of the connections one between these counts: in its peer's, and in none if that is this host
-    /// itself, since a forwarder may stand here.
+    /// itself, since a forwarder may be here.
     pub fn share(&self) -> Option<Peer>
         ensures value { IsShareOf self.now result }
     {

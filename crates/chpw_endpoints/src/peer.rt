@@ -16,7 +16,6 @@ pub enum Peer {
 }
 
 impl Peer {
-    /// The peer of an address.
     pub fn of(address: IpAddr) -> Peer
         ensures value { result ≡ peer_of address }
     {

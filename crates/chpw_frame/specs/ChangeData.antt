@@ -1,5 +1,5 @@
 -- The change that a request asks for (RFC 3244 section 2): a ChangePasswdData has the new password and may name its
--- principal; a realm stands only beside a name.
+-- principal; a realm comes only with a name.
 use Rattle.std.specs.Prelude.{◌≡◌, ℕ, List, Some, None, Result, Ok, Err, option_map, option_and_then}
 use Rattle.krb_codec.specs.Shapes.{Value, ◌&◌}
 use Rattle.krb_codec.specs.Grammar.{Spells}

@@ -17,4 +17,4 @@ pub use request::{
     OLD_REQUEST_VERSION, REQUEST_VERSION, REQUEST_VERSIONS, join_old_request, join_request,
     split_request,
 };
-pub use stream::{LONGEST_MESSAGE, MAX_READS, Received, WriteFault, read_tcp, write_tcp};
+pub use stream::{LONGEST_MESSAGE, MAX_READS, TcpOutcome, WriteFault, read_tcp, write_tcp};

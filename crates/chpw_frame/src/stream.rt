@@ -3,10 +3,10 @@ ghost use Rattle.std.specs.Prelude.{◌≡◌, ◌==◌, ℕ, ◌≤◌, ◌<◌
 ghost use Rattle.std.specs.Int.{to_be_bytes, w32};
 ghost use Rattle.std.specs.Io.KnownBytes.{Appends, Consumes, Keeps};
 ghost use Rattle.chpw_frame.specs.Stream.{sent, longest};
-ghost use Rattle.chpw_frame.specs.declared.stream.Received.TheVariants.{Ended, CutOff};
+ghost use Rattle.chpw_frame.specs.declared.stream.TcpOutcome.TheVariants.{Ended, CutOff};
 ghost use Rattle.chpw_frame.specs.Receiving.{IsReceived, TakesLength, IsLength, IsPut, AppendsFront};
 
-use chpw_read_fully::{Filled, fill, fill_vec};
+use chpw_read_fully::{FillOutcome, fill, fill_vec};
 use std::alloc::{AllocError, Global};
 use std::io::{Read, Write};
 
@@ -16,10 +16,8 @@ pub const LONGEST_MESSAGE: usize = 65_535;
 /// Reads for one message, at the most, interrupted ones counted.
 pub const MAX_READS: u64 = 131_072;
 
-/// What was read of a stream.
 #[derive(Drop)]
-pub enum Received {
-    /// A whole message.
+pub enum TcpOutcome {
     Message(Vec<u8>),
     /// The stream ended between messages.
     Ended,
@@ -41,32 +39,32 @@ pub struct WriteFault;
 
 /// Reads the next message, of at most 65,535 bytes after a length of four bytes (RFC 4120 section 7.2.2). An
 /// interrupted read is tried again. After `AllocError` the message's length was read, and no byte of its body.
-pub fn read_tcp<R: Read>(alloc: Global, reader: &mut R) -> Result<Received, AllocError>
+pub fn read_tcp<R: Read>(alloc: Global, reader: &mut R) -> Result<TcpOutcome, AllocError>
     ensures piece { IfOk result (λ r. IsReceived r (R.remaining reader.old) (R.remaining reader.new)) }
     ensures refused { OnErr result (TakesLength (R.remaining reader.old) (R.remaining reader.new)) }
 {
     let mut reads = MAX_READS;
     let mut header = [0; 4];
     match fill(reader, &mut header, &mut reads) {
-        Filled::Whole => {}
-        Filled::Short(count) => return Ok(ended_after(count)),
-        Filled::Fault(_) => return Ok(Received::ReadFault),
+        FillOutcome::Whole => {}
+        FillOutcome::Short(count) => return Ok(ended_after(count)),
+        FillOutcome::Fault(_) => return Ok(TcpOutcome::ReadFault),
     }
     let length = u32::from_be_bytes(header) as usize;
     if length > LONGEST_MESSAGE {
-        return Ok(Received::TooLong);
+        return Ok(TcpOutcome::TooLong);
     }
     read_body(alloc, reader, length, &mut reads)
 }
 
 /// How a stream ends that ends after this many bytes of a length.
-fn ended_after(count: usize) -> Received
+fn ended_after(count: usize) -> TcpOutcome
     ensures value { result ≡ (if count == 0 then Ended else CutOff) }
 {
     if count == 0 {
-        Received::Ended
+        TcpOutcome::Ended
     } else {
-        Received::CutOff
+        TcpOutcome::CutOff
     }
 }
 
@@ -76,7 +74,7 @@ fn read_body<R: Read>(
     reader: &mut R,
     length: usize,
     reads: &mut u64,
-) -> Result<Received, AllocError>
+) -> Result<TcpOutcome, AllocError>
     requires fits { length ≤ longest }
     ensures piece { IfOk result (λ r. (before : Option (List ℕ)) (header : List ℕ) → IsLength header length
         → Consumes before (R.remaining reader.old) header → IsReceived r before (R.remaining reader.new)) }
@@ -84,9 +82,9 @@ fn read_body<R: Read>(
 {
     let mut body = vec![in alloc; 0; length]?;
     match fill_vec(reader, &mut body, reads) {
-        Filled::Whole => Ok(Received::Message(body)),
-        Filled::Short(_) => Ok(Received::CutOff),
-        Filled::Fault(_) => Ok(Received::ReadFault),
+        FillOutcome::Whole => Ok(TcpOutcome::Message(body)),
+        FillOutcome::Short(_) => Ok(TcpOutcome::CutOff),
+        FillOutcome::Fault(_) => Ok(TcpOutcome::ReadFault),
     }
 }
 
@@ -140,12 +138,12 @@ fn put_some<'a, W: Write>(writer: &mut W, bytes: &'a [u8]) -> Result<&'a [u8], W
     match writer.write(bytes) {
         Err(_) => Err(WriteFault),
         Ok(0) => Err(WriteFault),
-        Ok(count) => Ok(behind(bytes, count)),
+        Ok(count) => Ok(without_first(bytes, count)),
     }
 }
 
 /// The bytes without the first `count`.
-fn behind(bytes: &[u8], count: usize) -> &[u8]
+fn without_first(bytes: &[u8], count: usize) -> &[u8]
     requires bound { count ≤ length bytes.now }
     ensures value { result.now ≡ drop count bytes.now }
 {

@@ -1,4 +1,4 @@
--- What a compact journal gives, and what is found again behind it.
+-- What a compact journal gives, and what is found again after it.
 use Rattle.std.proofs.Common.{◌≡◌, ℕ, ◌≤◌, ◌<◌, ◌+◌, max, List, [], ◌∷◌, ◌++◌, length, Bool, true, false, ◌||◌, ◌==◌}
 use Rattle.std.proofs.Common.{if◌then◌else◌, Option, Some, None, refl, sym, ◌∙◌, ap, subst, arith}
 use Rattle.std.specs.Prelude.{Decides, nat_lt, IfSome}
@@ -18,7 +18,7 @@ use Rattle.chpw_table.specs.Updates.{keys_after, blank_key, is_newer}
 use Rattle.chpw_table.proofs.AgreementLemmas.{agrees_itself}
 use Rattle.chpw_table.proofs.NameLemmas.{is_same_name-Decides, is_same_name-itself}
 use Rattle.chpw_table.proofs.UpdateLemmas.{same_held}
-use Rattle.chpw_record.specs.declared.record.Change.{Change}
+use Rattle.chpw_record.specs.declared.record.PrincipalKey.{PrincipalKey}
 use Rattle.chpw_record.specs.declared.record.KeyKind.{KeyKind}
 use Rattle.chpw_record.specs.declared.record.KeyKind.TheVariants as kind
 use Rattle.chpw_record.specs.declared.record.Record.{Record}
@@ -53,7 +53,7 @@ are_same_keys-Decides keys others = pointwise_decides is_same_key-Decides keys o
 
 -- ---- the records of one name
 
-abbrev key_of : Name → KeyRow → Change
+abbrev key_of : Name → KeyRow → PrincipalKey
 key_of name key = record { name = name; key = key }
 
 -- a record of this kind gives a name that key alone
@@ -72,7 +72,7 @@ put_on : (b : Bool) (first : KeyKind) (kept : ℕ) (key : KeyRow) (older : List 
 put_on true first kept key older x y h front = ap (λ (o : Option (List KeyRow)). keys_after first kept key o) h ∙ front
 put_on false first kept key older x y h front = h
 
--- the keys of each name behind them
+-- the keys of each name after them
 keys_behind : (t : State) (first : KeyKind) (n : Name) (keys : List KeyRow) (name : Name) → 1 ≤ length keys → length keys ≤ kept_count t → Starts t n first
     → keys_held (restored t (key_records first n keys)) name ≡ (if is_same_name n name then Some keys else keys_held t name)
 keys_behind t first n [] name some few starts = absurd (omega (arith, some))

@@ -18,7 +18,7 @@ use Rattle.chpw_journal.specs.Compact.{key_records, newer_kind, raise_records, A
 use Rattle.chpw_journal.specs.Runs.{IsWholeKey}
 use Rattle.chpw_record.proofs.RecordLemmas.{records_joined, records_more}
 
--- more records behind others
+-- more records after others
 pub text_more : (old : List ℕ) (front more all : List Record) → front ++ more ≡ all
     → (old ++ records_text front) ++ records_text more ≡ old ++ records_text all
 text_more old front more all h =

@@ -8,7 +8,7 @@ use Rattle.chpw_rules.specs.declared.config.Config.{Config}
 use Rattle.chpw_rules.specs.declared.config.PrincipalRow.{PrincipalRow}
 use Rattle.chpw_rules.specs.Names.{is_same_name}
 use Rattle.chpw_record.specs.declared.key.KeyRow.{KeyRow}
-use Rattle.chpw_record.specs.declared.record.Change.{Change}
+use Rattle.chpw_record.specs.declared.record.PrincipalKey.{PrincipalKey}
 use Rattle.chpw_record.specs.declared.record.KeyKind.{KeyKind}
 use Rattle.chpw_record.specs.declared.record.KeyKind.TheVariants as kind
 use Rattle.chpw_record.specs.declared.record.Record.{Record}
@@ -29,7 +29,7 @@ record_kept s (record_of.Key kind c) = refl
 record_kept s (record_of.Raise count) = refl
 
 -- the keys of each name after a record of one
-pub record_keys : (s : State) (kind : KeyKind) (c : Change) (name : Name)
+pub record_keys : (s : State) (kind : KeyKind) (c : PrincipalKey) (name : Name)
     → keys_held (with_record (record_of.Key kind c) s) name ≡ (if is_same_name c.name name
     then keys_after kind (kept_count s) c.key (keys_held s name) else keys_held s name)
 record_keys s kind c name =

@@ -1,4 +1,4 @@
--- What is told of the record at which restoring ends.
+-- What is said of the record at which restoring ends.
 use Rattle.std.proofs.Common.{◌≡◌, ◌≢◌, ℕ, ◌+◌, List, [], ◌∷◌, ◌++◌, length, true, false, Option, None, Some, IfSome, refl, sym, ◌∙◌, ap, subst}
 use Rattle.std.specs.Fmt.{option_append}
 use Rattle.std.specs.Io.KnownBytes.{Consumes}
@@ -48,7 +48,7 @@ pub told_if_any : (before : Held) (old now new : Option (List ℕ)) (so : Restor
 told_if_any before old now new so body number h d e None t = tt
 told_if_any before old now new so body number h d e (Some r) t = told_there before old now new so body number r h d e t
 
--- ---- behind the heading
+-- ---- after the heading
 
 -- of bytes that aren't known
 forget_told : (before : Held) (given : Option (List ℕ)) (number : ℕ) (r : RefusedRecord) → IsToldOf before given number r → IsToldOf before None number r

@@ -1,4 +1,4 @@
--- A journal's heading is no record of a history, and what is behind it may be opened with.
+-- A journal's heading is no record of a history, and what follows it may be opened with.
 use Rattle.std.proofs.Common.{◌≡◌, ◌≢◌, ℕ, ◌+◌, ◌≤◌, List, [], ◌∷◌, ◌++◌, length, drop, Bool, true, false, ◌&&◌, inl, inr, Option, None, Some, refl}
 use Rattle.std.proofs.Common.{sym, ◌∙◌, ap, subst, arith, length-append, append_assoc, true≢false, ◌⊎◌}
 use Rattle.std.specs.Int.{to_be_bytes, w16}
@@ -94,7 +94,7 @@ whole_is_not_cut realm rest h =
 same_behind : (xs ys zs : List ℕ) → xs ++ ys ≡ xs ++ zs → ys ≡ zs
 same_behind xs ys zs e = sym (drop-append_seam xs ys) ∙ (ap (drop (length xs)) e ∙ drop-append_seam xs zs)
 
--- the journal of runs, with what is cut off behind it, has no whole record of a realm at its beginning
+-- the journal of runs, with what is cut off after it, has no whole record of a realm at its beginning
 unnamed : (runs : List Run) (cut realm rest : List ℕ) → is_cut_off cut ≡ true → is_in realm_lengths (length realm) ≡ true
     → journals runs ++ cut ≢ realm_record realm ++ rest
 unnamed runs cut realm rest short fit e = by (records_in runs) (ap (λ (xs : List ℕ). xs ++ cut) (records_are_journals runs) ∙ e)

@@ -1,4 +1,4 @@
--- What a journal begins with, and what is restored from behind that.
+-- What a journal begins with, and what is restored from after that.
 use Rattle.std.proofs.Common.{◌≡◌, ℕ, ◌+◌, ◌-◌, ◌<◌, ◌≤◌, List, [], ◌∷◌, ◌++◌, length, true, false, inr, Option, None, Some, IfSome, refl}
 use Rattle.std.proofs.Common.{sym, ◌∙◌, ap, subst, arith, length-append, append-nil}
 use Rattle.std.specs.Int.{from_be_bytes, to_be_bytes, w16}
@@ -64,7 +64,7 @@ unnamed_refused before (Some xs) None given left head f e d none h = absurd d
 unnamed_refused before (Some xs) (Some ys) given left head f e d none h =
     inr (false, Some xs, left, (refl, none), subst (λ (o : Option (List ℕ)). IsRefused before o left f) (e ∙ ap Some (sym d)) h)
 
--- ---- behind the record of the realm
+-- ---- after the record of the realm
 
 record_length : (realm : List ℕ) → length (realm_record realm) ≡ 3 + length realm
 record_length realm =

@@ -4,7 +4,7 @@ use Rattle.std.proofs.Common.{is_none, refl, sym, ◌∙◌, ap, subst, arith}
 use Rattle.std.specs.Prelude.{IsSome, nat_lt}
 use Rattle.std.proofs.lemmas.Bool.Decides.{nat_tests}
 use Rattle.chpw_record.specs.declared.key.KeyRow.{KeyRow}
-use Rattle.chpw_record.specs.declared.record.Change.{Change}
+use Rattle.chpw_record.specs.declared.record.PrincipalKey.{PrincipalKey}
 use Rattle.chpw_record.specs.declared.record.KeyKind.TheVariants as kind
 use Rattle.chpw_record.specs.declared.record.Record.TheVariants as record_of
 use Rattle.chpw_table.specs.declared.table.restoring.KeyFault.{KeyFault}
@@ -36,27 +36,27 @@ not_none (Some keys) h = refl
 
 -- ---- what may come next
 
-pub next_change : (s : State) (c : Change) → IsNextKey s c.name c.key → IsNextRecord s (record_of.Key kind.Change c)
+pub next_change : (s : State) (c : PrincipalKey) → IsNextKey s c.name c.key → IsNextRecord s (record_of.Key kind.Change c)
 next_change s c k = (
   ap (λ (x : Option (List KeyRow)). is_lacked kind.Change x) k.held,
   subst (λ (x : Option (List KeyRow)). may_follow kind.Change c.key.kvno x ≡ true) (sym k.held) (equal c.key.kvno (newest_kvno k.keys + 1) k.next),
 )
 
-pub next_base : (s : State) (c : Change) → IsSome (keys_held s c.name) → IsNextRecord s (record_of.Key kind.Base c)
+pub next_base : (s : State) (c : PrincipalKey) → IsSome (keys_held s c.name) → IsNextRecord s (record_of.Key kind.Base c)
 next_base s c h = (not_none (keys_held s c.name) h, refl)
 
-pub next_lift : (s : State) (c : Change) → IsHigherKey s c.name c.key → IsNextRecord s (record_of.Key kind.Lift c)
+pub next_lift : (s : State) (c : PrincipalKey) → IsHigherKey s c.name c.key → IsNextRecord s (record_of.Key kind.Lift c)
 next_lift s c k = (
   ap (λ (x : Option (List KeyRow)). is_lacked kind.Lift x) k.held,
   subst (λ (x : Option (List KeyRow)). may_follow kind.Lift c.key.kvno x ≡ true) (sym k.held) (above (newest_kvno k.keys) c.key.kvno k.higher),
 )
 
-pub next_remove : (s : State) (c : Change) → IsSome (keys_held s c.name) → IsNextRecord s (record_of.Key kind.Remove c)
+pub next_remove : (s : State) (c : PrincipalKey) → IsSome (keys_held s c.name) → IsNextRecord s (record_of.Key kind.Remove c)
 next_remove s c h = (not_none (keys_held s c.name) h, refl)
 
 -- ---- what is left
 
-pub agrees_change : (t s : State) (c : Change) → Agrees t (with_kept_key c.name c.key s) → Agrees t (with_record (record_of.Key kind.Change c) s)
+pub agrees_change : (t s : State) (c : PrincipalKey) → Agrees t (with_kept_key c.name c.key s) → Agrees t (with_record (record_of.Key kind.Change c) s)
 agrees_change t s c a = record {
   fixed = a.fixed;
   principals = λ name.
@@ -68,7 +68,7 @@ agrees_change t s c a = record {
   ids = a.ids;
 }
 
-pub agrees_base : (t s : State) (c : Change) → Agrees t (with_base_key c.name c.key s) → Agrees t (with_record (record_of.Key kind.Base c) s)
+pub agrees_base : (t s : State) (c : PrincipalKey) → Agrees t (with_base_key c.name c.key s) → Agrees t (with_record (record_of.Key kind.Base c) s)
 agrees_base t s c a = record {
   fixed = a.fixed;
   principals = λ name. a.principals name ∙ (keys_based s c.name c.key name ∙ sym (record_keys s kind.Base c name));
@@ -80,7 +80,7 @@ agrees_base t s c a = record {
 
 -- ---- why a record isn't put back
 
-module _ (t : Held) (c : Change) where
+module _ (t : Held) (c : PrincipalKey) where
   pub refused_change : (fault : KeyFault) → ((s : State) → Agrees t.state s → IsKeyRefused s c.name c.key fault)
       → IsRecordRefused t (record_of.Key kind.Change c) fault
   refused_change UnknownPrincipal h = λ s a. ap (λ (x : Option (List KeyRow)). is_lacked kind.Change x) (h s a)

@@ -21,7 +21,7 @@ abbrev pub is_among : Name → List Name → Bool
 is_among name [] = false
 is_among name (n ∷ ns) = is_same_name n name || is_among name ns
 
--- no name stands twice
+-- no name is there twice
 abbrev pub AreOnce : List Name → Type 0
 AreOnce [] = Unit {0}
 AreOnce (n ∷ ns) = (is_among n ns ≡ false) × AreOnce ns
@@ -66,7 +66,7 @@ among_filtered s (n ∷ ns) name = at (is_same_name n name) refl (lacks_name s n
 
 -- ---- once
 
--- a name behind another is not the same
+-- a name after another is not the same
 later_differs : (n m : Name) → name_cmp n m ≡ Less → is_same_name m n ≡ false
 later_differs n m h = same_name_turned m n ∙ (same_name_ties n m ∙ ap is_eq h)
 

@@ -62,7 +62,7 @@ so_far_next before old now new r later body h d t =
       torn = t.torn ∙ h.torn;
     }
 
--- the end, with this behind the last whole record
+-- the end, with this after the last whole record
 pub ended_with : (before : Held) (old now new : Option (List ℕ)) (r : Restored) (rest : List ℕ)
     → IsSoFar before old now r → Consumes now new rest
     → IsAtEnd new → is_cut_off rest ≡ true → IsRestored before old new (record r { torn = is_there rest })
@@ -96,7 +96,7 @@ cannot_read before old now new r rest h d cut = (
   λ s a. (record { text_is = refl; next = (h.table s a).0 }, cut),
 )
 
--- what was read, and more behind it
+-- what was read, and more after it
 begins : (before : Held) (old now : Option (List ℕ))
     (r : Restored) (h : IsSoFar before old now r) (s : State) (a : Agrees before.state s) (rest more : List ℕ)
     → Begins s ((records_text h.whole_records ++ rest) ++ more) h.whole_records (rest ++ more)

@@ -19,7 +19,7 @@ use Rattle.chpw_table.proofs.BoolLemmas.{and_left, and_right}
 use Rattle.chpw_table.proofs.HoldingLemmas.{kept_at_least, principals_of_fits}
 use Rattle.chpw_table.proofs.KeyLemmas.{keys_in}
 use Rattle.chpw_table.proofs.UpdateLemmas.{same_held}
-use Rattle.chpw_record.specs.declared.record.Change.{Change}
+use Rattle.chpw_record.specs.declared.record.PrincipalKey.{PrincipalKey}
 use Rattle.chpw_record.specs.declared.record.KeyKind.{KeyKind}
 use Rattle.chpw_record.specs.declared.record.KeyKind.TheVariants as kind
 use Rattle.chpw_record.specs.declared.record.Record.{Record}
@@ -49,7 +49,7 @@ row_taken (suc n) (k ∷ ks) h = (h.0, after n ks h.1, row_taken n ks h.2)
 length_taken : (n : ℕ) (keys : List KeyRow) → 1 ≤ n → 1 ≤ length keys → (1 ≤ length (take n keys)) × (length (take n keys) ≤ n)
 length_taken n keys a b = let t = length-take n keys in (omega (arith, t, a, b), omega (arith, t))
 
-key_of_change : (c : Change) → ChangeFits c → KeyInRange c.key
+key_of_change : (c : PrincipalKey) → ChangeFits c → KeyInRange c.key
 key_of_change c f = record { kvno = f.kvno; count = f.count }
 
 lower : (m n : ℕ) → nat_lt m n ≡ true → m < n
@@ -63,14 +63,14 @@ next_above : (m n : ℕ) → (m == n + 1) ≡ true → n < m
 next_above m n h = grind (arith, nat_tests)
 
 -- a higher key in front of others in a row, of which the newest are kept
-put_in_row : (kept : ℕ) (c : Change) (keys : List KeyRow) → 1 ≤ kept → ChangeFits c → IsAfter c.key keys → AreInRow keys
+put_in_row : (kept : ℕ) (c : PrincipalKey) (keys : List KeyRow) → 1 ≤ kept → ChangeFits c → IsAfter c.key keys → AreInRow keys
     → AreKeptInRow kept (take kept (c.key ∷ keys))
 put_in_row kept c keys low f next w =
     let many = length_taken kept (c.key ∷ keys) low (omega arith) in
     record { some = many.0; few = many.1; row = row_taken kept (c.key ∷ keys) (key_of_change c f, next, w) }
 
 -- and in place of the newest
-lift_in_row : (kept : ℕ) (c : Change) (keys : List KeyRow) → ChangeFits c → newest_kvno keys < c.key.kvno
+lift_in_row : (kept : ℕ) (c : PrincipalKey) (keys : List KeyRow) → ChangeFits c → newest_kvno keys < c.key.kvno
     → AreKeptInRow kept keys → AreKeptInRow kept (with_newest c.key keys)
 lift_in_row kept c [] f h w = w
 lift_in_row kept c (k ∷ ks) f h w = record { some = w.some; few = w.few; row = (key_of_change c f, above ks w.row.1, w.row.2) }
@@ -81,7 +81,7 @@ lift_in_row kept c (k ∷ ks) f h w = record { some = w.some; few = w.few; row =
 
 -- ---- one record
 
-after_in_row : (kind : KeyKind) (c : Change) (kept : ℕ) (x : Option (List KeyRow)) → 1 ≤ kept → ChangeFits c → may_follow kind c.key.kvno x ≡ true
+after_in_row : (kind : KeyKind) (c : PrincipalKey) (kept : ℕ) (x : Option (List KeyRow)) → 1 ≤ kept → ChangeFits c → may_follow kind c.key.kvno x ≡ true
     → IfSome x (AreKeptInRow kept) → IfSome (keys_after kind kept c.key x) (AreKeptInRow kept)
 after_in_row kind.Change c kept None low f n w = tt
 after_in_row kind.Change c kept (Some keys) low f n w =

@@ -193,7 +193,7 @@ lifted_count n None h c = absurd (cc)
 lifted_count n (Some []) h c = absurd (cc)
 lifted_count n (Some (k ∷ ks)) h c = and_left (is_count_in_range k) (list_all is_count_in_range ks) c
 
--- its record may come next behind the keys that it was taken over
+-- its record may come next after the keys that it was taken over
 row_next : (u : KdcUpdate) (held : Option (List KeyRow)) (broken : Bool) → is_taken (update_row u held broken) ≡ true
     → (is_lacked (kind_of u) held ≡ false) × (may_follow (kind_of u) (key_in held u).kvno held ≡ true)
 row_next (update.Adopt name key) held broken h = (refl, first_test (is_newer key.kvno held) broken h)

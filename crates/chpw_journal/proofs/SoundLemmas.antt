@@ -7,7 +7,7 @@ use Rattle.chpw_rules.specs.declared.name.Name.{Name}
 use Rattle.chpw_rules.specs.Names.{is_same_name, is_name}
 use Rattle.chpw_rules.specs.Limits.{is_in, kvnos, iteration_counts}
 use Rattle.chpw_record.specs.declared.key.KeyRow.{KeyRow}
-use Rattle.chpw_record.specs.declared.record.Change.{Change}
+use Rattle.chpw_record.specs.declared.record.PrincipalKey.{PrincipalKey}
 use Rattle.chpw_record.specs.declared.record.KeyKind.{KeyKind}
 use Rattle.chpw_record.specs.declared.record.KeyKind.TheVariants as kind
 use Rattle.chpw_record.specs.declared.record.Record.TheVariants as record_of
@@ -56,7 +56,7 @@ taken_low : (kept k : ℕ) (key : KeyRow) (keys : List KeyRow) → kept ≡ suc 
 taken_low kept k key keys e h = rw e h
 
 -- a key in front of others within the limits
-front_good : (c : Change) (kept k : ℕ) (keys : List KeyRow) → kept ≡ suc k → ChangeFits c → list_all is_count_in_range keys ≡ true
+front_good : (c : PrincipalKey) (kept k : ℕ) (keys : List KeyRow) → kept ≡ suc k → ChangeFits c → list_all is_count_in_range keys ≡ true
     → IsGood c.name (Some (take kept (c.key ∷ keys)))
 front_good c kept k keys e f h = record {
   names = λ some. f.name;
@@ -68,7 +68,7 @@ pub none_good : (name : Name) → IsGood name None
 none_good name = record { names = λ some. absurd (cc); versions = tt; counts = tt }
 
 -- what a record within the limits makes of them
-after_good : (kind : KeyKind) (c : Change) (kept k : ℕ) (x : Option (List KeyRow)) → kept ≡ suc k → ChangeFits c → IsGood c.name x
+after_good : (kind : KeyKind) (c : PrincipalKey) (kept k : ℕ) (x : Option (List KeyRow)) → kept ≡ suc k → ChangeFits c → IsGood c.name x
     → IsGood c.name (keys_after kind kept c.key x)
 after_good kind.Change c kept k None e f g = g
 after_good kind.Change c kept k (Some keys) e f g = front_good c kept k keys e f g.counts
@@ -86,7 +86,7 @@ after_good kind.Lift c kept k (Some (l ∷ ls)) e f g = record {
 }
 after_good kind.Remove c kept k x e f g = none_good c.name
 
-good_after : (s : State) (kind : KeyKind) (c : Change) → IsSound s → ChangeFits c → (name : Name)
+good_after : (s : State) (kind : KeyKind) (c : PrincipalKey) → IsSound s → ChangeFits c → (name : Name)
     → IsGood name (keys_held (with_record (record_of.Key kind c) s) name)
 good_after s kind c sound f name = subst (IsGood name) (sym (record_keys s kind c name)) (at (is_same_name c.name name) refl)
   where
@@ -102,7 +102,7 @@ good_after s kind c sound f name = subst (IsGood name) (sym (record_keys s kind 
     at false e = good_held s name sound
 
 -- a record of a key leads from a state within the limits to another
-pub sound_record : (s : State) (kind : KeyKind) (c : Change) → IsSound s → ChangeFits c → IsSound (with_record (record_of.Key kind c) s)
+pub sound_record : (s : State) (kind : KeyKind) (c : PrincipalKey) → IsSound s → ChangeFits c → IsSound (with_record (record_of.Key kind c) s)
 sound_record s kind c sound f = record {
   count = sound.count;
   names = λ name. (good_after s kind c sound f name).names;

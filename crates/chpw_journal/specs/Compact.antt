@@ -105,7 +105,7 @@ abbrev pub AreWholeRecords : List Record → Type 0
 AreWholeRecords [] = Unit {0}
 AreWholeRecords (r ∷ rs) = IsWholeRecord r × AreWholeRecords rs
 
--- a state's names stand in their order, each once, as a table's do
+-- a state's names are in their order, each once, as a table's do
 abbrev pub HasOrder : State → Type 0
 HasOrder s = IsStrictlySortedBy name_cmp (names_of s)
 

@@ -22,7 +22,7 @@ HeadingsAreNoRecords = (realm rest : List ℕ) → is_in realm_lengths (length r
     HasBadLength (realm_record realm ++ rest) ⊎ HasBadBody (realm_record realm ++ rest)
 
 -- a further run may open with what is restored, over a table like the one that the first opened with, from the journal of
--- runs behind the heading of its realm, followed by a record that is cut off or nothing
+-- runs after the heading of its realm, followed by a record that is cut off or nothing
 abbrev pub WholeMayOpen : Type 0
 WholeMayOpen = (s : State) (runs : List Run) (cut : List ℕ) (is_named : Bool) (before : Held) (r : Restored) →
     FollowOn s runs → is_cut_off cut ≡ true → IsAlike s before.state → is_in realm_lengths (length before.state.fixed.realm) ≡ true →

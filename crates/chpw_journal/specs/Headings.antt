@@ -32,13 +32,13 @@ is_of_kind_7 (kind ∷ rest) = kind == 7
 abbrev pub begins_as_heading : List ℕ → Bool
 begins_as_heading text = is_of_kind_7 (drop 2 text) && is_in heading_lengths (stated_length text)
 
--- What is behind the heading of a realm's journal: if it names its realm, what follows that record; else all of it, which
+-- What follows the heading of a realm's journal: if it names its realm, what follows that record; else all of it, which
 -- then begins as no such record does.
 abbrev pub IsBehind : List ℕ → Bool → Option (List ℕ) → Option (List ℕ) → Type 0
 IsBehind realm true old behind = Consumes old behind (realm_record realm)
 IsBehind realm false old behind = (behind ≡ old) × IfSome old (λ text. begins_as_heading text ≡ false)
 
--- restored from what is behind the heading; what was kept has the heading too
+-- restored from what follows the heading; what was kept has the heading too
 pub record IsWholeRestored (before : Held) (old : Option (List ℕ)) (r : Restored) : Type 0 where
   pub is_named : Bool
   pub behind : Option (List ℕ)
@@ -48,7 +48,7 @@ pub record IsWholeRestored (before : Held) (old : Option (List ℕ)) (r : Restor
   pub read : IsRestored before behind left records
   pub whole : r ≡ record records { kept = length (heading is_named before.state.fixed.realm) + records.kept }
 
--- the first fault of what is behind the heading
+-- the first fault of what follows the heading
 abbrev pub IsRefusedBehind : Held → Option (List ℕ) → RestoreFault → Type 0
 IsRefusedBehind before old fault = (is_named : Bool) × (behind : Option (List ℕ)) × (left : Option (List ℕ))
     × IsBehind before.state.fixed.realm is_named old behind × IsRefused before behind left fault
@@ -69,6 +69,6 @@ IsBadHeading before old CannotRead = (text : List ℕ) × (left : Option (List �
 IsBadHeading before old Memory = Unit {0}
 IsBadHeading before old fault = ⊥
 
--- the first fault of a whole journal: its heading's, or one of what is behind it
+-- the first fault of a whole journal: its heading's, or one of what follows it
 abbrev pub IsWholeRefused : Held → Option (List ℕ) → RestoreFault → Type 0
 IsWholeRefused before old fault = IsBadHeading before old fault ⊎ IsRefusedBehind before old fault

@@ -21,7 +21,7 @@ IsUnopened (Restore fault) = ⊥
 abbrev pub cut_of : Restored → Option ℕ
 cut_of r = if r.torn then Some r.kept else None
 
--- restored from all that was left of a file, behind its heading
+-- restored from all that was left of a file, after its heading
 abbrev pub IsReadFrom : Held → Option (List ℕ) → Restored → Type 0
 IsReadFrom before old r = (left : Option (List ℕ)) × IsRestored before old left r
 
@@ -43,7 +43,7 @@ IsBegun before j = (j.table ≡ before) × (j.cut_at ≡ None)
 abbrev pub IsOpened : {F : Type 0} → Held → Option (List ℕ) → Journal F → Type 0
 IsOpened before given j = MatchBool j.found (IsReopened before given j) (IsBegun before j)
 
--- refused for what was read of the rest of a file, behind its heading
+-- refused for what was read of the rest of a file, after its heading
 abbrev pub IsRefusedFrom : Held → Option (List ℕ) → RestoreFault → Type 0
 IsRefusedFrom before old fault = (left : Option (List ℕ)) × IsRefused before old left fault
 

@@ -37,7 +37,7 @@ needs_held kind.Remove = true
 abbrev pub is_lacked : KeyKind → Option (List KeyRow) → Bool
 is_lacked kind held = needs_held kind && is_none held
 
--- Its version may come behind these keys: a change's is the next, an adopted or lifted one is above the newest, if there is
+-- Its version may come after these keys: a change's is the next, an adopted or lifted one is above the newest, if there is
 -- one, and those of the others may be any.
 abbrev pub may_follow : KeyKind → ℕ → Option (List KeyRow) → Bool
 may_follow kind.Change kvno held = kvno == newest_kvno (unwrap_or held []) + 1

@@ -6,7 +6,7 @@ use Rattle.std.specs.Io.KnownBytes.{Consumes, IsAtEnd}
 use Rattle.chpw_rules.specs.Limits.{principal_counts}
 use Rattle.chpw_table.specs.State.{State, keys_held}
 use Rattle.chpw_table.specs.Agreement.{Held, Agrees}
-use Rattle.chpw_record.specs.declared.record.Change.{Change}
+use Rattle.chpw_record.specs.declared.record.PrincipalKey.{PrincipalKey}
 use Rattle.chpw_record.specs.declared.record.KeyKind.TheVariants as kind
 use Rattle.chpw_record.specs.declared.record.Record.{Record}
 use Rattle.chpw_record.specs.declared.record.Record.TheVariants as record_of
@@ -40,11 +40,11 @@ pub record IsRestored (before : Held) (old new : Option (List ℕ)) (r : Restore
 abbrev pub AlwaysReads : Held → List ℕ → Reading → Type 0
 AlwaysReads before read reading = (s : State) (more : List ℕ) → Agrees before.state s → IsReading s (read ++ more) reading
 
--- Behind these records each text that begins with what was read has one that adopts a principal, and the table that they
+-- After these records each text that begins with what was read has one that adopts a principal, and the table that they
 -- give has as many as a configuration may have. The machine's state has no such limit.
 pub record IsTooMany (before : Held) (read : List ℕ) (n : ℕ) : Type 0 where
   pub whole_records : List Record
-  pub joining : Change
+  pub joining : PrincipalKey
   pub table : Held
   pub given : (s : State) → Agrees before.state s → Agrees table.state (restored s whole_records)
   pub text : (s : State) (more : List ℕ) → Agrees before.state s → BeginsWith s (read ++ more) whole_records (record_of.Key kind.Adopt joining)

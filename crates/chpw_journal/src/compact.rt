@@ -1,5 +1,5 @@
 //! Writing a compact journal.
-ghost use Rattle.std.specs.Prelude.{◌≡◌, ◌++◌, ◌∷◌, ◌+◌, ◌==◌, [], IfOk, OnOk, Some, true, filter, length};
+ghost use Rattle.std.specs.Prelude.{◌≡◌, ◌++◌, ◌∷◌, ◌+◌, ◌==◌, [], IfOk, OnOk, Some, true, filter};
 ghost use Rattle.std.specs.List.{flat_map};
 ghost use Rattle.chpw_rules.specs.Names.{is_name};
 ghost use Rattle.chpw_record.specs.declared.record.KeyKind.TheVariants.{Remove};
@@ -11,6 +11,7 @@ ghost use Rattle.chpw_journal.specs.Compact.{are_same_keys, compacted, joined_na
 ghost use Rattle.chpw_journal.specs.Compact.{newer_kind, raise_records, AreWholeRecords, HasOrder};
 ghost use Rattle.chpw_journal.specs.Runs.{IsWholeKey};
 
+use crate::known::{know_key, know_order};
 use chpw_record::{KeyKind, KeyRow, key_bytes, raise_bytes};
 use chpw_rules::Name;
 use chpw_table::Table;
@@ -30,20 +31,13 @@ pub fn compact_journal(alloc: Global, opening: &Table, held: &Table) -> Result<V
     ensures whole { OnOk result (AreWholeRecords (compacted opening.now.state held.now.state)) }
     ensures order { HasOrder opening.now.state × HasOrder held.now.state }
 {
-    tell_order(opening);
-    tell_order(held);
+    know_order(opening);
+    know_order(held);
     let mut text = Vec::new(alloc);
     put_raise(&mut text, opening, held)?;
     put_present(&mut text, opening, held)?;
     put_joined(&mut text, opening, held)?;
     Ok(text)
-}
-
-// A table's names are sorted, each once.
-fn tell_order(table: &Table)
-    ensures order { HasOrder table.now.state }
-{
-    let _ = table.name_at(0);
 }
 
 // Adds a raise to the held count, if that is greater than the opening's.
@@ -227,7 +221,7 @@ fn put_key(text: &mut Vec<u8>, kind: KeyKind, name: &Name, key: &KeyRow) -> Resu
         ++ record_text (record_of.Key kind (record { name = name.now; key = key.now }))) }
     ensures whole { OnOk result (IsWholeKey key.now) }
 {
-    read_key(key);
+    know_key(key);
     let record = key_bytes(*text.allocator(), kind, name, key)?;
     text.extend_from_slice(record.as_slice())
 }
@@ -244,20 +238,6 @@ fn no_key() -> KeyRow
     }
 }
 
-// A key has the lengths of its type.
-fn read_key(key: &KeyRow)
-    ensures whole { IsWholeKey key.now }
-{
-    read_bytes(&key.aes128);
-    read_bytes(&key.aes256);
-}
-
-// An array has as many bytes as its type says.
-fn read_bytes<const N: usize>(bytes: &[u8; N])
-    ensures length { length bytes.now ≡ N }
-{}
-
-// Whether the keys are the same, row by row.
 fn are_same(keys: &[KeyRow], others: &[KeyRow]) -> bool
     ensures value { result ≡ are_same_keys keys.now others.now }
 {

@@ -66,7 +66,6 @@ impl JournalMarks {
         SinkCause::with_mark(self.cause.load(Ordering::SeqCst))
     }
 
-    /// Which file it is.
     pub fn file(&self) -> FileNumber {
         FileNumber {
             device: self.device.load(Ordering::SeqCst),

@@ -3,7 +3,7 @@ ghost use Rattle.std.specs.Prelude.{◌≡◌, IfOk, IfSome, Option, List, ℕ, 
 ghost use Rattle.std.specs.Io.KnownBytes.{Consumes};
 ghost use Rattle.std.specs.Option.{option_copied};
 ghost use Rattle.chpw_record.specs.declared.record.Record.TheVariants as record_of;
-ghost use Rattle.chpw_journal.specs.Explaining.{is_of_fault, number_of, wanted_behind, wanted_of, wanted_without};
+ghost use Rattle.chpw_journal.specs.Explaining.{is_of_fault, number_of, wanted_after, wanted_of, wanted_without};
 ghost use Rattle.chpw_journal.specs.Explaining.{IsExplained, IsExplainedBehind, IsToldIn, IsToldOf, Tells};
 ghost use Rattle.chpw_journal.specs.Headings.{begins_as_heading, realm_record};
 
@@ -12,7 +12,7 @@ use crate::fault::RestoreFault;
 use crate::heading::{Heading, read_heading};
 use crate::reading::{MAX_READS, Next, next_record};
 use crate::restoring::Restored;
-use chpw_record::{Change, KeyKind, KeyRow, Record};
+use chpw_record::{KeyKind, KeyRow, PrincipalKey, Record};
 use chpw_rules::Name;
 use chpw_table::Table;
 use std::alloc::{AllocError, Global};
@@ -20,7 +20,7 @@ use std::io::{BufReader, Read};
 
 /// What was wanted of a record, in place of what it is.
 #[derive(Clone, Copy, Drop)]
-pub enum Wanted {
+pub enum Expectation {
     /// This version: the one after its principal's newest.
     Version(u64),
     /// A version above this one, its principal's newest.
@@ -37,7 +37,7 @@ pub struct RefusedRecord {
     /// Its principal and its version.
     pub name: Name,
     pub kvno: u32,
-    pub wanted: Wanted,
+    pub wanted: Expectation,
 }
 
 /// What a journal says at its first fault.
@@ -95,10 +95,10 @@ fn explain_unnamed<R: Read>(
         → IfSome before (λ text. begins_as_heading text ≡ false) → IsExplained table before fault e)) }
 {
     let mut whole = head.chain(reader);
-    explain_behind(alloc, table, &mut whole, fault)
+    explain_after(alloc, table, &mut whole, fault)
 }
 
-// The same, of what is behind the record of this realm.
+// The same, of what follows the record of this realm.
 fn explain_named<R: Read>(
     alloc: Global,
     table: Table,
@@ -110,7 +110,7 @@ fn explain_named<R: Read>(
         → Consumes before (R.remaining reader.old) (realm_record realm.items) → IsExplained table before fault e)) }
 {
     if realm.as_slice() == table.realm() {
-        return explain_behind(alloc, table, reader, fault);
+        return explain_after(alloc, table, reader, fault);
     }
     match fault {
         RestoreFault::OtherRealm => {
@@ -121,8 +121,8 @@ fn explain_named<R: Read>(
     }
 }
 
-// The same, of what is behind the heading.
-fn explain_behind<R: Read>(
+// The same, of what follows the heading.
+fn explain_after<R: Read>(
     alloc: Global,
     table: Table,
     reader: &mut R,
@@ -157,17 +157,20 @@ fn number_of(fault: RestoreFault) -> Option<u64>
 }
 
 // Whether this is wanted at such a fault.
-fn is_of_fault(fault: RestoreFault, wanted: Wanted) -> bool
+fn is_of_fault(fault: RestoreFault, wanted: Expectation) -> bool
     ensures value { result ≡ is_of_fault fault wanted }
 {
     match wanted {
-        Wanted::Version(_) | Wanted::Above(_) => matches!(fault, RestoreFault::WrongVersion(_)),
-        Wanted::Principal => matches!(fault, RestoreFault::UnknownPrincipal(_)),
-        Wanted::Room => matches!(fault, RestoreFault::TooMany(_)),
+        Expectation::Version(_) | Expectation::Above(_) => matches!(
+            fault,
+            RestoreFault::WrongVersion(_)
+        ),
+        Expectation::Principal => matches!(fault, RestoreFault::UnknownPrincipal(_)),
+        Expectation::Room => matches!(fault, RestoreFault::TooMany(_)),
     }
 }
 
-// The record of this number of what a reader has behind a heading, with what is held once all before it are replayed.
+// The record of this number of what a reader has after a heading, with what is held once all before it are replayed.
 fn record_numbered<R: Read>(
     alloc: Global,
     table: Table,
@@ -199,7 +202,7 @@ fn record_numbered<R: Read>(
     }
 }
 
-// The record that has this text behind its length, with what is held in a table; none if it is no record of a principal.
+// The record that has this text after its length, with what is held in a table; none if it is no record of a principal.
 fn record_in(alloc: Global, table: &Table, body: &[u8]) -> Result<Option<RefusedRecord>, AllocError>
     ensures told { IfOk result (λ found. IfSome found (IsToldIn table.now.state body.now)) }
 {
@@ -218,10 +221,10 @@ fn told_record(table: &Table, found: Record) -> Option<RefusedRecord>
     }
 }
 
-fn told_key(table: &Table, kind: KeyKind, change: Change) -> Option<RefusedRecord>
+fn told_key(table: &Table, kind: KeyKind, change: PrincipalKey) -> Option<RefusedRecord>
     ensures told { IfSome result (Tells table.now.state (record_of.Key kind change)) }
 {
-    let Change { name, key } = change;
+    let PrincipalKey { name, key } = change;
     let wanted = wanted_of(kind, table.keys_of(&name))?;
     Some(RefusedRecord {
         name,
@@ -231,32 +234,32 @@ fn told_key(table: &Table, kind: KeyKind, change: Change) -> Option<RefusedRecor
 }
 
 // What is wanted of a record of this kind whose principal has these keys; none if any would do.
-fn wanted_of(kind: KeyKind, held: Option<&[KeyRow]>) -> Option<Wanted>
+fn wanted_of(kind: KeyKind, held: Option<&[KeyRow]>) -> Option<Expectation>
     ensures value { result ≡ wanted_of kind (option_copied held.entry) }
 {
     match held {
         None => Some(wanted_without(kind)),
-        Some(keys) => wanted_behind(kind, newest_version(keys)),
+        Some(keys) => wanted_after(kind, newest_version(keys)),
     }
 }
 
 // What is wanted of one whose principal isn't held.
-fn wanted_without(kind: KeyKind) -> Wanted
+fn wanted_without(kind: KeyKind) -> Expectation
     ensures value { result ≡ wanted_without kind }
 {
     match kind {
-        KeyKind::Adopt => Wanted::Room,
-        KeyKind::Change | KeyKind::Base | KeyKind::Lift | KeyKind::Remove => Wanted::Principal,
+        KeyKind::Adopt => Expectation::Room,
+        KeyKind::Change | KeyKind::Base | KeyKind::Lift | KeyKind::Remove => Expectation::Principal,
     }
 }
 
 // What is wanted of one whose principal has this newest version.
-fn wanted_behind(kind: KeyKind, newest: u32) -> Option<Wanted>
-    ensures value { result ≡ wanted_behind kind newest }
+fn wanted_after(kind: KeyKind, newest: u32) -> Option<Expectation>
+    ensures value { result ≡ wanted_after kind newest }
 {
     match kind {
-        KeyKind::Change => Some(Wanted::Version(u64::from(newest) + 1)),
-        KeyKind::Adopt | KeyKind::Lift => Some(Wanted::Above(newest)),
+        KeyKind::Change => Some(Expectation::Version(u64::from(newest) + 1)),
+        KeyKind::Adopt | KeyKind::Lift => Some(Expectation::Above(newest)),
         KeyKind::Base | KeyKind::Remove => None,
     }
 }

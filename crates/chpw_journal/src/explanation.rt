@@ -3,11 +3,11 @@ ghost use Rattle.std.specs.Prelude.{◌≡◌, ◌++◌, OnOk, codes};
 ghost use Rattle.std.specs.Fmt.{decimal};
 ghost use Rattle.chpw_journal.specs.Explaining.{explanation_text, place_text, realms_text, record_text, wanted_text};
 
-use crate::explaining::{Explanation, RefusedRecord, Wanted};
+use crate::explaining::{Expectation, Explanation, RefusedRecord};
 use chpw_printing::{put_name, put_number, put_quoted};
 use std::alloc::AllocError;
 
-/// Adds what a journal says at its fault to a text, behind the fault itself: `alice: version 5, wanted 4`.
+/// Adds what a journal says at its fault to a text, after the fault itself: `alice: version 5, wanted 4`.
 pub fn put_explanation(text: &mut Vec<u8>, explanation: &Explanation) -> Result<(), AllocError>
     ensures value { OnOk result (text.new.items ≡ text.old.items ++ explanation_text explanation.now) }
 {
@@ -17,7 +17,7 @@ pub fn put_explanation(text: &mut Vec<u8>, explanation: &Explanation) -> Result<
     }
 }
 
-/// Adds where that is, for a line of its own: `at 8: `. It is nothing where a realm is told.
+/// Adds where that is, for a line of its own: `at 8: `. It is nothing where a realm is named.
 pub fn put_place(text: &mut Vec<u8>, explanation: &Explanation) -> Result<(), AllocError>
     ensures value { OnOk result (text.new.items ≡ text.old.items ++ place_text explanation.now) }
 {
@@ -44,16 +44,20 @@ fn put_record(text: &mut Vec<u8>, refused: &RefusedRecord) -> Result<(), AllocEr
     put_wanted(text, refused.wanted)
 }
 
-fn put_wanted(text: &mut Vec<u8>, wanted: Wanted) -> Result<(), AllocError>
+fn put_wanted(text: &mut Vec<u8>, wanted: Expectation) -> Result<(), AllocError>
     ensures value { OnOk result (text.new.items ≡ text.old.items ++ wanted_text wanted) }
 {
     match wanted {
-        Wanted::Version(version) => put_version(text, b", wanted ", version),
-        Wanted::Above(version) => put_version(text, b", wanted one above ", u64::from(version)),
-        Wanted::Principal => text.extend_from_slice(
+        Expectation::Version(version) => put_version(text, b", wanted ", version),
+        Expectation::Above(version) => put_version(
+            text,
+            b", wanted one above ",
+            u64::from(version),
+        ),
+        Expectation::Principal => text.extend_from_slice(
             b", but no such principal in the configuration, or removed before this record",
         ),
-        Wanted::Room => {
+        Expectation::Room => {
             text.extend_from_slice(b", but there are as many principals as there may be")
         }
     }

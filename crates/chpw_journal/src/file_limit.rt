@@ -8,7 +8,7 @@ use std::fs::OpenFile;
 const RLIMIT_FSIZE: i32 = 1;
 
 /// How many of so many bytes an open file takes at its end, as far as the process's limit on the length of files goes: a
-/// write behind that limit would end the process by a signal. All of them if the limit or the file's length isn't known.
+/// write past that limit would end the process by a signal. All of them if the limit or the file's length isn't known.
 pub fn room_for<F: OpenFile>(file: &F, bytes: usize) -> usize
     ensures most { result ≤ bytes }
 {

@@ -5,7 +5,7 @@ ghost use Rattle.chpw_journal.specs.Headings.{begins_as_heading, realm_record};
 ghost use Rattle.chpw_journal.specs.ReadHeadings.{IsHeadingRead, IsRealmRead};
 
 use crate::reading::{MAX_READS, length_in};
-use chpw_read_fully::{Filled, fill, fill_vec};
+use chpw_read_fully::{FillOutcome, fill, fill_vec};
 use chpw_rules::Limits;
 use std::alloc::{AllocError, Global};
 use std::io::Read;
@@ -49,9 +49,9 @@ pub fn is_headed<R: Read>(reader: &mut R) -> Option<bool>
     let mut reads = MAX_READS;
     let mut head = [0; 3];
     match fill(reader, &mut head, &mut reads) {
-        Filled::Whole => Some(begins_as_heading(&head)),
-        Filled::Short(_) => Some(false),
-        Filled::Fault(_) => None,
+        FillOutcome::Whole => Some(begins_as_heading(&head)),
+        FillOutcome::Short(_) => Some(false),
+        FillOutcome::Fault(_) => None,
     }
 }
 
@@ -62,12 +62,12 @@ pub(crate) fn read_heading<R: Read>(alloc: Global, reader: &mut R) -> Result<Hea
     let mut reads = MAX_READS;
     let mut head = vec![in alloc; 0; 3]?;
     match fill_vec(reader, &mut head, &mut reads) {
-        Filled::Whole => read_realm(alloc, reader, head, &mut reads),
-        Filled::Short(count) => {
+        FillOutcome::Whole => read_realm(alloc, reader, head, &mut reads),
+        FillOutcome::Short(count) => {
             head.truncate(count);
             Ok(Heading::None(head))
         }
-        Filled::Fault(_) => Ok(Heading::CannotRead),
+        FillOutcome::Fault(_) => Ok(Heading::CannotRead),
     }
 }
 
@@ -87,13 +87,13 @@ fn read_realm<R: Read>(
     let length = length_in(&head[..2]);
     let mut realm = vec![in alloc; 0; length - 1]?;
     match fill_vec(reader, &mut realm, reads) {
-        Filled::Whole => Ok(Heading::Realm(realm)),
-        Filled::Short(_) => Ok(Heading::Torn),
-        Filled::Fault(_) => Ok(Heading::CannotRead),
+        FillOutcome::Whole => Ok(Heading::Realm(realm)),
+        FillOutcome::Short(_) => Ok(Heading::Torn),
+        FillOutcome::Fault(_) => Ok(Heading::CannotRead),
     }
 }
 
-// Whether a text begins as a realm's record does, as far as its first three bytes tell.
+// Whether a text begins as a realm's record does, as far as its first three bytes say.
 fn begins_as_heading(text: &[u8]) -> bool
     ensures value { result ≡ begins_as_heading text.now }
 {

@@ -40,7 +40,7 @@ pub fn runs()
 {}
 
 /// What a journal begins with. The record of a realm begins as one, and no record of a history does; among those it is none of
-/// them. A run may open with what is restored from the journal of others behind the heading of its realm, whether that is
+/// them. A run may open with what is restored from the journal of others after the heading of its realm, whether that is
 /// its record or nothing.
 pub fn headings()
     ensures apart { HeadingsAreApart }
@@ -55,7 +55,7 @@ pub fn headings()
 /// a torn record after those; then a start over it finds what the last run left. A further run may open with what `restore`
 /// makes of a table like the opening and of all this.
 ///
-/// Keys in a row, of which each has a higher version than those behind it, are held by what a fitting configuration opens
+/// Keys in a row, of which each has a higher version than those after it, are held by what a fitting configuration opens
 /// with, by what is restored, by what runs leave that go on from such a state, and by a table that agrees with one. So a
 /// compact journal may be made for what runs left, if the first of them opened with such a state and no lower count.
 pub fn compact()

@@ -11,6 +11,7 @@ mod file_number;
 mod file_sink;
 mod heading;
 mod journal_file;
+pub mod known;
 pub mod laws;
 mod memory_sink;
 mod quiet;
@@ -23,7 +24,7 @@ mod whole;
 
 pub use compact::compact_journal;
 pub use end_mark::JournalMarks;
-pub use explaining::{Explanation, RefusedRecord, Wanted, explain_file};
+pub use explaining::{Expectation, Explanation, RefusedRecord, explain_file};
 pub use explanation::{put_explanation, put_place};
 pub use fault::RestoreFault;
 pub use file_limit::room_for;

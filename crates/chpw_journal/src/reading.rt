@@ -3,7 +3,7 @@ ghost use Rattle.std.specs.Prelude.{◌≡◌, ◌≤◌, IfOk, length};
 ghost use Rattle.std.specs.Int.{from_be_bytes, to_be_bytes, w16};
 ghost use Rattle.chpw_journal.specs.NextRecord.{IsNext, IsBody, CountsDown};
 
-use chpw_read_fully::{Filled, fill, fill_vec};
+use chpw_read_fully::{FillOutcome, fill, fill_vec};
 use chpw_record::is_record_length;
 use std::alloc::{AllocError, Global};
 use std::io::Read;
@@ -38,10 +38,10 @@ pub fn next_record<R: Read>(
 {
     let mut header = [0; 2];
     match fill(reader, &mut header, reads) {
-        Filled::Whole => {}
-        Filled::Short(0) => return Ok(Next::Ended),
-        Filled::Short(_) => return Ok(Next::Torn),
-        Filled::Fault(_) => return Ok(Next::CannotRead),
+        FillOutcome::Whole => {}
+        FillOutcome::Short(0) => return Ok(Next::Ended),
+        FillOutcome::Short(_) => return Ok(Next::Torn),
+        FillOutcome::Fault(_) => return Ok(Next::CannotRead),
     }
     let length = length_in(&header);
     if !is_record_length(length) {
@@ -73,8 +73,8 @@ fn read_body<R: Read>(
 {
     let mut body = vec![in alloc; 0; length]?;
     match fill_vec(reader, &mut body, reads) {
-        Filled::Whole => Ok(Next::Record(body)),
-        Filled::Short(_) => Ok(Next::Torn),
-        Filled::Fault(_) => Ok(Next::CannotRead),
+        FillOutcome::Whole => Ok(Next::Record(body)),
+        FillOutcome::Short(_) => Ok(Next::Torn),
+        FillOutcome::Fault(_) => Ok(Next::CannotRead),
     }
 }

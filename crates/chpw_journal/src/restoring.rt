@@ -11,7 +11,7 @@ ghost use Rattle.chpw_journal.specs.Taking.{TakesRecord, IsRecordFault, IsRecord
 
 use crate::fault::RestoreFault;
 use crate::reading::{MAX_READS, Next, next_record};
-use chpw_record::{Change, KeyKind, Record};
+use chpw_record::{KeyKind, PrincipalKey, Record};
 use chpw_table::{KeyFault, Table};
 use std::alloc::Global;
 use std::io::Read;
@@ -110,7 +110,7 @@ fn put_back(table: &mut Table, taken: Record) -> Result<(), KeyFault>
 }
 
 // Replays the record of a key, by its kind.
-fn put_key(table: &mut Table, kind: KeyKind, change: &Change) -> Result<(), KeyFault>
+fn put_key(table: &mut Table, kind: KeyKind, change: &PrincipalKey) -> Result<(), KeyFault>
     requires fits { ChangeFits change.now }
     ensures step { OnOk result ((s : State) → Agrees table.old.state s
         → IsNextRecord s (record_of.Key kind change.now)

@@ -1,4 +1,4 @@
-//! Files that tell what of them is on the disk.
+//! Files that say what of them is on the disk.
 ghost use Rattle.std.specs.Prelude.{◌≡◌, ℕ, List, Option, None, OnOk};
 
 use std::fs::{File, OpenFile};

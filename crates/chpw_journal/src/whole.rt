@@ -71,7 +71,7 @@ fn restore_unnamed<R: Read>(
     }
 }
 
-// Restores from what is behind the record of this realm.
+// Restores from what follows the record of this realm.
 fn restore_named<R: Read>(
     alloc: Global,
     table: Table,

@@ -17,8 +17,8 @@ use Rattle.chpw_kdc.specs.Lines.{is_changed}
 use Rattle.chpw_kdc.specs.declared.judging.Judgement.{Judgement}
 use Rattle.chpw_kdc.specs.declared.judging.Judgement.TheVariants as judged
 use Rattle.chpw_kdc.specs.declared.put.Put.{Put}
-use Rattle.chpw_kdc.specs.declared.put.Asked.{Asked}
-use Rattle.chpw_kdc.specs.declared.put.Asked.TheVariants as asked
+use Rattle.chpw_kdc.specs.declared.put.UnderWay.{UnderWay}
+use Rattle.chpw_kdc.specs.declared.put.UnderWay.TheVariants as asked
 use Rattle.chpw_kdc.specs.declared.update.KdcUpdate.{KdcUpdate}
 use Rattle.chpw_kdc.specs.declared.update.KdcUpdate.TheVariants as update
 use Rattle.chpw_kdc.specs.Mirrors.{key_of, judgement, may_adopt, adopted, is_same}
@@ -300,7 +300,7 @@ of_a_put ours now s t key answer.Changed is h = absurd cc
 
 -- ---- any answer
 
-by_asked : (ours : Name → Bool) (now : ℕ) (s t : State) (a : Answer) (o : Option Asked) → s.asked ≡ o → of_asked ours now o s a ≡ Ok t → Effect ours s a t
+by_asked : (ours : Name → Bool) (now : ℕ) (s t : State) (a : Answer) (o : Option UnderWay) → s.asked ≡ o → of_asked ours now o s a ≡ Ok t → Effect ours s a t
 by_asked ours now s t a None is h = absurd cc
 by_asked ours now s t a (Some asked.List) is h = of_the_list ours now s t a h
 by_asked ours now s t a (Some asked.Get) is h = of_one_name ours now s t a is h

@@ -5,7 +5,7 @@ use Rattle.std.proofs.lemmas.Bool.Decides.{nat_tests}
 use Rattle.std.proofs.lemmas.Grind.{common_steps}
 use Rattle.chpw_rules.specs.declared.name.Name.{Name}
 use Rattle.chpw_kdc.specs.declared.fault.ProtocolFault.{ProtocolFault}
-use Rattle.chpw_kdc.specs.declared.put.Asked.{Asked}
+use Rattle.chpw_kdc.specs.declared.put.UnderWay.{UnderWay}
 use Rattle.chpw_kdc.specs.declared.put.Put.{Put}
 use Rattle.chpw_kdc.specs.Lines.{Request, list_keys, get}
 use Rattle.chpw_kdc.specs.Paces.{may_ask, pace_lost, pace_at_fault}
@@ -34,7 +34,7 @@ faults_change_nothing s ours now byte why = (
   λ h. subst (λ (r : Result State ProtocolFault). SameKeys s (or_lost now s r)) (sym h) (lost_same s (pace_lost now (pace_at_fault s.pace))),
 )
 
-none_under_way : (o : Option Asked) (may : Bool) (next : Option Request) (r : Request)
+none_under_way : (o : Option UnderWay) (may : Bool) (next : Option Request) (r : Request)
     → (if is_none o && may then next else None) ≡ Some r → o ≡ None
 none_under_way None may next r h = refl
 none_under_way (Some a) may next r h = cc

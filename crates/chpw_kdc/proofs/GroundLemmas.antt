@@ -12,8 +12,8 @@ use Rattle.chpw_kdc.specs.declared.fault.ProtocolFault.{ProtocolFault}
 use Rattle.chpw_kdc.specs.declared.fault.ProtocolFault.TheVariants as fault
 use Rattle.chpw_kdc.specs.declared.judging.Judgement.{Judgement}
 use Rattle.chpw_kdc.specs.declared.judging.Judgement.TheVariants as judged
-use Rattle.chpw_kdc.specs.declared.put.Asked.{Asked}
-use Rattle.chpw_kdc.specs.declared.put.Asked.TheVariants as asked
+use Rattle.chpw_kdc.specs.declared.put.UnderWay.{UnderWay}
+use Rattle.chpw_kdc.specs.declared.put.UnderWay.TheVariants as asked
 use Rattle.chpw_kdc.specs.declared.update.KdcUpdate.{KdcUpdate}
 use Rattle.chpw_kdc.specs.declared.update.KdcUpdate.TheVariants as update
 use Rattle.chpw_kdc.specs.Lines.{Request, list_keys, get, put, answer_of, is_changed}
@@ -101,7 +101,7 @@ heard_grounded : (start : ℕ) (done : List Event) (s t : State) (ours : Name �
 heard_grounded start done s t ours now byte is heard all (inl e) = subst (λ (u : State). AllGrounded start (done ++ hears ours now byte ∷ []) u.updates) e all
 heard_grounded start done s t ours now byte is heard all (inr x) = brought start done s t ours now byte x.0 is heard x.1 x.2 all x.3.2
 
--- ---- behind an event
+-- ---- after an event
 
 request_grounded : (start : ℕ) (events : List Event) (now : ℕ) (s : State) (o : Option Request) → AllGrounded start events s.updates
     → AllGrounded start events (after_request now o s).updates
@@ -229,7 +229,7 @@ put_gets key now s t (answer.End count) h = absurd cc
 put_gets key now s t (answer.ListFailed text) h = absurd cc
 put_gets key now s t answer.Changed h = absurd cc
 
-asked_gets : (ours : Name → Bool) (now : ℕ) (s t : State) (a : Answer) (o : Option Asked) → of_asked ours now o s a ≡ Ok t → AsksFew s t
+asked_gets : (ours : Name → Bool) (now : ℕ) (s t : State) (a : Answer) (o : Option UnderWay) → of_asked ours now o s a ≡ Ok t → AsksFew s t
 asked_gets ours now s t a None h = absurd cc
 asked_gets ours now s t a (Some asked.List) h = list_gets ours now s t a h
 asked_gets ours now s t a (Some asked.Get) h = get_gets ours now s t a h

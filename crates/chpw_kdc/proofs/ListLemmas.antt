@@ -18,8 +18,8 @@ use Rattle.chpw_kdc.specs.declared.judging.Judgement.TheVariants as judged
 use Rattle.chpw_kdc.specs.declared.answer.Answer.TheVariants as answer
 use Rattle.chpw_kdc.specs.declared.answer.Reason.{Reason}
 use Rattle.chpw_kdc.specs.declared.put.Put.{Put}
-use Rattle.chpw_kdc.specs.declared.put.Asked.{Asked}
-use Rattle.chpw_kdc.specs.declared.put.Asked.TheVariants as asked
+use Rattle.chpw_kdc.specs.declared.put.UnderWay.{UnderWay}
+use Rattle.chpw_kdc.specs.declared.put.UnderWay.TheVariants as asked
 use Rattle.chpw_kdc.specs.declared.update.KdcUpdate.{KdcUpdate}
 use Rattle.chpw_kdc.specs.Mirrors.{Mirror, key_of}
 use Rattle.chpw_kdc.specs.declared.update.Notice.{Notice}
@@ -179,9 +179,9 @@ row_of_list ours now s t (other name why) h =
 row_answered : (ours : Name → Bool) (now : ℕ) (s : State) (row : Row) → s.asked ≡ Some asked.List
     → after_answer ours now s (line_of row) ≡ of_list ours now (awaiting now s) (line_of row)
 row_answered ours now s (has name kvno keys) list =
-    ap (λ (o : Option Asked). of_asked ours now o (awaiting now s) (line_of (has name kvno keys))) list
+    ap (λ (o : Option UnderWay). of_asked ours now o (awaiting now s) (line_of (has name kvno keys))) list
 row_answered ours now s (other name why) list =
-    ap (λ (o : Option Asked). of_asked ours now o (awaiting now s) (line_of (other name why))) list
+    ap (λ (o : Option UnderWay). of_asked ours now o (awaiting now s) (line_of (other name why))) list
 
 -- ---- rows, one after the other
 
@@ -311,7 +311,7 @@ lists_put_right ours now s t rows count list none h =
     let v : State = awaiting now u in
     let last = parted (step u (answer.End count)) (λ v. Ok v) t both.2 in
     let list_still : u.asked ≡ Some asked.List = all.asked ∙ list in
-    let said = sym (ap (λ (o : Option Asked). of_asked ours now o v (answer.End count)) list_still) ∙ last.1 ∙ last.2 in
+    let said = sym (ap (λ (o : Option UnderWay). of_asked ours now o v (answer.End count)) list_still) ∙ last.1 ∙ last.2 in
     let end = end_of_list ours now count v t said in
     let names = names_of rows in
     let by_names : AskedAlone (is_many (length (lacked_in names u.mirror)) (length u.mirror)) (lacked_in names u.mirror) v t =

@@ -19,7 +19,7 @@ pub run_append : (s : State) (xs ys : List Event) → run s (xs ++ ys) ≡ run (
 run_append s [] ys = refl
 run_append s (x ∷ xs) ys = run_append (behind s x) xs ys
 
--- what holds at the start, and behind each event more, holds always
+-- what holds at the start, and after each event more, holds always
 pub by_events : (start : ℕ) (P : List Event → State → Type 0) → P [] (at_start start)
     → ((done : List Event) (s : State) (e : Event) → s ≡ state_after start done → P done s → P (done ++ e ∷ []) (behind s e))
     → (events : List Event) → P events (state_after start events)
@@ -66,7 +66,7 @@ byte_effect ours now s t byte h =
         inr (r.0, newline byte l.0, r.1, r.2)
     by_kind (inr e) = inl e
 
--- what holds behind a byte that the agent says
+-- what holds after a byte that the agent says
 pub by_byte : (P : State → Type 0) (ours : Name → Bool) (now : ℕ) (s : State) (byte : ℕ) → P (after_fault now s)
     → ((t : State) → after_byte ours now s byte ≡ Ok t → IsHeard ours s byte t → P t) → P (or_lost now s (after_byte ours now s byte))
 by_byte P ours now s byte lost heard = by_result (after_byte ours now s byte) (λ t h. heard t h (byte_effect ours now s t byte h))

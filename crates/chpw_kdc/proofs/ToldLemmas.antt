@@ -1,4 +1,4 @@
--- What is put was told.
+-- What is put was reported.
 use Rattle.std.proofs.Common.{◌≡◌, ℕ, ◌+◌, List, [], ◌∷◌, ◌++◌, Bool, true, false, ◌&&◌, is_none, Option, Some, None, inl, inr}
 use Rattle.std.proofs.Common.{◌⊎◌, refl, sym, ◌∙◌, ap, subst, append_assoc, if◌then◌else◌}
 use Rattle.std.specs.List.{AllByRecursion}
@@ -54,7 +54,7 @@ puts_kept : (Q : Name → KeyRow → Type 0) (ps : List Put) → AllPuts Q ps �
 puts_kept Q [] all = tt
 puts_kept Q (p ∷ ps) all = puts_kept_if Q (is_of_change p) p (changes_of ps) all.0 (puts_kept Q ps all.1)
 
--- ---- behind an event
+-- ---- after an event
 
 request_keeps : (Q : Name → KeyRow → Type 0) (now : ℕ) (s : State) (o : Option Request) → Keeps Q s → Keeps Q (after_request now o s)
 request_keeps Q now s None k = k

@@ -7,8 +7,8 @@ use Rattle.chpw_rules.specs.declared.name.Name.{Name}
 use Rattle.chpw_record.specs.declared.key.KeyRow.{KeyRow}
 use Rattle.chpw_kdc.specs.declared.answer.Answer.{Answer}
 use Rattle.chpw_kdc.specs.declared.put.Put.{Put}
-use Rattle.chpw_kdc.specs.declared.put.Asked.{Asked}
-use Rattle.chpw_kdc.specs.declared.put.Asked.TheVariants as asked
+use Rattle.chpw_kdc.specs.declared.put.UnderWay.{UnderWay}
+use Rattle.chpw_kdc.specs.declared.put.UnderWay.TheVariants as asked
 use Rattle.chpw_kdc.specs.declared.update.KdcUpdate.{KdcUpdate}
 use Rattle.chpw_kdc.specs.Lines.{Request, list_keys, get, put, answer_of}
 use Rattle.chpw_kdc.specs.Paces.{may_ask}
@@ -121,14 +121,14 @@ all_kept start events (p ∷ ps) all = all_kept_if start events (is_of_change p)
 -- ---- what is under way
 
 -- a put that is under way is the first one
-abbrev IsFirst : Option Asked → List Put → Type 0
+abbrev IsFirst : Option UnderWay → List Put → Type 0
 IsFirst None ps = Unit {0}
 IsFirst (Some asked.List) ps = Unit {0}
 IsFirst (Some asked.Get) ps = Unit {0}
 IsFirst (Some (asked.Put key)) [] = ⊥
 IsFirst (Some (asked.Put key)) (p ∷ ps) = key ≡ p.key
 
-first_more : (o : Option Asked) (ps : List Put) (p : Put) → IsFirst o ps → IsFirst o (ps ++ p ∷ [])
+first_more : (o : Option UnderWay) (ps : List Put) (p : Put) → IsFirst o ps → IsFirst o (ps ++ p ∷ [])
 first_more None ps p f = tt
 first_more (Some asked.List) ps p f = tt
 first_more (Some asked.Get) ps p f = tt
@@ -142,7 +142,7 @@ first_asked (p ∷ ps) names b name key h = cc
 
 -- ---- together
 
-record Holds (start : ℕ) (events : List Event) (c : ℕ) (ps : List Put) (i : ℕ) (o : Option Asked) : Type 0 where
+record Holds (start : ℕ) (events : List Event) (c : ℕ) (ps : List Put) (i : ℕ) (o : Option UnderWay) : Type 0 where
   tickets : IsRun c ps i
   wanted : AllWanted start events ps
   first : IsFirst o ps
@@ -166,7 +166,7 @@ confirmed_on start events e t c = record {
   answered = c.answered;
 }
 
-on : (start : ℕ) (events : List Event) (e : Event) (c : ℕ) (ps : List Put) (i : ℕ) (o : Option Asked)
+on : (start : ℕ) (events : List Event) (e : Event) (c : ℕ) (ps : List Put) (i : ℕ) (o : Option UnderWay)
     → Holds start events c ps i o → Holds start (events ++ e ∷ []) c ps i o
 on start events e c ps i o h = record {
   tickets = h.tickets;
@@ -176,11 +176,11 @@ on start events e c ps i o h = record {
 }
 
 -- a request is done with
-unasked : (start : ℕ) (events : List Event) (c : ℕ) (ps : List Put) (i : ℕ) (o : Option Asked) → Holds start events c ps i o → Holds start events c ps i None
+unasked : (start : ℕ) (events : List Event) (c : ℕ) (ps : List Put) (i : ℕ) (o : Option UnderWay) → Holds start events c ps i o → Holds start events c ps i None
 unasked start events c ps i o h = record { tickets = h.tickets; wanted = h.wanted; first = tt; confirmed = h.confirmed }
 
 -- all that belongs to one connection is forgotten
-forgets : (start : ℕ) (events : List Event) (c : ℕ) (ps : List Put) (i : ℕ) (o : Option Asked) → Holds start events c ps i o
+forgets : (start : ℕ) (events : List Event) (c : ℕ) (ps : List Put) (i : ℕ) (o : Option UnderWay) → Holds start events c ps i o
     → Holds start events c (changes_of ps) i None
 forgets start events c ps i o h = record {
   tickets = run_kept c i ps h.tickets;
@@ -212,10 +212,10 @@ right_more start events s t h (inr p) =
       confirmed = h.confirmed;
     })
 
-asked_as : (start : ℕ) (events : List Event) (c : ℕ) (ps : List Put) (i : ℕ) (o p : Option Asked) → (p ≡ None) ⊎ (p ≡ o)
+asked_as : (start : ℕ) (events : List Event) (c : ℕ) (ps : List Put) (i : ℕ) (o p : Option UnderWay) → (p ≡ None) ⊎ (p ≡ o)
     → Holds start events c ps i o → Holds start events c ps i p
-asked_as start events c ps i o p (inl none) h = subst (λ (q : Option Asked). Holds start events c ps i q) (sym none) (unasked start events c ps i o h)
-asked_as start events c ps i o p (inr same) h = subst (λ (q : Option Asked). Holds start events c ps i q) (sym same) h
+asked_as start events c ps i o p (inl none) h = subst (λ (q : Option UnderWay). Holds start events c ps i q) (sym none) (unasked start events c ps i o h)
+asked_as start events c ps i o p (inr same) h = subst (λ (q : Option UnderWay). Holds start events c ps i q) (sym same) h
 
 -- ---- a put is settled
 
@@ -225,7 +225,7 @@ answered_first : (s : State) (ps : List Put) (a : Answer) (name : Name) (key : K
     → IsFirst s.asked ps → IsAnswered s p.name p.key
 answered_first s ps a name key p rest under parts first settles line below =
     let own : IsFirst (Some (asked.Put key)) (p ∷ rest) =
-    subst (λ (o : Option Asked). IsFirst o (p ∷ rest)) under (subst (λ (qs : List Put). IsFirst s.asked qs) parts below) in
+    subst (λ (o : Option UnderWay). IsFirst o (p ∷ rest)) under (subst (λ (qs : List Put). IsFirst s.asked qs) parts below) in
     let same : key ≡ p.key = own in
     let n : p.name ≡ name = name_exact p.name name (subst (λ (qs : List Put). is_put_for qs name ≡ true) parts first) in
     record {
@@ -285,7 +285,7 @@ settled_puts start done s ours now a name key (p ∷ ps) is under first settles 
           (answered_first s (p ∷ ps) a name key p ps under refl first settles line h.first) k.confirmed;
     }
 
--- ---- behind an event
+-- ---- after an event
 
 abbrev Always : ℕ → List Event → State → Type 0
 Always start events s = Holds start events s.confirmed s.puts s.issued s.asked
@@ -308,7 +308,7 @@ heard_holds start done s t ours now byte is h (inr x) =
     by_kind (inr d) =
         subst (λ (c : ℕ). Holds start (done ++ hears ours now byte ∷ []) c t.puts s.issued t.asked) (sym d.6)
         (subst (λ (ps : List Put). Holds start (done ++ hears ours now byte ∷ []) (confirmed_with s.confirmed s.puts) ps s.issued t.asked) (sym d.5)
-        (subst (λ (o : Option Asked). Holds start (done ++ hears ours now byte ∷ []) (confirmed_with s.confirmed s.puts) (without_first s.puts) s.issued o)
+        (subst (λ (o : Option UnderWay). Holds start (done ++ hears ours now byte ∷ []) (confirmed_with s.confirmed s.puts) (without_first s.puts) s.issued o)
         (sym d.7)
         (subst (λ (b : ℕ). Holds start (done ++ hears ours now b ∷ []) (confirmed_with s.confirmed s.puts) (without_first s.puts) s.issued None) (sym x.1)
         (settled_puts start done s ours now x.0 d.0 d.1 s.puts is d.2 d.3 d.4 x.2 h))))

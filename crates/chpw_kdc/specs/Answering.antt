@@ -17,8 +17,8 @@ use Rattle.chpw_kdc.specs.declared.fault.ProtocolFault.TheVariants as fault
 use Rattle.chpw_kdc.specs.declared.judging.Judgement.{Judgement}
 use Rattle.chpw_kdc.specs.declared.judging.Judgement.TheVariants as judged
 use Rattle.chpw_kdc.specs.declared.put.Put.{Put}
-use Rattle.chpw_kdc.specs.declared.put.Asked.{Asked}
-use Rattle.chpw_kdc.specs.declared.put.Asked.TheVariants as asked
+use Rattle.chpw_kdc.specs.declared.put.UnderWay.{UnderWay}
+use Rattle.chpw_kdc.specs.declared.put.UnderWay.TheVariants as asked
 use Rattle.chpw_kdc.specs.declared.update.KdcUpdate.{KdcUpdate}
 use Rattle.chpw_kdc.specs.declared.update.KdcUpdate.TheVariants as update
 use Rattle.chpw_kdc.specs.Faults.{fault_of_line}
@@ -48,7 +48,7 @@ compared ours name kvno keys s = after_judgement name (judgement ours (key_of s.
 abbrev pub refused : Name → Reason → State → State
 refused name why s = record s { tellings = after_refusal name why s.tellings }
 
--- the KDC has the name, but the agent doesn't write it or tell its keys: told, if the mirror has it
+-- the KDC has the name, but the agent doesn't write it or give its keys: reported, if the mirror has it
 abbrev pub refused_if_held : Name → Reason → State → State
 refused_if_held name why s = if is_some (key_of s.mirror name) then refused name why s else s
 
@@ -81,7 +81,7 @@ lacked_in listed (e ∷ es) = if is_listed listed e.0 then lacked_in listed es e
 abbrev pub is_many : ℕ → ℕ → Bool
 is_many gone of = nat_lt 10 gone && nat_lt (of / 10) gone
 
--- the names that are lacked are asked for alone, unless they are many, which is told
+-- the names that are lacked are asked for alone, unless they are many, which is reported
 abbrev pub with_lacked : List Name → State → State
 with_lacked lacked s =
     if is_many (length lacked) (length s.mirror) then record s { tellings = after_missing (length lacked) (length s.mirror) s.tellings }
@@ -189,7 +189,7 @@ of_put key now s a = Err fault.OutOfTurn
 
 -- ---- an answer, and the bytes that make it up
 
-abbrev pub of_asked : (Name → Bool) → ℕ → Option Asked → State → Answer → Result State ProtocolFault
+abbrev pub of_asked : (Name → Bool) → ℕ → Option UnderWay → State → Answer → Result State ProtocolFault
 of_asked ours now None s a = Err fault.OutOfTurn
 of_asked ours now (Some asked.List) s a = of_list ours now s a
 of_asked ours now (Some asked.Get) s a = of_get ours now s a

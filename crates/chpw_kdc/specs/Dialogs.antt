@@ -1,4 +1,4 @@
--- What the service says to the agent at the KDC's database: what is kept, and what happens to it when the service tells it
+-- What the service says to the agent at the KDC's database: what is kept, and what happens to it when the service says it
 -- something.
 use Rattle.std.specs.Prelude.{ℕ, ◌+◌, ◌-◌, ◌^◌, min, Bool, true, false, not, ◌&&◌, ◌==◌, is_some, is_none, nat_le, if◌then◌else◌, List, [], ◌∷◌}
 use Rattle.std.specs.Prelude.{◌++◌, length, filter, Option, Some, None}
@@ -6,8 +6,8 @@ use Rattle.chpw_rules.specs.declared.name.Name.{Name}
 use Rattle.chpw_record.specs.declared.key.KeyRow.{KeyRow}
 use Rattle.chpw_kdc.specs.declared.pace.Pace.{Pace}
 use Rattle.chpw_kdc.specs.declared.put.Put.{Put}
-use Rattle.chpw_kdc.specs.declared.put.Asked.{Asked}
-use Rattle.chpw_kdc.specs.declared.put.Asked.TheVariants as asked
+use Rattle.chpw_kdc.specs.declared.put.UnderWay.{UnderWay}
+use Rattle.chpw_kdc.specs.declared.put.UnderWay.TheVariants as asked
 use Rattle.chpw_kdc.specs.declared.update.KdcUpdate.{KdcUpdate}
 use Rattle.chpw_kdc.specs.Lines.{Request, list_keys, get, put}
 use Rattle.chpw_kdc.specs.Mirrors.{Mirror, told, without, key_of}
@@ -25,7 +25,7 @@ pub record State : Type 0 where
   pub issued : ℕ
   pub confirmed : ℕ
   pub written : Bool
-  pub asked : Option Asked
+  pub asked : Option UnderWay
   pub heard : List ℕ
   pub listed : List Name
   pub gets : List Name
@@ -51,7 +51,7 @@ at_start now = record {
   pace = pace_at_start now;
 }
 
--- ---- what the service tells
+-- ---- what the service says
 
 -- the table has this key as the newest of the name
 abbrev pub after_hold : Name → KeyRow → State → State
@@ -179,7 +179,7 @@ is_late_put wait now (p ∷ ps) = nat_le (later p.since wait) now
 abbrev pub is_in_reach : ℕ → ℕ → State → Bool
 is_in_reach wait now s = s.pace.connected && not (is_late_put wait now s.puts)
 
--- ---- the desk, and what is told
+-- ---- the desk, and what is reported
 
 abbrev pub first_update : List KdcUpdate → Option KdcUpdate
 first_update [] = None

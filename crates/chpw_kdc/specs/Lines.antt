@@ -64,7 +64,7 @@ abbrev pub ◌>>=◌ : {A B : Type 0} → Result A LineFault → (A → Result B
 abbrev pub words_of : List ℕ → List (List ℕ)
 words_of line = slice_split (λ b. b == 32) line
 
--- what comes before the first space, and behind it
+-- what comes before the first space, and after it
 abbrev pub first_word : List ℕ → Option (List ℕ × List ℕ)
 first_word line =
     if nat_lt (position_or_len (λ b. b == 32) line) (length line)

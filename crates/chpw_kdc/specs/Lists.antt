@@ -8,7 +8,7 @@ use Rattle.chpw_kdc.specs.declared.answer.Answer.TheVariants as answer
 use Rattle.chpw_kdc.specs.declared.judging.Judgement.{Judgement}
 use Rattle.chpw_kdc.specs.declared.judging.Judgement.TheVariants as judged
 use Rattle.chpw_kdc.specs.declared.put.Put.{Put}
-use Rattle.chpw_kdc.specs.declared.put.Asked.TheVariants as asked
+use Rattle.chpw_kdc.specs.declared.put.UnderWay.TheVariants as asked
 use Rattle.chpw_kdc.specs.declared.update.KdcUpdate.{KdcUpdate}
 use Rattle.chpw_kdc.specs.declared.update.KdcUpdate.TheVariants as update
 use Rattle.chpw_kdc.specs.declared.update.Notice.{Notice}
@@ -19,7 +19,7 @@ use Rattle.chpw_kdc.specs.Answering.{after_answer, each, is_listed, is_many, lac
 
 -- ---- what the KDC has
 
--- a name with its newest version and that version's keys, or a name whose keys the agent doesn't tell
+-- a name with its newest version and that version's keys, or a name whose keys the agent doesn't give
 pub data Row : Type 0 where
   has : Name → ℕ → KeyPair → Row
   other : Name → Reason → Row
@@ -71,20 +71,20 @@ abbrev pub adoptions_for : (Name → Bool) → Mirror → List Row → List KdcU
 adoptions_for ours mirror [] = []
 adoptions_for ours mirror (row ∷ rows) = adoption_by (name_of row) (judgement_of ours mirror row) ++ adoptions_for ours mirror rows
 
--- that so many are gone is told, unless it was told of the list before
+-- that so many are gone is reported, unless it was reported of the list before
 abbrev pub IsManyTold : ℕ → ℕ → State → State → Type 0
 IsManyTold gone of s t =
     (t.tellings.is_many_told ≡ true)
     × (s.tellings.is_many_told ≡ false → (before : List Notice) × (t.tellings.notices ≡ before ++ TooManyGone gone of ∷ []))
 
--- the names that the KDC lacks are asked for alone; or they are too many, which is told
+-- the names that the KDC lacks are asked for alone; or they are too many, which is reported
 abbrev pub AskedAlone : Bool → List Name → State → State → Type 0
 AskedAlone false names s t = t.gets ≡ names
 AskedAlone true names s t = (t.gets ≡ s.gets) × IsManyTold (length names) (length s.mirror) s t
 
 -- after the whole list of these rows, which was asked for at this moment
 pub record IsPutRight (ours : Name → Bool) (s : State) (rows : List Row) (count : ℕ) (t : State) : Type 0 where
-  -- no name stands in the list twice
+  -- no name is in the list twice
   pub once : AreNew [] rows
   pub mirror : t.mirror ≡ s.mirror
   -- for each row what is to be done for its name, and no more

@@ -1,4 +1,4 @@
--- The mirror of the table: the newest key that was told for each name, in the order of the names.
+-- The mirror of the table: the newest key that was reported for each name, in the order of the names.
 use Rattle.std.specs.Prelude.{ℕ, Bool, false, ◌&&◌, ◌==◌, nat_lt, bytes_eq, if◌then◌else◌, List, length, Option, Some, None}
 use Rattle.std.specs.Map.{lookup, remove_entry}
 use Rattle.std.specs.BTreeMap.{is_at, insert_entry}

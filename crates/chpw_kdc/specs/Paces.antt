@@ -31,7 +31,7 @@ abbrev pub pace_connected : ℕ → Pace → Pace
 pace_connected now p =
     record p { connected = true; since = now; has_listed = false; ask_at = now; retry_pause = 100; is_due = true; compare_at = now }
 
--- the pause before the next call: 100 milliseconds again behind a connection over which a list was heard to its end, else the
+-- the pause before the next call: 100 milliseconds again after a connection over which a list was heard to its end, else the
 -- present one
 abbrev pub pause_now : Pace → ℕ
 pause_now p = if p.has_listed then 100 else p.call_pause

@@ -8,7 +8,7 @@ use Rattle.chpw_kdc.specs.declared.fields.KeyPair.{KeyPair}
 use Rattle.chpw_kdc.specs.declared.fault.ProtocolFault.{ProtocolFault}
 use Rattle.chpw_kdc.specs.declared.answer.Answer.{Answer}
 use Rattle.chpw_kdc.specs.declared.answer.Answer.TheVariants as answer
-use Rattle.chpw_kdc.specs.declared.put.Asked.TheVariants as asked
+use Rattle.chpw_kdc.specs.declared.put.UnderWay.TheVariants as asked
 use Rattle.chpw_kdc.specs.declared.update.KdcUpdate.{KdcUpdate}
 use Rattle.chpw_kdc.specs.declared.update.KdcUpdate.TheVariants as update
 use Rattle.chpw_kdc.specs.Lines.{Request, list_keys, get, put, answer_of, is_sayable, request_line}
@@ -65,7 +65,7 @@ abbrev pub run : State → List Event → State
 run s [] = s
 run s (e ∷ es) = run (behind s e) es
 
--- the state after these events, the first of which come behind the start
+-- the state after these events, the first of which come after the start
 abbrev pub state_after : ℕ → List Event → State
 state_after start events = run (at_start start) events
 
@@ -92,7 +92,7 @@ pub record IsTold (events : List Event) (name : Name) (key : KeyRow) : Type 0 wh
   pub parts : events ≡ before ++ event ∷ later
   pub tells : Tells event name key
 
--- each put is of a key that was told for that name, under its version
+-- each put is of a key that was reported for that name, under its version
 abbrev pub PutsAreTold : Type 0
 PutsAreTold =
     (start : ℕ) (events : List Event) (now : ℕ) (name : Name) (key : KeyRow)

@@ -95,7 +95,7 @@ impl Answer {
     }
 }
 
-// What comes before the first space, and behind it.
+// What comes before the first space, and after it.
 fn first_word(text: &str) -> Option<(&str, &str)>
     ensures value { option_map (λ parts. (parts.0.now, parts.1.now)) result ≡ first_word text.now }
 {

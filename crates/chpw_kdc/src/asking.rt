@@ -8,7 +8,7 @@ ghost use Rattle.chpw_kdc.specs.Times.{next_of, next_time};
 
 use crate::dialog::KdcDialog;
 use crate::fault::ProtocolFault;
-use crate::put::Asked;
+use crate::put::UnderWay;
 use crate::request::Request;
 use std::alloc::AllocError;
 
@@ -77,7 +77,7 @@ impl KdcDialog {
             key: &key,
         };
         let line = request.line(self.alloc)?;
-        self.asked = Some(Asked::Put(key));
+        self.asked = Some(UnderWay::Put(key));
         self.pace.ask(now);
         Ok(Some(line))
     }
@@ -93,7 +93,7 @@ impl KdcDialog {
             return Ok(None);
         };
         let line = Request::Get(name).line(self.alloc)?;
-        self.asked = Some(Asked::Get);
+        self.asked = Some(UnderWay::Get);
         self.pace.ask(now);
         Ok(Some(line))
     }
@@ -105,7 +105,7 @@ impl KdcDialog {
         ensures unchanged { OnErr result (self.new ≡ self.old) }
     {
         let line = Request::ListKeys.line(self.alloc)?;
-        self.asked = Some(Asked::List);
+        self.asked = Some(UnderWay::List);
         self.pace.begin(now);
         self.pace.ask(now);
         Ok(Some(line))

@@ -89,7 +89,7 @@ impl KdcDialog {
         Ok(())
     }
 
-    // The KDC has the name, but the agent doesn't write it or tell its keys.
+    // The KDC has the name, but the agent doesn't write it or give its keys.
     pub(crate) fn refuse(&mut self, name: Name, reason: Reason) -> Result<(), AllocError>
         ensures step { OnOk result (self.new ≡ refused_if_held name reason self.old) }
         ensures unchanged { OnErr result (self.new ≡ self.old) }

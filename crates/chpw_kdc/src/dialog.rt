@@ -13,9 +13,9 @@ use crate::fault::HoldFault;
 use crate::fields::is_sayable;
 use crate::judging::newer;
 use crate::pace::Pace;
-use crate::put::{Asked, MOST_PUTS, Put};
+use crate::put::{MOST_PUTS, Put, UnderWay};
 use crate::tellings::Tellings;
-use crate::update::{KdcUpdate, Notice, Refusal};
+use crate::update::{KdcUpdate, Notice, RefusedName};
 use chpw_record::KeyRow;
 use chpw_rules::Name;
 use std::alloc::{AllocError, Global};
@@ -24,12 +24,12 @@ use std::marker::Model;
 
 /// What the service says to the agent at the KDC's database, and what it makes of the answers.
 ///
-/// It keeps a mirror of the table: the newest key that was told for each name. One request is under way at a time. All
+/// It keeps a mirror of the table: the newest key that was reported for each name. One request is under way at a time. All
 /// times are milliseconds of a clock that doesn't go back.
 #[derive(Drop)]
 pub struct KdcDialog {
     pub(crate) alloc: Global,
-    // The newest key that the table had for each name, as it was told.
+    // The newest key that the table had for each name, as it was reported.
     pub(crate) mirror: BTreeMap<Name, KeyRow>,
     // The keys that the KDC is to get, in the order in which they are put. The first may be under way.
     pub(crate) puts: VecDeque<Put>,
@@ -39,7 +39,7 @@ pub struct KdcDialog {
     pub(crate) confirmed: u64,
     // Whether the KDC has the key whose put was answered last.
     pub(crate) written: bool,
-    pub(crate) asked: Option<Asked>,
+    pub(crate) asked: Option<UnderWay>,
     // The beginning of a line.
     pub(crate) heard: Vec<u8>,
     // The names that the list under way has named.
@@ -85,8 +85,7 @@ pub struct KdcStatus<'a> {
     pub since: u64,
     /// How many keys are on their way to the KDC.
     pub behind: usize,
-    /// The last refusal.
-    pub refusal: Option<&'a Refusal>,
+    pub refusal: Option<&'a RefusedName>,
 }
 
 impl KdcDialog {
@@ -161,7 +160,7 @@ impl KdcDialog {
         }
     }
 
-    /// The desk didn't adopt this name, since its table has as many principals as it may. That is told once, until one of
+    /// The desk didn't adopt this name, since its table has as many principals as it may. That is reported once, until one of
     /// them is gone. After `AllocError` nothing has changed.
     pub fn tell_full(&mut self, name: Name) -> Result<(), AllocError>
         ensures step { OnOk result (self.new ≡ after_full_table name self.old) }
@@ -171,7 +170,7 @@ impl KdcDialog {
         Ok(())
     }
 
-    /// How many names the table has, as it was told.
+    /// How many names the table has, as it was reported.
     pub fn held(&self) -> usize
         ensures value { result ≡ length self.now.mirror }
     {
@@ -226,7 +225,7 @@ impl KdcDialog {
     }
 
     /// A change, or a key of the table's, was lost: `want` or `hold` refused it, or it wasn't found. Table and KDC are compared
-    /// anew, which is told. The comparison puts right what the mirror knows of.
+    /// anew, which is reported. The comparison puts right what the mirror knows of.
     pub fn want_lost(&mut self)
         ensures step { self.new ≡ after_lost_want self.old }
     {
@@ -262,7 +261,6 @@ impl KdcDialog {
         !self.puts.is_empty()
     }
 
-    /// Whether there is a connection.
     pub fn is_connected(&self) -> bool
         ensures value { result ≡ self.now.pace.connected }
     {
@@ -345,7 +343,7 @@ impl KdcDialog {
         self.deciding = self.deciding.saturating_sub(1);
     }
 
-    /// What is to be told next.
+    /// What is to be reported next.
     pub fn take_notice(&mut self) -> Option<Notice>
         ensures value { result ≡ next_notice self.old.tellings }
         ensures step { self.new ≡ after_telling self.old }

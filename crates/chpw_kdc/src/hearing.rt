@@ -8,7 +8,7 @@ use crate::answer::Answer;
 use crate::dialog::KdcDialog;
 use crate::fault::ProtocolFault;
 use crate::judging::IsOurs;
-use crate::put::Asked;
+use crate::put::UnderWay;
 use crate::request::LINE;
 
 impl KdcDialog {
@@ -76,9 +76,9 @@ impl KdcDialog {
     {
         match self.asked {
             None => Err(ProtocolFault::OutOfTurn),
-            Some(Asked::List) => self.hear_of_list(ours, answer, now),
-            Some(Asked::Get) => self.hear_of_get(ours, answer, now),
-            Some(Asked::Put(key)) => self.hear_of_put(key, answer, now),
+            Some(UnderWay::List) => self.hear_of_list(ours, answer, now),
+            Some(UnderWay::Get) => self.hear_of_get(ours, answer, now),
+            Some(UnderWay::Put(key)) => self.hear_of_put(key, answer, now),
         }
     }
 }

@@ -4,7 +4,7 @@ ghost use Rattle.chpw_kdc.specs.Lists.{ListsPutRight};
 ghost use Rattle.chpw_kdc.specs.Runs.{FaultsChangeNothing, FewAreAsked, LinesAreShort, NeverFalls, OneAtATime, Piecewise};
 ghost use Rattle.chpw_kdc.specs.Runs.{PutsAreTold, PutsComeFirst, Truthful, UpdatesAreGrounded};
 
-/// Each put is of a key that was told for that name, under its version.
+/// Each put is of a key that was reported for that name, under its version.
 #[tactic(auto, using(crate::proofs::ToldLemmas::puts_are_told))]
 pub fn only_what_was_told()
     ensures { PutsAreTold }

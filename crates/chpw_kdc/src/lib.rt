@@ -27,4 +27,4 @@ pub use fault::{HoldFault, LineFault, ProtocolFault};
 pub use fields::{KeyPair, NAME_TEXT, is_sayable};
 pub use judging::{DEFAULT_COUNT, IsOurs};
 pub use request::{LINE, Request};
-pub use update::{KdcUpdate, Notice, Refusal};
+pub use update::{KdcUpdate, Notice, RefusedName};

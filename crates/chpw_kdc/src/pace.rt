@@ -21,7 +21,6 @@ pub const ANSWER_TIME: u64 = 30_000;
 /// When the agent is called, asked and asked again. All times are milliseconds of a clock that doesn't go back.
 #[derive(Clone, Copy, Drop)]
 pub struct Pace {
-    /// Whether there is a connection.
     pub connected: bool,
     /// Since when there is one, or none.
     pub since: u64,
@@ -95,7 +94,7 @@ impl Pace {
         self.is_due = true;
     }
 
-    // The pause before the next call: the first one again behind a connection over which a list was heard to its end.
+    // The pause before the next call: the first one again after a connection over which a list was heard to its end.
     fn pause_now(&self) -> u64
         ensures value { result ≡ pause_now self.now }
     {

@@ -20,7 +20,7 @@ pub(crate) struct Put {
 
 /// The request under way.
 #[derive(Clone, Copy, Drop)]
-pub(crate) enum Asked {
+pub(crate) enum UnderWay {
     /// Every name with its keys.
     List,
     /// The first of the names that are asked for alone.

@@ -1,33 +1,32 @@
-//! What is to be told, and what was told already.
+//! What is to be reported, and what was reported already.
 ghost use Rattle.std.specs.Prelude.{◌≡◌, OnOk, OnErr};
 ghost use Rattle.std.specs.Option.{option_copied};
 ghost use Rattle.chpw_kdc.specs.Tellings.{nothing_told, after_refusal, after_told, is_told, after_accepted, after_missing, after_few};
 ghost use Rattle.chpw_kdc.specs.Tellings.{after_failure, after_success, after_lost_change, after_full, after_room, next_notice, after_notice};
 
 use crate::answer::Reason;
-use crate::update::{Notice, Refusal};
+use crate::update::{Notice, RefusedName};
 use chpw_rules::{Items, Name};
 use std::alloc::{AllocError, Global};
 use std::collections::{BTreeMap, VecDeque};
 use std::marker::Model;
 use std::mem;
 
-/// What is to be told, and what was told already.
+/// What is to be reported, and what was reported already.
 #[derive(Drop)]
 pub(crate) struct Tellings {
-    // What is to be told, the oldest first.
+    // What is to be reported, the oldest first.
     notices: VecDeque<Notice>,
-    // The reason that was told last for each name that the agent refuses.
+    // The reason that was reported last for each name that the agent refuses.
     told: BTreeMap<Name, Reason>,
-    // The last refusal.
-    refusal: Option<Refusal>,
+    refusal: Option<RefusedName>,
     // A change was lost, which isn't told yet.
     is_lost: bool,
-    // A failure was told, and nothing has succeeded since.
+    // A failure was reported, and nothing has succeeded since.
     is_failing: bool,
-    // It was told that the table is full, and no name has gone since.
+    // It was reported that the table is full, and no name has gone since.
     is_full_told: bool,
-    // It was told that many names are gone, and the lists since were so, too.
+    // It was reported that many names are gone, and the lists since were so, too.
     is_many_told: bool,
 }
 
@@ -74,8 +73,7 @@ impl Tellings {
         self.notices.pop_front()
     }
 
-    /// The last refusal.
-    pub fn refusal(&self) -> Option<&Refusal>
+    pub fn refusal(&self) -> Option<&RefusedName>
         ensures value { option_copied result ≡ self.now.refusal }
     {
         self.refusal.as_ref()
@@ -88,12 +86,12 @@ impl Tellings {
         self.is_lost = true;
     }
 
-    /// The agent refuses a name. It is told unless this reason was the last one told for it.
+    /// The agent refuses a name. It is reported unless this reason was the last one reported for it.
     pub fn refuse(&mut self, name: Name, reason: Reason) -> Result<(), AllocError>
         ensures step { OnOk result (self.new ≡ after_refusal name reason self.old) }
         ensures unchanged { OnErr result (self.new ≡ self.old) }
     {
-        let refusal = Refusal {
+        let refusal = RefusedName {
             name: name.clone()?,
             reason,
         };
@@ -104,7 +102,7 @@ impl Tellings {
         Ok(())
     }
 
-    // Whether this reason was the last one told for the name.
+    // Whether this reason was the last one reported for the name.
     fn is_told(&self, name: &Name, reason: Reason) -> bool
         ensures value { result ≡ is_told self.now name.now reason }
     {
@@ -126,14 +124,14 @@ impl Tellings {
         Ok(())
     }
 
-    /// The agent wrote a name's key: its next refusal is told again.
+    /// The agent wrote a name's key: its next refusal is reported again.
     pub fn accept(&mut self, name: &Name)
         ensures step { self.new ≡ after_accepted name.now self.old }
     {
         self.told.remove(name);
     }
 
-    /// A list lacks many names. It is told unless that was told, and the lists since were so, too.
+    /// A list lacks many names. It is reported unless that was reported, and the lists since were so, too.
     pub fn miss(&mut self, gone: usize, of: usize) -> Result<(), AllocError>
         ensures step { OnOk result (self.new ≡ after_missing gone of self.old) }
         ensures unchanged { OnErr result (self.new ≡ self.old) }
@@ -153,7 +151,7 @@ impl Tellings {
         self.is_many_told = false;
     }
 
-    /// A request failed. It is told unless nothing has succeeded since a failure was told, or another program has the
+    /// A request failed. It is reported unless nothing has succeeded since a failure was reported, or another program has the
     /// database locked.
     pub fn fail(&mut self, text: Items<u8>) -> Result<(), AllocError>
         ensures step { OnOk result (self.new ≡ after_failure text self.old) }
@@ -167,7 +165,7 @@ impl Tellings {
         Ok(())
     }
 
-    /// The table is full, so a name isn't adopted. It is told unless that was told and no name has gone since.
+    /// The table is full, so a name isn't adopted. It is reported unless that was reported and no name has gone since.
     pub fn fill(&mut self, name: Name) -> Result<(), AllocError>
         ensures step { OnOk result (self.new ≡ after_full name self.old) }
         ensures unchanged { OnErr result (self.new ≡ self.old) }
@@ -180,7 +178,7 @@ impl Tellings {
         Ok(())
     }
 
-    /// A name has gone from the table: whether it was told that it is full.
+    /// A name has gone from the table: whether it was reported that it is full.
     pub fn make_room(&mut self) -> bool
         ensures value { result ≡ self.old.is_full_told }
         ensures step { self.new ≡ after_room self.old }

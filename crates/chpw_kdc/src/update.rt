@@ -1,4 +1,4 @@
-//! What the table is to learn from the KDC, and what is to be told.
+//! What the table is to learn from the KDC, and what is to be reported.
 
 use crate::answer::Reason;
 use chpw_record::KeyRow;
@@ -15,12 +15,12 @@ pub enum KdcUpdate {
     Remove { name: Name },
 }
 
-/// What is to be told, once.
+/// What is to be reported, once.
 #[derive(Drop)]
 pub enum Notice {
     /// A change was lost, or a key of the table's (`want_lost`): table and KDC are compared anew.
     Lost,
-    /// The agent doesn't write this name, or doesn't tell its keys.
+    /// The agent doesn't write this name, or doesn't give its keys.
     Refused { name: Name, reason: Reason },
     /// The KDC lacks `gone` of the `of` names that are held: more than ten, and more than a tenth. None is removed.
     TooManyGone { gone: usize, of: usize },
@@ -32,7 +32,7 @@ pub enum Notice {
 
 /// A name that the agent refused, and why.
 #[derive(Drop)]
-pub struct Refusal {
+pub struct RefusedName {
     pub name: Name,
     pub reason: Reason,
 }

@@ -74,7 +74,7 @@ module _ (h : Adopted) where
       (still_compared h.name made h.key old held h.later parts.1 stays
       (subst (λ (d : Fixed). new_keys_of h.name h.later < d.policy.depth) (sym same_fixed) low))
 
-  -- in the end there are the keys that came later, and behind them the adopted one
+  -- in the end there are the keys that came later, and after them the adopted one
   pub adopted_at_end : NeverRemoved h.name h.later → StandsBehind h.name h.key (new_keys_of h.name h.later) (end_with h)
   adopted_at_end stays = subst (λ (s : State). StandsBehind h.name h.key (new_keys_of h.name h.later) s) (sym at_end)
       (stands_behind h.name made h.key old held h.later parts.1 stays)

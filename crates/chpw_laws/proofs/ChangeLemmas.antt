@@ -102,7 +102,7 @@ module _ (h : Changed) where
       (still_compared h.name made (key_of h) held.0 held.1 h.later parts.1 stays
       (subst (λ (d : Fixed). new_keys_of h.name h.later < d.policy.depth) (sym same_fixed) low))
 
-  -- in the end there are the keys that came later, and behind them the change's
+  -- in the end there are the keys that came later, and after them the change's
   pub held_at_end : NeverRemoved h.name h.later → StandsBehind h.name (key_of h) (new_keys_of h.name h.later) (end_of h)
   held_at_end stays = subst (λ (s : State). StandsBehind h.name (key_of h) (new_keys_of h.name h.later) s) (sym at_end)
       (stands_behind h.name made (key_of h) held.0 held.1 h.later parts.1 stays)

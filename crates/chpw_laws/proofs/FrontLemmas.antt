@@ -14,7 +14,7 @@ use Rattle.chpw_table.proofs.KeyLemmas.{take_front}
 use Rattle.chpw_laws.specs.OldPasswords.{ComparesWith, new_keys_of}
 use Rattle.chpw_laws.proofs.KeptLemmas.{Alike, IsKept, alike_first, alike_front, fixed_throughout, kept_throughout, as_many_made, after_entries}
 
--- an element behind few others is among the first
+-- an element after few others is among the first
 pub among_first : (depth : ℕ) (xs : List KeyRow) (x : KeyRow) (ys : List KeyRow) → length xs < depth → Contains (take depth (xs ++ x ∷ ys)) x
 among_first depth xs x ys h =
     let long : length (take depth (xs ++ x ∷ ys)) ≡ min depth (length xs + length (x ∷ ys)) =
@@ -85,7 +85,7 @@ still_compared name s key old held later legal stays low =
     (among_first s.fixed.policy.depth (keys_made s later name) key old
     (subst (λ (n : ℕ). n < s.fixed.policy.depth) (sym (as_many_made s later name)) low))
 
--- where it stands in the end: behind as many others as came in front
+-- where it stands in the end: after as many others as came in front
 pub record StandsBehind (name : Name) (key : KeyRow) (count : ℕ) (s : State) : Type 0 where
   pub front : List KeyRow
   pub old : List KeyRow

@@ -73,7 +73,7 @@ after_runs s (r ∷ rs) name are stays few =
       kept = rest.kept ∙ kept;
     }
 
--- a key behind others at first is compared with in the end while few further keys came in front
+-- a key after others at first is compared with in the end while few further keys came in front
 compared_then : (s : State) (runs : List Run) (name : Name) (key : KeyRow) (count : ℕ) → AreRuns s runs → NeverRemovedIn name runs
     → StandsBehind name key count s → count + new_keys_in name runs < (last_state s runs).fixed.policy.depth
     → ComparesWith (last_state s runs) name key

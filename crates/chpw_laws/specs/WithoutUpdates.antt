@@ -60,7 +60,7 @@ DepthChangesBetween = (h : Changed) (again : Entry) (o : Opened) → HaveNoUpdat
     again.event ≡ Ask o Done → IsFor h.name h.password o →
     depth_of h ≤ changes_of h.name h.later
 
--- and no more need be: in some legal history with a `depth` of 1, one other change stands between two such changes
+-- and no more need be: in some legal history with a `depth` of 1, one other change comes between two such changes
 abbrev pub OneIsEnough : Type 0
 OneIsEnough = (h : Changed) × (again : Entry) × (o : Opened)
     × IsLegal h.opening ((h.before ++ h.change ∷ h.later) ++ again ∷ [])

@@ -25,7 +25,7 @@ use krb_keys::laws::published_values;
 /// Between two accepted changes to one password at least `depth` others came in front, unless it was removed.
 ///
 /// A new password is compared with each key under that key's own iteration count. A request that lacks a key under one
-/// of these counts isn't decided (`missing`), and so isn't accepted. So a raise of the count, wherever it stands in the
+/// of these counts isn't decided (`missing`), and so isn't accepted. So a raise of the count, wherever it is in the
 /// history, changes nothing of this; nor does a lift of a version, or an update of another principal. The salt is the
 /// principal's realm and name (RFC 4120 section 4); a request for another realm is denied. With a `depth` of 0 nothing is
 /// compared.
@@ -66,7 +66,7 @@ pub fn without_updates()
     ensures restarts { OnlyChangesBringKeysInRuns }
 {}
 
-/// Of `depth` other changes no more need stand between two accepted changes to one password: with a depth of 1 one is
+/// Of `depth` other changes no more need come between two accepted changes to one password: with a depth of 1 one is
 /// enough, as in a history with the password of RFC 3962 appendix B.
 pub fn one_between()
     ensures enough { OneIsEnough }

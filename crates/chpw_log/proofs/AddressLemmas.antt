@@ -1,4 +1,4 @@
--- The text of an IPv6 address can stand between two spaces.
+-- The text of an IPv6 address can be between two spaces.
 use Rattle.std.proofs.Common.{◌≡◌, ℕ, ◌<◌, List, [], ◌∷◌, ◌++◌, true, length, length-append}
 use Rattle.std.proofs.Common.{arith, codes, inl, inr}
 use Rattle.std.specs.Prelude.{◌+◌, ◌/◌, ◌%◌, bytes_eq, nat_le, nat_lt, take, drop}

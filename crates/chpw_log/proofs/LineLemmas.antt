@@ -35,7 +35,7 @@ fields_printed (field ∷ next ∷ more) h =
 pub fields_record : (fields : List (List ℕ)) → are_fields fields ≡ true → IsRecord (join_with_byte 32 fields ++ 10 ∷ [])
 fields_record fields h = (join_with_byte 32 fields, refl, fields_printed fields h)
 
--- ---- fields that are put one behind the other
+-- ---- fields that are put one after the other
 
 pub told_joined : (old a b c d e f : List ℕ)
     → old ++ codes " client " ++ a ++ codes " target " ++ b ++ codes " code " ++ c ++ codes " error " ++ d

@@ -1,7 +1,7 @@
 -- The limits of the kinds of messages that anybody can send without end, each by itself.
 use Rattle.std.specs.Prelude.{◌≡◌, ℕ, ◌+◌, ◌<◌, ◌≤◌, List, Bool, true, false, IfSome}
 use Rattle.std.specs.declared.net.ip_addr.IpAddr.{IpAddr}
-use Rattle.chpw_log.specs.declared.held.Held.{Held}
+use Rattle.chpw_log.specs.declared.held_count.HeldCount.{HeldCount}
 use Rattle.chpw_log.specs.declared.kind.HeldKind.{HeldKind}
 use Rattle.chpw_log.specs.declared.kind.HeldKind.TheVariants.{Unopened, Skewed, Replayed}
 use Rattle.chpw_log.specs.declared.limit.LineLimit.{LineLimit}
@@ -58,7 +58,7 @@ IsAfter true now peer before after =
     (after.lines ≡ lines_after now before.lines) × (after.held ≡ held_after now peer before.lines before.held)
 IsAfter false now peer before after = IsLeft now before after
 
-abbrev pub IsFew : Held → Type 0
+abbrev pub IsFew : HeldCount → Type 0
 IsFew held = held.loopback + held.other ≤ 1000000
 
 abbrev pub AreFew : HeldCounts → Type 0

@@ -18,7 +18,7 @@ use Rattle.chpw_table.specs.Requests.{client_of, named_or}
 use Rattle.chpw_table.specs.Replies.{Answer, answer_of}
 use Rattle.krb_protocol.specs.declared.refusal.Refusal.{Refusal}
 use Rattle.chpw_log.specs.declared.line.Line.{Line}
-use Rattle.chpw_log.specs.declared.message_event.Asked.{Asked}
+use Rattle.chpw_log.specs.declared.message_event.ClientAndTarget.{ClientAndTarget}
 use Rattle.chpw_log.specs.declared.message_event.MessageEvent.{MessageEvent}
 use Rattle.chpw_log.specs.declared.message_event.MessageEvent.TheVariants.{Decided, Full, Unopened}
 use Rattle.chpw_log.specs.declared.message_event.Party.{Party}
@@ -49,7 +49,7 @@ pub record Outcome : Type 0 where
   pub kvno : Option ℕ
   pub text : List ℕ
 
-abbrev pub decided : Asked → Answer → Option ℕ → Outcome
+abbrev pub decided : ClientAndTarget → Answer → Option ℕ → Outcome
 decided asked answer kvno = record {
   client = Some (named asked.client);
   target = option_map named asked.target;
@@ -120,7 +120,7 @@ line_of l = line_with l.moment l.worker l.peer (outcome_of l.news)
 
 -- ---- what a line is
 
--- fields that can stand between two spaces, and a last one that may have spaces; all of printable ASCII
+-- fields that can be between two spaces, and a last one that may have spaces; all of printable ASCII
 abbrev pub are_fields : List (List ℕ) → Bool
 are_fields [] = false
 are_fields (text ∷ []) = are_printed text

@@ -2,7 +2,7 @@
 #![tactic(auto)]
 
 mod event;
-mod held;
+mod held_count;
 mod kind;
 pub mod laws;
 mod limit;
@@ -16,11 +16,11 @@ mod updates;
 mod writing;
 
 pub use event::{ServiceEvent, write_event};
-pub use held::Held;
+pub use held_count::HeldCount;
 pub use kind::HeldKind;
 pub use limits::{HeldCounts, LineLimits, LinePermit};
 pub use line::{Line, micros_of};
-pub use message_event::{Asked, MessageEvent, Party};
+pub use message_event::{ClientAndTarget, MessageEvent, Party};
 pub use summing::write_held;
 pub use unconfirmed::write_unconfirmed;
 pub use updates::write_update;

@@ -3,7 +3,7 @@ ghost use Rattle.std.specs.Prelude.{◌≡◌, ◌+◌, ◌<◌, ◌≤◌, IfSo
 ghost use Rattle.chpw_log.specs.Limits.{counted_after, is_apart, is_due, is_free, is_gone, is_loopback, is_none_held, left_at};
 ghost use Rattle.chpw_log.specs.Limits.{lines_after, no_lines, none_held, one_more, rest_of, told_at};
 
-use crate::held::Held;
+use crate::held_count::HeldCount;
 use std::net::IpAddr;
 
 /// A second, in microseconds.
@@ -18,16 +18,16 @@ const MOST: u32 = 1_000_000;
 pub(crate) struct LineLimit {
     /// When the last ten lines were, newest first.
     lines: [Option<u64>; 10],
-    held: Held,
+    held: HeldCount,
     ghost few: { held.loopback + held.other ≤ 1000000 },
 }
 
-impl Held {
+impl HeldCount {
     // None.
-    fn none() -> Held
+    fn none() -> HeldCount
         ensures value { result ≡ none_held }
     {
-        Held {
+        HeldCount {
             loopback: 0,
             other: 0,
             since: 0,
@@ -48,19 +48,19 @@ impl Held {
     }
 
     // These and one more from this peer.
-    fn with(self, now: u64, peer: IpAddr) -> Held
+    fn with(self, now: u64, peer: IpAddr) -> HeldCount
         requires room { self.loopback + self.other < 1000000 }
         ensures value { result ≡ one_more now peer self }
     {
         let since = if self.is_none() { now } else { self.since };
         if is_loopback(peer) {
-            Held {
+            HeldCount {
                 loopback: self.loopback + 1,
                 other: self.other,
                 since,
             }
         } else {
-            Held {
+            HeldCount {
                 loopback: self.loopback,
                 other: self.other + 1,
                 since,
@@ -87,7 +87,7 @@ impl LineLimit {
     {
         LineLimit {
             lines: [None; 10],
-            held: Held::none(),
+            held: HeldCount::none(),
         }
     }
 
@@ -107,7 +107,7 @@ impl LineLimit {
     }
 
     /// How many were held back, if a summary is due at this time; the count then starts again.
-    pub fn due(&mut self, now: u64) -> Option<Held>
+    pub fn due(&mut self, now: u64) -> Option<HeldCount>
         ensures told { result ≡ told_at now self.old.held }
         ensures few { IfSome result (λ held. held.loopback + held.other ≤ 1000000) }
         ensures held { self.new.held ≡ left_at now self.old.held }
@@ -118,12 +118,12 @@ impl LineLimit {
             return None;
         }
         let told = self.held;
-        self.held = Held::none();
+        self.held = HeldCount::none();
         Some(told)
     }
 
     /// How many were held back since the last summary; the count then starts again.
-    pub fn rest(&mut self) -> Option<Held>
+    pub fn rest(&mut self) -> Option<HeldCount>
         ensures told { result ≡ rest_of self.old.held }
         ensures few { IfSome result (λ held. held.loopback + held.other ≤ 1000000) }
         ensures held { (self.new.held.loopback ≡ 0) × (self.new.held.other ≡ 0) }
@@ -133,7 +133,7 @@ impl LineLimit {
             return None;
         }
         let told = self.held;
-        self.held = Held::none();
+        self.held = HeldCount::none();
         Some(told)
     }
 

@@ -3,7 +3,7 @@ ghost use Rattle.std.specs.Prelude.{◌≡◌};
 ghost use Rattle.chpw_log.specs.Limits.{no_lines, none_held};
 ghost use Rattle.chpw_log.specs.Kinds.{AreFew, HaveRoom, IsAfter, IsLeft, IsNoneHeld, IsRest, IsTold, is_line, is_replayed, is_skewed, is_unopened};
 
-use crate::held::Held;
+use crate::held_count::HeldCount;
 use crate::kind::HeldKind;
 use crate::limit::LineLimit;
 use std::net::IpAddr;
@@ -11,9 +11,9 @@ use std::net::IpAddr;
 /// The summaries that are due, by what they count.
 #[derive(Clone, Copy, Drop)]
 pub struct HeldCounts {
-    pub unopened: Option<Held>,
-    pub skewed: Option<Held>,
-    pub replayed: Option<Held>,
+    pub unopened: Option<HeldCount>,
+    pub skewed: Option<HeldCount>,
+    pub replayed: Option<HeldCount>,
 }
 
 /// What is to be written for a message of a kind whose lines are limited.

@@ -19,7 +19,7 @@ pub struct Party<'a> {
 
 /// Who asks, and whose password is to be new.
 #[derive(Clone, Copy, Drop)]
-pub struct Asked<'a> {
+pub struct ClientAndTarget<'a> {
     pub client: Party<'a>,
     /// None if the KRB-PRIV is bad.
     pub target: Option<Party<'a>>,
@@ -30,14 +30,14 @@ pub struct Asked<'a> {
 pub enum MessageEvent<'a> {
     /// It opened, and this was decided.
     Decided {
-        asked: Asked<'a>,
+        asked: ClientAndTarget<'a>,
         verdict: Verdict,
         /// The version of the new key, if it is known.
         kvno: Option<u32>,
     },
     /// It opened, and the history was full: it is refused with this.
     Full {
-        asked: Asked<'a>,
+        asked: ClientAndTarget<'a>,
         refusal: &'a Refusal,
     },
     /// It didn't open, and is refused with this.
@@ -59,10 +59,10 @@ pub(crate) struct LogFields<'a> {
     pub(crate) text: &'a str,
 }
 
-impl<'a> Asked<'a> {
+impl<'a> ClientAndTarget<'a> {
     /// What a request names: its client, and the client again as target if it names none. A request whose KRB-PRIV is
     /// bad has no target.
-    pub fn of(opened: &'a Opened) -> Asked<'a>
+    pub fn of(opened: &'a Opened) -> ClientAndTarget<'a>
         ensures client { named result.client ≡ client_of opened.now }
         ensures target { option_map named result.target ≡ target_asked opened.now }
     {
@@ -81,12 +81,11 @@ impl<'a> Asked<'a> {
             Body::Ask { target: None, .. } => Some(client),
             Body::BadPrivate | Body::BadData => None,
         };
-        Asked { client, target }
+        ClientAndTarget { client, target }
     }
 }
 
 impl<'a> MessageEvent<'a> {
-    /// The fields for it.
     pub(crate) fn fields(&self) -> LogFields<'a>
         ensures value { said result ≡ outcome_of self.now }
     {

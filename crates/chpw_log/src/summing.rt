@@ -6,7 +6,7 @@ ghost use Rattle.chpw_table.specs.Times.{IsMoment};
 ghost use Rattle.chpw_log.specs.Lines.{IsRecord, are_fields};
 ghost use Rattle.chpw_log.specs.Summaries.{held_fields, held_line, held_words, kind_words};
 
-use crate::held::Held;
+use crate::held_count::HeldCount;
 use crate::kind::HeldKind;
 use crate::moment::put_moment;
 use chpw_printing::put_number;
@@ -19,7 +19,7 @@ pub fn write_held(
     alloc: Global,
     moment: Moment,
     kind: HeldKind,
-    held: &Held,
+    held: &HeldCount,
 ) -> Result<Vec<u8>, AllocError>
     requires moment { IsMoment moment }
     requires micros { moment.micros < 1000000 }
@@ -37,7 +37,7 @@ pub fn write_held(
 }
 
 // Adds the numbers in words.
-fn put_words(text: &mut Vec<u8>, kind: HeldKind, held: &Held) -> Result<(), AllocError>
+fn put_words(text: &mut Vec<u8>, kind: HeldKind, held: &HeldCount) -> Result<(), AllocError>
     requires few { held.now.loopback + held.now.other ≤ 1000000 }
     ensures value { OnOk result (text.new.items ≡ text.old.items ++ held_words kind held.now) }
     ensures printed { OnOk result (are_printed (held_words kind held.now) ≡ true) }
@@ -49,7 +49,7 @@ fn put_words(text: &mut Vec<u8>, kind: HeldKind, held: &Held) -> Result<(), Allo
 }
 
 // Adds how many came from where.
-fn put_counts(text: &mut Vec<u8>, kind: HeldKind, held: &Held) -> Result<(), AllocError>
+fn put_counts(text: &mut Vec<u8>, kind: HeldKind, held: &HeldCount) -> Result<(), AllocError>
     ensures value { OnOk result (text.new.items ≡ text.old.items
         ++ kind_words kind ++ decimal held.now.loopback
         ++ codes " from 127.0.0.0/8 or ::1, " ++ decimal held.now.other) }
@@ -71,7 +71,7 @@ fn words_of(kind: HeldKind) -> &'static [u8]
     }
 }
 
-fn total(held: &Held) -> u32
+fn total(held: &HeldCount) -> u32
     requires few { held.now.loopback + held.now.other ≤ 1000000 }
     ensures value { result ≡ held.now.loopback + held.now.other }
 {

@@ -15,8 +15,8 @@ use chpw_control::NameState;
 use chpw_invocation::ServeOptions;
 use chpw_journal::{FileNumber, JournalMarks, SinkCause};
 use chpw_log::{
-    Held, HeldCounts, HeldKind, Line, LineLimits, ServiceEvent, micros_of, write_event, write_held,
-    write_line, write_unconfirmed, write_update,
+    HeldCount, HeldCounts, HeldKind, Line, LineLimits, ServiceEvent, micros_of, write_event,
+    write_held, write_line, write_unconfirmed, write_update,
 };
 use chpw_start::{LineOutput, RaiseReport, ServeFault, is_standard_error, keep_apart};
 use chpw_table::{KdcUpdate, Moment, Table, UpdateVerdict};
@@ -287,7 +287,7 @@ impl<R: Wait + Eprint> Log<'_, R> {
         self.put_held(book, now, HeldKind::Replayed, held.replayed);
     }
 
-    fn put_held(&self, book: &Book<'_>, now: Moment, kind: HeldKind, held: Option<Held>)
+    fn put_held(&self, book: &Book<'_>, now: Moment, kind: HeldKind, held: Option<HeldCount>)
         requires moment { IsMoment now }
         requires micros { now.micros < 1000000 }
         requires few { IfSome held IsFew }

@@ -7,7 +7,7 @@ ghost use Rattle.chpw_log.specs.Lines.{line_of};
 ghost use Rattle.chpw_logging.specs.Noting.{Noted, opened as opened_line, limited, journal_failed, updated as update_told};
 ghost use Rattle.chpw_logging.specs.Noting.{decided_line, failed_under, kind_of, noted_line, refused_line};
 
-use chpw_log::{Asked, HeldKind, Line, MessageEvent};
+use chpw_log::{ClientAndTarget, HeldKind, Line, MessageEvent};
 use chpw_serve::{Gate, Observer, Spot, UpdateObserver};
 use chpw_table::{Event, KdcUpdate, Moment, Opened, Receipt, UpdateVerdict, Verdict};
 use krb_protocol::Refusal;
@@ -146,7 +146,7 @@ fn put_decided<L: Lines>(
         worker,
         peer,
         news: MessageEvent::Decided {
-            asked: Asked::of(opened),
+            asked: ClientAndTarget::of(opened),
             verdict,
             kvno,
         },
@@ -187,7 +187,7 @@ fn put_full<L: Lines>(
         worker,
         peer,
         news: MessageEvent::Full {
-            asked: Asked::of(opened),
+            asked: ClientAndTarget::of(opened),
             refusal,
         },
     });

@@ -59,7 +59,7 @@ without_content q = record q { stamp = None; content = bad_data }
 pub request_is : (q r : Request) → opened q ≡ opened r → q ≡ r
 request_is q r h = cc
 
--- the same AP-REQ with less of a KRB-PRIV behind it
+-- the same AP-REQ with less of a KRB-PRIV after it
 less_opens : (strictness : Strictness) (local : IpAddr) (realm : List ℕ) (version : ℕ) (tail : List ℕ) (k : ℕ) (m : KrbPriv)
     (a : Result ApOpened ApFault) (q : Request) → Spells krb_priv tail (krb_priv_value m) → k < length tail
     → OpensAs strictness local realm version tail a (opened q) → OpensAs strictness local realm version (take k tail) a (opened (without_content q))

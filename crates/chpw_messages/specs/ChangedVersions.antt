@@ -25,7 +25,7 @@ use Rattle.chpw_messages.specs.declared.versions.Acceptance.{Acceptance}
 abbrev pub with_version : ℕ → List ℕ → List ℕ
 with_version version bytes = take 2 bytes ++ to_be_bytes w16 version ++ drop 4 bytes
 
--- its AP-REQ opens, and so does the KRB-PRIV behind that, whose user-data names a target
+-- its AP-REQ opens, and so does the KRB-PRIV after that, whose user-data names a target
 abbrev pub IsTargeted : Strictness → List ℕ → List ServiceKey → Endpoints → List ℕ → Type 0
 IsTargeted strictness realm keys ends bytes =
     (a : ApOpened) × OpensAp realm keys (ap_of bytes) ends.peer (Ok a)

@@ -42,12 +42,12 @@ pub(crate) fn open_content(
     match open_priv(alloc, strictness, local, opened, tail) {
         Ok(private) => read_content(alloc, realm, version, private),
         Err(OpenError::Memory) => Err(AllocError),
-        Err(OpenError::Fault(fault)) => Ok(bare(alloc, body_despite(fault), None)),
+        Err(OpenError::Fault(fault)) => Ok(without_password(alloc, body_despite(fault), None)),
     }
 }
 
 /// A content without a password.
-fn bare(alloc: Global, body: Body, stamp: Option<i64>) -> Content
+fn without_password(alloc: Global, body: Body, stamp: Option<i64>) -> Content
     ensures value { result ≡ record { body = body; password = []; stamp = stamp } }
 {
     Content {
@@ -101,7 +101,7 @@ fn read_old_password(
         × IsOldPassword user_bytes c × IsHeld c stamp h) }
 {
     if names_target(alloc, user_bytes.as_slice())? {
-        return Ok(bare(alloc, Body::BadData, stamp));
+        return Ok(without_password(alloc, Body::BadData, stamp));
     }
     let change = ChangeData {
         password: user_bytes,
@@ -134,8 +134,8 @@ fn read_change(
 {
     match read_change_data(alloc, user_bytes.as_slice()) {
         Ok(change) => change_content(alloc, realm, change, stamp),
-        Err(ChangeFault::NotChangeData) => Ok(bare(alloc, Body::BadData, stamp)),
-        Err(ChangeFault::RealmWithoutName) => Ok(bare(alloc, Body::BadData, stamp)),
+        Err(ChangeFault::NotChangeData) => Ok(without_password(alloc, Body::BadData, stamp)),
+        Err(ChangeFault::RealmWithoutName) => Ok(without_password(alloc, Body::BadData, stamp)),
         Err(ChangeFault::Memory) => Err(AllocError),
     }
 }

@@ -2,9 +2,9 @@
 #![tactic(auto)]
 
 mod content;
-mod incoming;
 pub mod laws;
 mod names;
+mod opened_request;
 mod opening;
 mod private_reply;
 mod replies;

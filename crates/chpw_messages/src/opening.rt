@@ -4,7 +4,7 @@ ghost use Rattle.chpw_serve.specs.Holding.{IsInTime};
 ghost use Rattle.chpw_messages.specs.Holds.{HoldsMessage, HoldsParts, HoldsUnder};
 
 use crate::content::open_content;
-use crate::incoming::incoming_of;
+use crate::opened_request::open_request;
 use crate::versions::Acceptance;
 use chpw_endpoints::Endpoints;
 use chpw_frame::{FrameFault, Parts, split_request};
@@ -75,7 +75,7 @@ fn open_parts(
                 &opened,
                 parts.tail,
             )?;
-            Ok(OpenResult::Opened(incoming_of(alloc, ends.local, opened, content)?))
+            Ok(OpenResult::Opened(open_request(alloc, ends.local, opened, content)?))
         }
     }
 }

@@ -35,7 +35,6 @@ fn seq_number(words: [u32; 9]) -> u32
     words[4] % (1 << 31)
 }
 
-/// The sealed part of the AP-REP.
 fn ap_rep_part(seal: &Seal, words: [u32; 9]) -> EncApRepPart
     ensures value { result ≡ ap_rep_part seal.now words }
 {

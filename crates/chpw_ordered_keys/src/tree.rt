@@ -63,7 +63,6 @@ impl<K> Model for KeyTree<K> {
 }
 
 impl<K: Drop> KeyTree<K> {
-    /// No keys.
     pub fn new() -> KeyTree<K>
         ensures empty { result ≡ [] }
     {
@@ -85,7 +84,6 @@ impl<K: Drop> KeyTree<K> {
         })
     }
 
-    /// How many keys there are.
     pub fn len(&self) -> usize
         ensures value { result ≡ length self.now }
     {
@@ -133,7 +131,6 @@ impl<K: Drop> KeyTree<K> {
         }
     }
 
-    /// The first key.
     pub fn first(&self) -> Option<&K>
         ensures value { option_copied result ≡ slice_get self.now 0 }
     {

@@ -43,7 +43,7 @@ graphic_printed (byte ∷ rest) h =
     let parts = and_parts _ _ h in
     and_from _ _ (in_wider byte parts.0) (graphic_printed rest parts.1)
 
--- a digit behind others
+-- a digit after others
 digit_after : (n : ℕ) (ds : List ℕ) → are_graphic ds ≡ true → are_graphic (ds ++ (48 + n % 10) ∷ []) ≡ true
 digit_after n ds h =
     let low = le-leb 33 (48 + n % 10) (omega arith) in

@@ -13,7 +13,7 @@ are_printed text = list_all (is_in (range 0x20 0x7e)) text
 abbrev pub are_graphic : List ℕ → Bool
 are_graphic text = list_all (is_in (range 0x21 0x7e)) text
 
--- what can stand between two spaces: at least one byte
+-- what can be between two spaces: at least one byte
 abbrev pub is_field : List ℕ → Bool
 is_field text = nat_lt 0 (length text) && are_graphic text
 

@@ -8,6 +8,6 @@ mod quoting;
 mod times;
 
 pub use lines::put_lines;
-pub use numbers::{put_behind_space, put_number, put_signed};
+pub use numbers::{put_after_space, put_number, put_signed};
 pub use quoting::{put_hex, put_name, put_principal, put_quoted, put_words};
 pub use times::put_time;

@@ -15,7 +15,7 @@ pub fn put_number(text: &mut Vec<u8>, number: u64) -> Result<(), AllocError>
     text.extend_from_slice(digits.as_bytes())
 }
 
-/// Puts a number at the end, in decimal digits, a negative one behind `-`.
+/// Puts a number at the end, in decimal digits, a negative one after `-`.
 #[tactic(auto, using(crate::proofs::QuotingLemmas::signed_field))]
 pub fn put_signed(text: &mut Vec<u8>, number: i64) -> Result<(), AllocError>
     ensures value { OnOk result (text.new.items ≡ text.old.items ++ signed_decimal number) }
@@ -26,7 +26,7 @@ pub fn put_signed(text: &mut Vec<u8>, number: i64) -> Result<(), AllocError>
 }
 
 /// Adds a space and a number.
-pub fn put_behind_space(text: &mut Vec<u8>, number: u32) -> Result<(), AllocError>
+pub fn put_after_space(text: &mut Vec<u8>, number: u32) -> Result<(), AllocError>
     ensures value { OnOk result (text.new.items ≡ text.old.items ++ number_text number) }
 {
     text.push(b' ')?;

@@ -7,7 +7,7 @@ use Rattle.chpw_rules.specs.Names.{name_of}
 use Rattle.chpw_client.specs.Configured.{IsFirstKey}
 use Rattle.chpw_client.specs.Questions.{Question}
 use Rattle.chpw_client.specs.Requests.{IsRequest}
-use Rattle.chpw_client.specs.declared.request.Sent.{Sent}
+use Rattle.chpw_client.specs.declared.request.SentRequest.{SentRequest}
 use Rattle.chpw_invocation.specs.declared.invocation.ClientOptions.{ClientOptions}
 use Rattle.chpw_program.specs.Asking.{Asks, HasAsked, IsUnasked, Names, Tells}
 use Rattle.chpw_program.specs.NewPasswords.{IsPassword}
@@ -17,7 +17,7 @@ use Rattle.chpw_program.specs.declared.ending.Ending.TheVariants.{EmptyPassword,
 use Rattle.chpw_program.specs.declared.ending.Ending.TheVariants.{Unanswered, TimedOut, Refused, Misused, NotText}
 
 pub asks : (options : ClientOptions) (config : Config) (q : Question) (target : Option Name) (drawn : _)
-    (sent : Sent) → config_fits config ≡ true → q.realm ≡ config.realm → IsFirstKey config.service q.service
+    (sent : SentRequest) → config_fits config ≡ true → q.realm ≡ config.realm → IsFirstKey config.service q.service
     → name_of options.client.now ≡ Some q.client → IsPassword options.password q.password
     → Names (option_map (λ t. t.now) options.target) target → q.target ≡ target
     → q.initial ≡ not options.no_initial → q.old ≡ options.old → IsRequest q drawn sent → Asks options sent
@@ -55,7 +55,7 @@ unasked options TimedOut is = tt
 unasked options Misused is = tt
 unasked options NotText is = tt
 
-pub replied : (options : ClientOptions) (sent : Sent) (reply : List ℕ) (e : Ending) → Asks options sent → Tells sent reply e → HasAsked options e
+pub replied : (options : ClientOptions) (sent : SentRequest) (reply : List ℕ) (e : Ending) → Asks options sent → Tells sent reply e → HasAsked options e
 replied options sent reply Good asks tells = (sent, reply, asks, tells)
 replied options sent reply Refused asks tells = (sent, reply, asks, tells)
 replied options sent reply (Faulty file words) asks tells = tt

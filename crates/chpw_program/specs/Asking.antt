@@ -9,7 +9,7 @@ use Rattle.chpw_client.specs.Configured.{IsFirstKey}
 use Rattle.chpw_client.specs.Lines.{IsLine}
 use Rattle.chpw_client.specs.Questions.{Question}
 use Rattle.chpw_client.specs.Requests.{IsRequest}
-use Rattle.chpw_client.specs.declared.request.Sent.{Sent}
+use Rattle.chpw_client.specs.declared.request.SentRequest.{SentRequest}
 use Rattle.chpw_invocation.specs.declared.invocation.ClientOptions.{ClientOptions}
 use Rattle.chpw_program.specs.NewPasswords.{IsPassword}
 use Rattle.chpw_program.specs.declared.ending.Ending.{Ending}
@@ -35,11 +35,11 @@ pub record IsAsked (options : ClientOptions) (q : Question) : Type 0 where
   pub old : q.old ≡ options.old
 
 -- a request for that, of some words
-abbrev pub Asks : ClientOptions → Sent → Type 0
+abbrev pub Asks : ClientOptions → SentRequest → Type 0
 Asks options sent = (question : Question) × IsAsked options question × (drawn : _) × IsRequest question drawn sent
 
 -- it ends well exactly if the reply says code 0
-abbrev pub Tells : Sent → List ℕ → Ending → Type 0
+abbrev pub Tells : SentRequest → List ℕ → Ending → Type 0
 Tells sent reply Good = (line : List ℕ) × IsLine sent reply (Some (line, 0))
 Tells sent reply Refused = (line : List ℕ) × (status : ℕ) × IsLine sent reply (Some (line, status)) × (0 < status)
 Tells sent reply Unanswered = IsLine sent reply None
@@ -54,8 +54,8 @@ IsUnasked _ = Unit {0}
 
 -- how it ends if a reply to that request came
 abbrev pub HasAsked : ClientOptions → Ending → Type 0
-HasAsked options Good = (sent : Sent) × (reply : List ℕ) × Asks options sent × Tells sent reply Good
-HasAsked options Refused = (sent : Sent) × (reply : List ℕ) × Asks options sent × Tells sent reply Refused
+HasAsked options Good = (sent : SentRequest) × (reply : List ℕ) × Asks options sent × Tells sent reply Good
+HasAsked options Refused = (sent : SentRequest) × (reply : List ℕ) × Asks options sent × Tells sent reply Refused
 HasAsked options _ = Unit {0}
 
 -- the text is no name, or memory ran out

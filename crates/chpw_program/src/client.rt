@@ -15,9 +15,9 @@ use crate::ending::Ending;
 use crate::new_password::password_of;
 use crate::patience::{Patience, Timed, ending_of, longest_wait};
 use crate::seeds::warn_of_seed;
-use chpw_client::{LAST_START, LONGEST_PASSWORD, Sent, client_line, client_request};
+use chpw_client::{LAST_START, LONGEST_PASSWORD, SentRequest, client_line, client_request};
 use chpw_commands::DrillFault;
-use chpw_frame::{LONGEST_MESSAGE, Received, read_tcp, write_tcp};
+use chpw_frame::{LONGEST_MESSAGE, TcpOutcome, read_tcp, write_tcp};
 use chpw_invocation::ClientOptions;
 use chpw_rules::{Config, Name};
 use chpw_serve::WorkerWords;
@@ -53,7 +53,7 @@ where
 }
 
 // The request.
-fn request<'a, R>(rt: &R, options: ClientOptions<'a>) -> Result<Sent, Ending<'a>>
+fn request<'a, R>(rt: &R, options: ClientOptions<'a>) -> Result<SentRequest, Ending<'a>>
 where
     R: Files<File = File> + Clock + Input + AllocGlobal,
     ensures asks { IfOk result (Asks options.entry) }
@@ -73,7 +73,7 @@ fn request_of<'a, R>(
     client: &Name,
     target: &Option<Name>,
     password: &[u8],
-) -> Result<Sent, Ending<'a>>
+) -> Result<SentRequest, Ending<'a>>
 where
     R: Files<File = File> + Clock + AllocGlobal,
     requires client { is_name client.now ≡ true }
@@ -243,7 +243,7 @@ fn exchange_over<'a, S: Write, A: Read>(
 ) -> Result<Vec<u8>, Ending<'a>>
     ensures said { IfOk result (λ _. Appends (S.contents service.old) (S.contents service.new) (tcp_text message.now)) }
     ensures reply { IfOk result (λ reply.
-        IsReceived (Received.Message reply) (A.remaining replies.old) (A.remaining replies.new)) }
+        IsReceived (TcpOutcome.Message reply) (A.remaining replies.old) (A.remaining replies.new)) }
     ensures fault { IfErr result IsNoReply }
     ensures early { IfErr result IsUnasked }
 {
@@ -251,21 +251,26 @@ fn exchange_over<'a, S: Write, A: Read>(
         return Err(Ending::Unanswered);
     }
     match read_tcp(alloc, replies) {
-        Ok(Received::Message(reply)) => Ok(reply),
+        Ok(TcpOutcome::Message(reply)) => Ok(reply),
         Ok(_) => Err(Ending::Unanswered),
         Err(_) => Err(Ending::Early(DrillFault::Memory)),
     }
 }
 
 // Prints what a reply says.
-fn print_reply<'a>(rt: &(impl Print + AllocGlobal), sent: &Sent, reply: &[u8]) -> Ending<'a>
+fn print_reply<'a>(rt: &(impl Print + AllocGlobal), sent: &SentRequest, reply: &[u8]) -> Ending<'a>
     ensures tells { Tells sent.now reply.now result }
 {
     tell_reply(rt.alloc(), sent, reply, &mut io::writer(rt))
 }
 
 // Writes what a reply says, as a line.
-fn tell_reply<'a, W: Write>(alloc: Global, sent: &Sent, reply: &[u8], out: &mut W) -> Ending<'a>
+fn tell_reply<'a, W: Write>(
+    alloc: Global,
+    sent: &SentRequest,
+    reply: &[u8],
+    out: &mut W,
+) -> Ending<'a>
     ensures tells { Tells sent.now reply.now result }
     ensures printed { IsAnswered result → (line : List ℕ) × (status : ℕ) × IsLine sent.now reply.now (Some (line, status))
         × Appends (W.contents out.old) (W.contents out.new) (line ++ 10 ∷ []) }

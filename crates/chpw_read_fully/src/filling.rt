@@ -7,7 +7,7 @@ use std::io::{ErrorKind, Read};
 
 /// How far a buffer was filled.
 #[derive(Clone, Copy, Drop)]
-pub enum Filled {
+pub enum FillOutcome {
     Whole,
     /// Up to here; the stream ended.
     Short(usize),
@@ -16,27 +16,27 @@ pub enum Filled {
 }
 
 /// Fills the buffer, in at most `reads` reads, which it counts down. An interrupted read is tried again, and counted.
-pub fn fill<R: Read>(reader: &mut R, buffer: &mut [u8], reads: &mut u64) -> Filled
+pub fn fill<R: Read>(reader: &mut R, buffer: &mut [u8], reads: &mut u64) -> FillOutcome
     ensures bytes { IsFill result buffer.new (R.remaining reader.old) (R.remaining reader.new) }
     ensures count { FillCounts result (length buffer.old) reads.old reads.new }
 {
     let mut filled = 0;
     while filled < buffer.len() {
         if *reads == 0 {
-            return Filled::Fault(filled);
+            return FillOutcome::Fault(filled);
         }
         *reads -= 1;
         match read_once(reader, &mut buffer[filled..]) {
             Step::Read(count) => filled += count,
-            Step::Ended => return Filled::Short(filled),
-            Step::Fault => return Filled::Fault(filled),
+            Step::Ended => return FillOutcome::Short(filled),
+            Step::Fault => return FillOutcome::Fault(filled),
         }
     }
-    Filled::Whole
+    FillOutcome::Whole
 }
 
 /// Fills the bytes of a `Vec` as [`fill`] does a buffer.
-pub fn fill_vec<R: Read>(reader: &mut R, buffer: &mut Vec<u8>, reads: &mut u64) -> Filled
+pub fn fill_vec<R: Read>(reader: &mut R, buffer: &mut Vec<u8>, reads: &mut u64) -> FillOutcome
     ensures bytes { IsFill result buffer.new.items (R.remaining reader.old) (R.remaining reader.new) }
     ensures length { length buffer.new.items ≡ length buffer.old.items }
     ensures count { FillCounts result (length buffer.old.items) reads.old reads.new }
@@ -44,7 +44,6 @@ pub fn fill_vec<R: Read>(reader: &mut R, buffer: &mut Vec<u8>, reads: &mut u64) 
     fill(reader, buffer.as_mut_slice(), reads)
 }
 
-/// The result of one read.
 #[derive(Clone, Copy, Drop)]
 enum Step {
     /// This many bytes; none if it was interrupted.

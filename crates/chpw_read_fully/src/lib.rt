@@ -3,4 +3,4 @@
 
 mod filling;
 
-pub use filling::{Filled, fill, fill_vec};
+pub use filling::{FillOutcome, fill, fill_vec};

@@ -5,13 +5,13 @@ use Rattle.std.proofs.lemmas.List.{take-append-drop, length-take-le}
 use Rattle.chpw_rules.specs.declared.name.Name.{Name}
 use Rattle.chpw_rules.specs.Names.{is_name}
 use Rattle.chpw_record.specs.declared.key.KeyRow.{KeyRow}
-use Rattle.chpw_record.specs.declared.record.Change.{Change}
+use Rattle.chpw_record.specs.declared.record.PrincipalKey.{PrincipalKey}
 use Rattle.chpw_record.specs.RecordKeys.{key_at, key_fits}
 use Rattle.chpw_record.specs.Records.{ChangeFits, key_text, name_bytes, version_bytes}
 use Rattle.chpw_record.proofs.ListLemmas.{AreBytes, bytes_taken}
 use Rattle.chpw_record.proofs.VersionLemmas.{version_whole, version_read}
 
-abbrev change_of : Name → KeyRow → Change
+abbrev change_of : Name → KeyRow → PrincipalKey
 change_of n k = record { name = n; key = k }
 
 keys_fit : (n : Name) (v : List ℕ) → length v ≡ 57 → key_fits (key_at v) ≡ true → is_name n ≡ true → ChangeFits (change_of n (key_at v))
@@ -37,8 +37,8 @@ change_whole kind body v left k n l b e d first at f h m =
           ∙ ap (λ (xs : List ℕ). version_bytes kind k ++ xs) (sym d ∙ m)),
     )
 
--- where no name stands behind the version, the body is that of no change, of whatever kind
-pub change_none : (kind : ℕ) (body v left : List ℕ) (c : Change) → 57 ≤ length body → v ≡ take 57 body → left ≡ drop 57 body
+-- where no name follows the version, the body is that of no change, of whatever kind
+pub change_none : (kind : ℕ) (body v left : List ℕ) (c : PrincipalKey) → 57 ≤ length body → v ≡ take 57 body → left ≡ drop 57 body
     → ((n : Name) → is_name n ≡ true → left ≡ name_bytes n → ⊥) → ChangeFits c → body ≡ key_text kind c.name c.key → ⊥
 change_none kind body v left c l e d none fits h =
     let size : length v ≡ 57 = ap length e ∙ length-take-le 57 body l in

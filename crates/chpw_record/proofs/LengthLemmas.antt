@@ -8,7 +8,7 @@ use Rattle.std.proofs.lemmas.Bool.Decides.{nat_tests}
 use Rattle.chpw_rules.specs.declared.name.Name.{Name}
 use Rattle.chpw_rules.specs.Limits.{is_in, component_counts, component_lengths}
 use Rattle.chpw_rules.specs.Names.{is_component, is_name}
-use Rattle.chpw_record.specs.declared.record.Change.{Change}
+use Rattle.chpw_record.specs.declared.record.PrincipalKey.{PrincipalKey}
 use Rattle.chpw_record.specs.declared.record.Record.{Record}
 use Rattle.chpw_record.specs.declared.record.Record.TheVariants as record_of
 use Rattle.chpw_record.specs.Laws.{LengthsAreAllowed}
@@ -45,14 +45,14 @@ low_parts (p ∷ ps) h =
 
 -- ---- a record
 
-size_of : (kind : ℕ) (c : Change) → length (key_text kind c.name c.key) ≡ length (version_bytes kind c.key) + length (name_bytes c.name)
+size_of : (kind : ℕ) (c : PrincipalKey) → length (key_text kind c.name c.key) ≡ length (version_bytes kind c.key) + length (name_bytes c.name)
 size_of kind c = length-append (version_bytes kind c.key) (name_bytes c.name)
 
-key_short : (kind : ℕ) (c : Change) → ChangeFits c → length (key_text kind c.name c.key) ≤ 1090
+key_short : (kind : ℕ) (c : PrincipalKey) → ChangeFits c → length (key_text kind c.name c.key) ≤ 1090
 key_short kind c f =
     omega (arith, size_of kind c, version_length kind c.key f.aes128 f.aes256, name_short c.name f.name)
 
-key_low : (kind : ℕ) (c : Change) → ChangeFits c → 60 ≤ length (key_text kind c.name c.key)
+key_low : (kind : ℕ) (c : PrincipalKey) → ChangeFits c → 60 ≤ length (key_text kind c.name c.key)
 key_low kind c f =
     omega (arith, size_of kind c, version_length kind c.key f.aes128 f.aes256, low_parts c.name.parts f.name)
 
@@ -67,7 +67,7 @@ in_range n h g = grind (arith, nat_tests)
 of_change : (n : ℕ) → is_in key_lengths n ≡ true → is_record_length n ≡ true
 of_change n h = rw h (or-true (n == 5))
 
-key_range : (kind : ℕ) (c : Change) → ChangeFits c → is_record_length (length (key_text kind c.name c.key)) ≡ true
+key_range : (kind : ℕ) (c : PrincipalKey) → ChangeFits c → is_record_length (length (key_text kind c.name c.key)) ≡ true
 key_range kind c f =
     let n = length (key_text kind c.name c.key) in
     of_change n (in_range n (key_low kind c f) (key_short kind c f))

@@ -14,7 +14,7 @@ front_same (x ∷ xs) b (y ∷ ys) d l h =
     let e : x ≡ y = cc in
     (let q : xs ≡ ys = r.0 in cc, r.1)
 
--- a part, and what stands behind it
+-- a part, and what follows it
 pub cut : (n m : ℕ) (xs : List ℕ) → drop n xs ≡ take m (drop n xs) ++ drop (n + m) xs
 cut n m xs = sym (take-append-drop m (drop n xs)) ∙ ap (λ (ys : List ℕ). take m (drop n xs) ++ ys) (drop-drop m n xs)
 

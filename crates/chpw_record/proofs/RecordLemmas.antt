@@ -6,7 +6,7 @@ use Rattle.std.specs.Int.{from_be_bytes, to_be_bytes, w16, w32}
 use Rattle.std.proofs.lemmas.Bool.Decides.{nat_tests}
 use Rattle.std.proofs.lemmas.Nat.{from_be_bytes-to_be_bytes_2, from_be_bytes-to_be_bytes_4}
 use Rattle.chpw_rules.specs.Limits.{is_in, iteration_counts}
-use Rattle.chpw_record.specs.declared.record.Change.{Change}
+use Rattle.chpw_record.specs.declared.record.PrincipalKey.{PrincipalKey}
 use Rattle.chpw_record.specs.declared.record.KeyKind.{KeyKind}
 use Rattle.chpw_record.specs.declared.record.KeyKind.TheVariants as kind
 use Rattle.chpw_record.specs.declared.record.Record.{Record}
@@ -31,7 +31,7 @@ records_joined [] ds = refl
 records_joined (c ∷ cs) ds = ap (λ (xs : List ℕ). record_text c ++ xs) (records_joined cs ds)
     ∙ sym (append_assoc (record_text c) (records_text cs) (records_text ds))
 
--- a record is its text behind the text's length
+-- a record is its text after the text's length
 pub framed_is : (r : Record) → framed (body_text r) ≡ record_text r
 framed_is (record_of.Key kind c) = refl
 framed_is (record_of.Raise count) = refl
@@ -41,7 +41,7 @@ framed_is (record_of.Raise count) = refl
 tails : (m n : ℕ) (xs ys : List ℕ) → m ∷ xs ≡ n ∷ ys → xs ≡ ys
 tails m n xs ys h = cc
 
-same_change : (kind : ℕ) (c d : Change) → ChangeFits c → ChangeFits d → key_text kind c.name c.key ≡ key_text kind d.name d.key → c ≡ d
+same_change : (kind : ℕ) (c d : PrincipalKey) → ChangeFits c → ChangeFits d → key_text kind c.name c.key ≡ key_text kind d.name d.key → c ≡ d
 same_change kind c d f g e =
     let l : length (version_bytes kind c.key) ≡ length (version_bytes kind d.key) =
     version_length kind c.key f.aes128 f.aes256 ∙ sym (version_length kind d.key g.aes128 g.aes256) in

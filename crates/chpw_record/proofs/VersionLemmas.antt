@@ -30,7 +30,7 @@ number : (n : ℕ) (v : List ℕ) → length v ≡ 57 → n + 4 ≤ 57 → AreBy
 number n v l h b = be_bytes_4 (take 4 (drop n v)) (from_be_bytes w32 (take 4 (drop n v))) (length-take-le 4
     (drop n v) (simp length-drop (omega (arith, l, h)))) (bytes_taken 4 (drop n v) (bytes_dropped n v b)) refl
 
--- a text is its kind, and behind it that of the key read in it
+-- a text is its kind, and after it that of the key read in it
 pub version_whole : (kind : ℕ) (v : List ℕ) → length v ≡ 57 → AreBytes v → get_or v 0 0 ≡ kind → v ≡ version_bytes kind (key_at v)
 version_whole kind v l b k =
     let keys : List ℕ = take 16 (drop 9 v) ++ take 32 (drop 25 v) in
@@ -58,7 +58,7 @@ kvno_short n h = grind (arith, nat_tests)
 pub count_short : (n : ℕ) → is_in iteration_counts n ≡ true → n < 2 ^ 32
 count_short n h = grind (arith, nat_tests)
 
--- a text that is a key's version of some kind and more, cut behind the version
+-- a text that is a key's version of some kind and more, cut after the version
 pub version_read : (kind : ℕ) (v left more : List ℕ) (k : KeyRow) → length v ≡ 57
     → is_in kvnos k.kvno ≡ true → is_in iteration_counts k.count ≡ true → length k.aes128 ≡ 16 → length k.aes256 ≡ 32
     → v ++ left ≡ version_bytes kind k ++ more → (key_at v ≡ k) × (get_or v 0 0 ≡ kind) × (left ≡ more)

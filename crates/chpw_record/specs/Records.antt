@@ -12,7 +12,7 @@ use Rattle.chpw_rules.specs.declared.name.Name.{Name}
 use Rattle.chpw_rules.specs.Limits.{range, is_in, kvnos, iteration_counts, aes128_length, aes256_length}
 use Rattle.chpw_rules.specs.Names.{is_name}
 use Rattle.chpw_record.specs.declared.key.KeyRow.{KeyRow}
-use Rattle.chpw_record.specs.declared.record.Change.{Change}
+use Rattle.chpw_record.specs.declared.record.PrincipalKey.{PrincipalKey}
 use Rattle.chpw_record.specs.declared.record.KeyKind.{KeyKind}
 use Rattle.chpw_record.specs.declared.record.KeyKind.TheVariants as kind
 use Rattle.chpw_record.specs.declared.record.Record.{Record}
@@ -37,7 +37,7 @@ abbrev pub key_text : ℕ → Name → KeyRow → List ℕ
 key_text kind name k = version_bytes kind k ++ name_bytes name
 
 -- within the limits: 1 to 8 components of 1 to 128 bytes, kvno and iteration count in range, keys of 16 and 32 bytes
-pub record ChangeFits (c : Change) : Type 0 where
+pub record ChangeFits (c : PrincipalKey) : Type 0 where
   pub name : is_name c.name ≡ true
   pub kvno : is_in kvnos c.key.kvno ≡ true
   pub count : is_in iteration_counts c.key.count ≡ true
@@ -72,14 +72,14 @@ framed body = to_be_bytes w16 (length body) ++ body
 abbrev pub record_bytes : Name → KeyRow → List ℕ
 record_bytes name k = framed (key_text 1 name k)
 
--- the length, two bytes in which 5 stands, and then the kind and the count
+-- the length, two bytes with the number 5, and then the kind and the count
 abbrev pub raise_bytes : ℕ → List ℕ
 raise_bytes count = 0 ∷ 5 ∷ 2 ∷ to_be_bytes w32 count
 
 abbrev pub key_bytes : KeyKind → Name → KeyRow → List ℕ
 key_bytes kind name k = framed (key_text (kind_number kind) name k)
 
--- a record's text, from behind its length
+-- a record's text, after its length
 abbrev pub body_text : Record → List ℕ
 body_text (record_of.Key kind c) = key_text (kind_number kind) c.name c.key
 body_text (record_of.Raise count) = 2 ∷ to_be_bytes w32 count

@@ -6,4 +6,6 @@ pub mod laws;
 mod record;
 
 pub use key::KeyRow;
-pub use record::{Change, KeyKind, Record, is_record_length, key_bytes, raise_bytes, record_bytes};
+pub use record::{
+    KeyKind, PrincipalKey, Record, is_record_length, key_bytes, raise_bytes, record_bytes,
+};

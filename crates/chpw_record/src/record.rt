@@ -1,4 +1,4 @@
-//! The journal's records: their kinds, how they are written and how they are read. Numbers stand high byte first.
+//! The journal's records: their kinds, how they are written and how they are read. Numbers are high byte first.
 ghost use Rattle.std.specs.Prelude.{◌≡◌, ◌≢◌, ◌∷◌, ◌+◌, ◌≤◌, ◌<◌, ◌++◌, ℕ, List, IfOk, IsOk, OnOk, MatchOption, true, length, take, drop};
 ghost use Rattle.std.specs.Int.{from_be_bytes, to_be_bytes, w32};
 ghost use Rattle.std.specs.List.{flat_map};
@@ -26,12 +26,12 @@ const KEY_LENGTHS: Limits = Limits {
     high: 1090,
 };
 
-// How many bytes of a key's record stand between its length and its name.
+// How many bytes of a key's record are between its length and its name.
 const VERSION_LENGTH: usize = 57;
 
 /// A principal and a key of its own.
 #[derive(Drop)]
-pub struct Change {
+pub struct PrincipalKey {
     pub name: Name,
     pub key: KeyRow,
 }
@@ -55,7 +55,7 @@ pub enum KeyKind {
 #[derive(Drop)]
 pub enum Record {
     /// A principal's key.
-    Key(KeyKind, Change),
+    Key(KeyKind, PrincipalKey),
     /// A new iteration count of new keys.
     Raise(u32),
 }
@@ -123,7 +123,6 @@ pub fn raise_bytes(count: u32) -> [u8; 7]
     [0, 5, RAISE_KIND, number[0], number[1], number[2], number[3]]
 }
 
-// The record of this kind with a name and its key.
 fn framed_key(alloc: Global, kind: u8, name: &Name, key: &KeyRow) -> Result<Vec<u8>, AllocError>
     requires name { is_name name.now ≡ true }
     ensures value { IfOk result (λ r. r.items ≡ framed (key_text kind name.now key.now)) }
@@ -137,7 +136,7 @@ fn framed_key(alloc: Global, kind: u8, name: &Name, key: &KeyRow) -> Result<Vec<
     Ok(record)
 }
 
-// What stands before the name.
+// What precedes the name.
 fn version_of(alloc: Global, kind: u8, key: &KeyRow) -> Result<Vec<u8>, AllocError>
     ensures value { IfOk result (λ version. version.items ≡ version_bytes kind key.now) }
     ensures length { IfOk result (λ version. length version.items ≡ 57) }
@@ -182,7 +181,7 @@ pub fn is_record_length(length: usize) -> bool
 impl Record {
     ghost use Rattle.chpw_record.specs.Records.{RecordFits, body_text};
 
-    /// The record with this text, from behind its length; none where it is that of no record within the limits. A raise
+    /// The record with this text, after its length; none where it is that of no record within the limits. A raise
     /// has 5 bytes, and no key's record has as few.
     pub fn read(alloc: Global, body: &[u8]) -> Result<Option<Record>, AllocError>
         ensures value { IfOk result (λ found. MatchOption found
@@ -193,18 +192,18 @@ impl Record {
         if body.len() == RAISE_LENGTH {
             return Ok(raise_in(body).map(Record::Raise));
         }
-        let Some((kind, change)) = Change::read(alloc, body)? else {
+        let Some((kind, change)) = PrincipalKey::read(alloc, body)? else {
             return Ok(None);
         };
         Ok(Some(Record::Key(kind, change)))
     }
 }
 
-impl Change {
+impl PrincipalKey {
     ghost use Rattle.chpw_record.specs.Records.{ChangeFits};
 
     // The key with this text, from its kind on, and the kind; none where it is that of no key's record within the limits.
-    fn read(alloc: Global, body: &[u8]) -> Result<Option<(KeyKind, Change)>, AllocError>
+    fn read(alloc: Global, body: &[u8]) -> Result<Option<(KeyKind, PrincipalKey)>, AllocError>
         ensures value { IfOk result (λ found. MatchOption found
             ((kind : _) → (c : _) → ChangeFits c → body.now ≢ key_text (kind_number kind) c.name c.key)
             (λ f. ChangeFits f.1 × (body.now ≡ key_text (kind_number f.0) f.1.name f.1.key))) }
@@ -222,7 +221,7 @@ impl Change {
             return Ok(None);
         }
         match name_in(alloc, name)? {
-            Some(name) => Ok(Some((kind, Change { name, key }))),
+            Some(name) => Ok(Some((kind, PrincipalKey { name, key }))),
             None => Ok(None),
         }
     }
@@ -245,7 +244,7 @@ fn raise_in(body: &[u8]) -> Option<u32>
     }
 }
 
-// The kvno, the iteration count and the keys that stand behind the kind.
+// The kvno, the iteration count and the keys that follow the kind.
 fn key_in(version: &[u8]) -> KeyRow
     requires length { length version.now ≡ 57 }
     ensures value { result ≡ key_at version.now }
@@ -302,7 +301,7 @@ fn name_in(alloc: Global, bytes: &[u8]) -> Result<Option<Name>, AllocError>
     }
 }
 
-// The components that these bytes are, each behind its length; none where the last is cut off.
+// The components that these bytes are, each after its length; none where the last is cut off.
 fn parts_in(alloc: Global, bytes: &[u8]) -> Result<Option<Vec<Items<u8>>>, AllocError>
     ensures value { IfOk result (λ found. MatchOption found
         ((parts : List (List ℕ)) → bytes.now ≢ flat_map part_bytes parts)

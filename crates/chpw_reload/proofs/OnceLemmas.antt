@@ -1,4 +1,4 @@
--- No name stands twice in the next configuration.
+-- No name is repeated in the next configuration.
 use Rattle.std.proofs.Common.{◌≡◌, List, [], ◌∷◌, ◌++◌, append_assoc, map, Bool, true, false, not, ◌||◌, refl, ◌∙◌, ap}
 use Rattle.std.specs.List.{AllByRecursion, list_any}
 use Rattle.std.specs.List.Sorted.{IsStrictlySortedBy}
@@ -24,7 +24,7 @@ use Rattle.chpw_reload.proofs.KeyLemmas.{is_among, among_principals}
 abbrev HasNone : State → List PrincipalRow → Name → Type 0
 HasNone s rows name = list_any (is_same_principal (row_of s name)) rows ≡ false
 
--- a name behind another is not the same
+-- a name after another is not the same
 later_differs : (n m : Name) → name_cmp n m ≡ Less → is_same_name m n ≡ false
 later_differs n m h = same_name_turned m n ∙ (same_name_ties n m ∙ ap is_eq h)
 

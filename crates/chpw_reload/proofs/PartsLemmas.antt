@@ -23,12 +23,12 @@ all_read : (text read : List ℕ) (new : Option (List ℕ)) → Consumes (Some t
 all_read text read None h e = absurd h
 all_read text read (Some ys) h e = h ∙ (ap (λ (zs : List ℕ). read ++ zs) e ∙ append-nil read)
 
--- what was read of a text behind a front is read of the whole
+-- what was read of a text after a front is read of the whole
 read_after : (front text read : List ℕ) (new : Option (List ℕ)) → Consumes (Some text) new read → Consumes (Some (front ++ text)) new (front ++ read)
 read_after front text read None h = absurd h
 read_after front text read (Some ys) h = ap (λ (zs : List ℕ). front ++ zs) h ∙ sym (append_assoc front read ys)
 
--- the records of both readings, one behind the other
+-- the records of both readings, one after the other
 joined_text : (cs ds : List Record) (rest : List ℕ) → records_text cs ++ (records_text ds ++ rest) ≡ records_text (cs ++ ds) ++ rest
 joined_text cs ds rest = sym (append_assoc (records_text cs) (records_text ds) rest) ∙ ap (λ (xs : List ℕ). xs ++ rest) (sym (records_joined cs ds))
 

@@ -11,13 +11,13 @@ use Rattle.chpw_journal.specs.JournalFile.{IsReadFrom, IsRefusedFrom}
 use Rattle.chpw_reload.specs.declared.fault.ReloadFault.{ReloadFault}
 use Rattle.chpw_reload.specs.declared.fault.ReloadFault.TheVariants.{Realm, Journal, Keys, Limits, Memory}
 use Rattle.chpw_reload.specs.declared.prepared_reload.PreparedReload.{PreparedReload}
-use Rattle.chpw_reload.specs.declared.reloading.Reloaded.{Reloaded}
+use Rattle.chpw_reload.specs.declared.reloading.NextTable.{NextTable}
 use Rattle.chpw_reload.specs.Next.{next_config, next_state}
-use Rattle.chpw_reload.specs.Reasons.{fault_of, fault_behind}
+use Rattle.chpw_reload.specs.Reasons.{fault_of, fault_after}
 use Rattle.chpw_reload.specs.Reloading.{IsRefused, IsReloaded}
 use Rattle.chpw_reload.specs.Starting.{IsStarted, IsStartedFrom, IsRefusedOver}
 
-pub started_from : (r : PreparedReload) (rest : Option (List ℕ)) (closed : State) (renewed : Restored) (result : Result Reloaded ReloadFault)
+pub started_from : (r : PreparedReload) (rest : Option (List ℕ)) (closed : State) (renewed : Restored) (result : Result NextTable ReloadFault)
     → closed.fixed.realm ≡ r.settings.realm → IsReadFrom r.table rest renewed
     → IfOk result (IsStarted r.settings closed renewed.table.state) → IfOk result (IsStartedFrom r rest closed)
 started_from r rest closed renewed (Ok next) realm read h = record { realm = realm; renewed = renewed; read = read; started = h }
@@ -32,7 +32,7 @@ refused_of r rest closed renewed (Keys name) realm read h = (realm, renewed, rea
 refused_of r rest closed renewed Limits realm read h = (realm, renewed, read, h.0, h.1)
 refused_of r rest closed renewed Memory realm read h = tt
 
-pub refused_over : (r : PreparedReload) (rest : Option (List ℕ)) (closed : Held) (renewed : Restored) (result : Result Reloaded ReloadFault)
+pub refused_over : (r : PreparedReload) (rest : Option (List ℕ)) (closed : Held) (renewed : Restored) (result : Result NextTable ReloadFault)
     → closed.state.fixed.realm ≡ r.settings.realm → IsReadFrom r.table rest renewed
     → IfErr result (IsRefusedOver r.settings closed.state renewed.table.state) → IfErr result (IsRefused r rest closed)
 refused_over r rest closed renewed (Ok next) realm read h = h
@@ -40,7 +40,7 @@ refused_over r rest closed renewed (Err fault) realm read h = refused_of r rest 
 
 -- the journal's fault, of the rest
 pub refused_rest : (r : PreparedReload) (rest : Option (List ℕ)) (closed : Held) (fault : RestoreFault) → closed.state.fixed.realm ≡ r.settings.realm
-    → IsRefusedFrom r.table rest fault → IsRefused r rest closed (fault_of (fault_behind r.records fault))
+    → IsRefusedFrom r.table rest fault → IsRefused r rest closed (fault_of (fault_after r.records fault))
 refused_rest r rest closed (journal.BadRecord n) realm h = (realm, journal.BadRecord n, h, refl)
 refused_rest r rest closed (journal.WrongVersion n) realm h = (realm, journal.WrongVersion n, h, refl)
 refused_rest r rest closed (journal.UnknownPrincipal n) realm h = (realm, journal.UnknownPrincipal n, h, refl)
@@ -61,7 +61,7 @@ taken_over settings closed renewed t a = record {
 }
 
 -- the table that was started, once it goes on from the closed one
-pub reloaded_from : (r : PreparedReload) (rest : Option (List ℕ)) (closed : Held) (started : Reloaded) (table : Held)
+pub reloaded_from : (r : PreparedReload) (rest : Option (List ℕ)) (closed : Held) (started : NextTable) (table : Held)
     → IsStartedFrom r rest closed.state started
     → table ≡ record started.table {
       state = record started.table.state { used = closed.state.used; clock = closed.state.clock; broken = closed.state.broken };

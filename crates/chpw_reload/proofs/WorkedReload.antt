@@ -13,7 +13,7 @@ use Rattle.chpw_journal.specs.declared.fault.RestoreFault.TheVariants.{UnknownPr
 use Rattle.chpw_reload.specs.declared.fault.ReloadFault.TheVariants.{Realm, Journal, Keys}
 use Rattle.chpw_reload.specs.Next.{settings_of, lacked, next_config, next_state}
 use Rattle.chpw_reload.specs.Comparing.{AreNewest}
-use Rattle.chpw_reload.specs.Reasons.{fault_behind, fault_text}
+use Rattle.chpw_reload.specs.Reasons.{fault_after, fault_text}
 
 abbrev policy_of : ℕ → ℕ → Policy
 policy_of depth iterations = record { min_length = 6; min_classes = 2; depth = depth; iterations = iterations; set_needs_initial = false }
@@ -77,12 +77,12 @@ clock_as_before = refl
 pub one_key_compared : AreNewest (take (kept_count renewed) (key_row 2 4 0xa2 ∷ key_row 1 4 0xa1 ∷ [])) (key_row 2 4 0xa2 ∷ [])
 one_key_compared = refl
 
--- older keys may stand behind the newest that are held; a held one may not be missing
+-- older keys may follow the newest that are held; a held one may not be missing
 pub older_keys_come_back : AreNewest (key_row 2 4 0xa2 ∷ []) (key_row 2 4 0xa2 ∷ key_row 1 4 0xa1 ∷ [])
 older_keys_come_back = refl
 
 -- a file that lacks alice's first key, and so can't have her change
-pub text_of_a_fault : fault_text (Journal (fault_behind 2 (UnknownPrincipal 1))) ≡ codes "J3 at " ++ decimal 3
+pub text_of_a_fault : fault_text (Journal (fault_after 2 (UnknownPrincipal 1))) ≡ codes "J3 at " ++ decimal 3
 text_of_a_fault = refl
 
 pub text_of_a_name : fault_text (Keys (record { parts = codes "kadmin" ∷ codes "changepw" ∷ [] })) ≡ codes "other keys of kadmin/changepw"

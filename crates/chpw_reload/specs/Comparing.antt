@@ -7,7 +7,7 @@ use Rattle.chpw_record.specs.declared.key.KeyRow.{KeyRow}
 use Rattle.chpw_table.specs.State.{State, keys_held, kept_count}
 use Rattle.chpw_reload.specs.Next.{next_config}
 
--- these keys are the newest of the others, behind which older ones may stand; there is one, unless the others have none
+-- these keys are the newest of the others, after which older ones may follow; there is one, unless the others have none
 abbrev pub AreNewest : List KeyRow → List KeyRow → Type 0
 AreNewest keys others = keys ≡ take (max (length keys) 1) others
 

@@ -19,7 +19,7 @@ use Rattle.chpw_journal.specs.Known.{AreKnown, IsFoundAgain}
 use Rattle.chpw_journal.specs.Compact.{compacted, HasOrder, AreWholeRecords, MayCompact}
 use Rattle.chpw_report.specs.Held.{opening}
 use Rattle.chpw_reload.specs.declared.prepared_reload.PreparedReload.{PreparedReload}
-use Rattle.chpw_reload.specs.declared.reloading.Reloaded.{Reloaded}
+use Rattle.chpw_reload.specs.declared.reloading.NextTable.{NextTable}
 use Rattle.chpw_reload.specs.Comparing.{AreNewest, HoldAlike}
 use Rattle.chpw_reload.specs.Reloading.{IsPrepared, IsReloaded}
 use Rattle.chpw_reload.specs.Reloads.{IsReload}
@@ -108,7 +108,7 @@ TwoPartsAreOne = (before : Held) (front more : List ℕ) (new later : Option (Li
 
 -- what `prepare` and `finish` give is a reload
 abbrev pub ReloadedIsReload : Type 0
-ReloadedIsReload = (file : Config) (journal rest : Option (List ℕ)) (renewal : PreparedReload) (closed : Held) (next : Reloaded) (left : State) →
+ReloadedIsReload = (file : Config) (journal rest : Option (List ℕ)) (renewal : PreparedReload) (closed : Held) (next : NextTable) (left : State) →
     IsPrepared file journal renewal → IsReloaded renewal rest closed next → Agrees closed.state left →
     (records : List Record) × IsReload file records left next.table.state
 

@@ -19,18 +19,18 @@ fault_of journal.CannotRead = Journal journal.CannotRead
 fault_of journal.Memory = Memory
 
 -- a record's number after others, up to 64 bits
-abbrev pub number_behind : ℕ → ℕ → ℕ
-number_behind records n = min (records + n) 18446744073709551615
+abbrev pub number_after : ℕ → ℕ → ℕ
+number_after records n = min (records + n) 18446744073709551615
 
 -- a fault that was found after this many records
-abbrev pub fault_behind : ℕ → RestoreFault → RestoreFault
-fault_behind records (journal.BadRecord n) = journal.BadRecord (number_behind records n)
-fault_behind records (journal.WrongVersion n) = journal.WrongVersion (number_behind records n)
-fault_behind records (journal.UnknownPrincipal n) = journal.UnknownPrincipal (number_behind records n)
-fault_behind records (journal.TooMany n) = journal.TooMany (number_behind records n)
-fault_behind records journal.OtherRealm = journal.OtherRealm
-fault_behind records journal.CannotRead = journal.CannotRead
-fault_behind records journal.Memory = journal.Memory
+abbrev pub fault_after : ℕ → RestoreFault → RestoreFault
+fault_after records (journal.BadRecord n) = journal.BadRecord (number_after records n)
+fault_after records (journal.WrongVersion n) = journal.WrongVersion (number_after records n)
+fault_after records (journal.UnknownPrincipal n) = journal.UnknownPrincipal (number_after records n)
+fault_after records (journal.TooMany n) = journal.TooMany (number_after records n)
+fault_after records journal.OtherRealm = journal.OtherRealm
+fault_after records journal.CannotRead = journal.CannotRead
+fault_after records journal.Memory = journal.Memory
 
 -- the realm of a configuration, and the one that is held
 abbrev pub realms_text : (held new : List ℕ) → List ℕ

@@ -13,8 +13,8 @@ use Rattle.chpw_report.specs.Held.{opening}
 use Rattle.chpw_reload.specs.declared.fault.ReloadFault.{ReloadFault}
 use Rattle.chpw_reload.specs.declared.fault.ReloadFault.TheVariants.{Realm, Journal, Keys, Limits, Memory}
 use Rattle.chpw_reload.specs.declared.prepared_reload.PreparedReload.{PreparedReload}
-use Rattle.chpw_reload.specs.declared.reloading.Reloaded.{Reloaded}
-use Rattle.chpw_reload.specs.Reasons.{fault_of, fault_behind}
+use Rattle.chpw_reload.specs.declared.reloading.NextTable.{NextTable}
+use Rattle.chpw_reload.specs.Reasons.{fault_of, fault_after}
 use Rattle.chpw_reload.specs.Next.{settings_of, lacked, next_config, next_state}
 use Rattle.chpw_reload.specs.Comparing.{HoldAlike, HoldApart, MayFollow}
 
@@ -37,7 +37,7 @@ IsUnprepared file journal fault =
     × IsWholeRefused before journal found × (fault ≡ fault_of found)
 
 -- the rest of the journal is replayed, and the next table is made from that and the closed one
-pub record IsReloaded (r : PreparedReload) (rest : Option (List ℕ)) (closed : Held) (next : Reloaded) : Type 0 where
+pub record IsReloaded (r : PreparedReload) (rest : Option (List ℕ)) (closed : Held) (next : NextTable) : Type 0 where
   pub renewed : Restored
   pub read : IsReadFrom r.table rest renewed
   pub may : MayFollow r.settings closed.state renewed.table.state
@@ -56,7 +56,7 @@ abbrev pub IsRefused : PreparedReload → Option (List ℕ) → Held → ReloadF
 IsRefused r rest closed (Realm held new) = (closed.state.fixed.realm ≢ r.settings.realm)
     × (held ≡ closed.state.fixed.realm) × (new ≡ r.settings.realm)
 IsRefused r rest closed (Journal fault) = (closed.state.fixed.realm ≡ r.settings.realm)
-    × (found : RestoreFault) × IsRefusedFrom r.table rest found × (Journal fault ≡ fault_of (fault_behind r.records found))
+    × (found : RestoreFault) × IsRefusedFrom r.table rest found × (Journal fault ≡ fault_of (fault_after r.records found))
 IsRefused r rest closed (Keys name) = (closed.state.fixed.realm ≡ r.settings.realm)
     × (renewed : Restored) × IsReadFrom r.table rest renewed × HoldApart closed.state renewed.table.state name
 IsRefused r rest closed Limits = (closed.state.fixed.realm ≡ r.settings.realm)

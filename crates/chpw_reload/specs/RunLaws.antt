@@ -13,7 +13,7 @@ use Rattle.chpw_table.specs.Laws.{NeverRemoved}
 use Rattle.chpw_journal.specs.Runs.{IsSound, Run, last_state}
 use Rattle.chpw_journal.specs.Joined.{FollowOn}
 use Rattle.chpw_reload.specs.declared.prepared_reload.PreparedReload.{PreparedReload}
-use Rattle.chpw_reload.specs.declared.reloading.Reloaded.{Reloaded}
+use Rattle.chpw_reload.specs.declared.reloading.NextTable.{NextTable}
 use Rattle.chpw_reload.specs.Reloading.{IsPrepared, IsReloaded}
 use Rattle.chpw_reload.specs.ReloadRuns.{AreHistories, AreInARow, GoesOn, IsHistory, IsServiceRun}
 
@@ -55,7 +55,7 @@ RunsGoOn = (opening next : State) (table last : Held) → IsServiceRun opening t
 
 -- so does one after a reload
 abbrev pub RunsReload : Type 0
-RunsReload = (opening : State) (table : Held) (file : Config) (journal rest : Option (List ℕ)) (renewal : PreparedReload) (next : Reloaded) (last : Held) →
+RunsReload = (opening : State) (table : Held) (file : Config) (journal rest : Option (List ℕ)) (renewal : PreparedReload) (next : NextTable) (last : Held) →
     IsServiceRun opening table → IsPrepared file journal renewal → IsReloaded renewal rest table next →
     IsHistory next.table.state last → IsServiceRun opening last
 

@@ -10,12 +10,12 @@ use Rattle.chpw_journal.specs.JournalFile.{IsReadFrom}
 use Rattle.chpw_reload.specs.declared.fault.ReloadFault.{ReloadFault}
 use Rattle.chpw_reload.specs.declared.fault.ReloadFault.TheVariants.{Realm, Journal, Keys, Limits, Memory}
 use Rattle.chpw_reload.specs.declared.prepared_reload.PreparedReload.{PreparedReload}
-use Rattle.chpw_reload.specs.declared.reloading.Reloaded.{Reloaded}
+use Rattle.chpw_reload.specs.declared.reloading.NextTable.{NextTable}
 use Rattle.chpw_reload.specs.Next.{lacked, next_config}
 use Rattle.chpw_reload.specs.Comparing.{HoldAlike, HoldApart}
 
 -- the next configuration's table, over this renewed one
-pub record IsStarted (settings : Config) (closed renewed : State) (next : Reloaded) : Type 0 where
+pub record IsStarted (settings : Config) (closed renewed : State) (next : NextTable) : Type 0 where
   pub keys : (name : Name) → HoldAlike closed renewed name
   pub fits : config_fits (next_config settings closed renewed) ≡ true
   pub table : Agrees next.table.state (opening_of (next_config settings closed renewed) closed.fixed.quiet_until)
@@ -24,7 +24,7 @@ pub record IsStarted (settings : Config) (closed renewed : State) (next : Reload
   pub few : length closed.used ≤ 2 ^ 31
 
 -- and over a renewed table that the rest of the journal gives
-pub record IsStartedFrom (r : PreparedReload) (rest : Option (List ℕ)) (closed : State) (next : Reloaded) : Type 0 where
+pub record IsStartedFrom (r : PreparedReload) (rest : Option (List ℕ)) (closed : State) (next : NextTable) : Type 0 where
   pub realm : closed.fixed.realm ≡ r.settings.realm
   pub renewed : Restored
   pub read : IsReadFrom r.table rest renewed

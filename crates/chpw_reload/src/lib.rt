@@ -5,7 +5,6 @@
 mod compacting;
 mod comparing;
 mod fault;
-mod fitting;
 mod lacking;
 pub mod laws;
 mod next;
@@ -15,4 +14,4 @@ mod reloading;
 pub use compacting::goes_with;
 pub use fault::{ReloadFault, put_fault};
 pub use prepared_reload::{PreparedReload, prepare};
-pub use reloading::{Refused, Reloaded, finish};
+pub use reloading::{NextTable, RefusedReload, finish};

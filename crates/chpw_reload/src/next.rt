@@ -1,11 +1,10 @@
 //! The configuration that the next table is made from, and that table.
 ghost use Rattle.std.specs.Prelude.{◌≡◌, ◌++◌, IfOk, OnOk, map, max, true};
-ghost use Rattle.std.specs.List.Sorted.{IsStrictlySortedBy};
 ghost use Rattle.chpw_rules.specs.Fitting.{are_distinct, is_same_principal};
-ghost use Rattle.chpw_rules.specs.Names.{name_cmp};
-ghost use Rattle.chpw_report.specs.Configurations.{names_of, row_of};
+ghost use Rattle.chpw_report.specs.Configurations.{row_of};
 ghost use Rattle.chpw_reload.specs.Next.{lacked as lacked_names, next_config};
 
+use chpw_journal::known::know_order;
 use chpw_report::{held_config, held_row};
 use chpw_rules::{Config, Items, Name, Policy, PrincipalRow};
 use chpw_table::Table;
@@ -25,8 +24,8 @@ pub(crate) fn next_config(
         ≡ next_config settings closed.now.state renewed.now.state) }
     ensures once { IfOk result (λ next. are_distinct is_same_principal next.principals ≡ true) }
 {
-    tell_order(closed);
-    tell_order(renewed);
+    know_order(closed);
+    know_order(renewed);
     let held = held_config(alloc, settings, renewed)?;
     let policy = Policy {
         iterations: closed.count().max(held.policy.iterations),
@@ -42,13 +41,6 @@ pub(crate) fn next_config(
         rules: held.rules,
         principals: Items::of(rows),
     })
-}
-
-// Gives a proof that a table's names are sorted, each once.
-fn tell_order(table: &Table)
-    ensures order { IsStrictlySortedBy name_cmp (names_of table.now.state) }
-{
-    let _ = table.name_at(0);
 }
 
 // Adds the table's principals of these names.

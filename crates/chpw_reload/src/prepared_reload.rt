@@ -82,7 +82,7 @@ fn settings(alloc: Global, file: &Config) -> Result<Config, AllocError>
     })
 }
 
-/// The table with the records of a journal replayed, from where its reader is, behind its heading.
+/// The table with the records of a journal replayed, from where its reader is, after its heading.
 pub(crate) fn read_on<F: Read + Drop>(
     alloc: Global,
     table: Table,

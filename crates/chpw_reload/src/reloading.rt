@@ -1,17 +1,17 @@
 //! The table that the next desk opens with.
-ghost use Rattle.std.specs.Prelude.{◌≡◌, ◌≤◌, ◌^◌, length, IfOk, IfErr, OnOk};
+ghost use Rattle.std.specs.Prelude.{◌≡◌, ◌≤◌, ◌^◌, true, false, length, IfOk, IfErr, IfSome, IfNone, OnOk};
 ghost use Rattle.chpw_rules.specs.declared.config.Config.{Config as Settings};
 ghost use Rattle.chpw_rules.specs.declared.name.Name.{Name as TheName};
+ghost use Rattle.chpw_rules.specs.Fitting.{are_distinct, config_fits, is_same_principal};
 ghost use Rattle.chpw_reload.specs.Comparing.{HoldAlike};
 ghost use Rattle.chpw_reload.specs.Next.{lacked as lacked_names};
-ghost use Rattle.chpw_reload.specs.Reasons.{fault_behind as fault_after, number_behind as number_after};
+ghost use Rattle.chpw_reload.specs.Reasons.{fault_after, number_after};
 ghost use Rattle.chpw_reload.specs.Reloading.{IsOfRealms, IsRefused, IsReloaded};
 ghost use Rattle.chpw_reload.specs.declared.fault.ReloadFault.TheVariants.{Realm};
 ghost use Rattle.chpw_reload.specs.Starting.{IsRefusedOver, IsStarted, IsStartedFrom};
 
 use crate::comparing::first_apart;
 use crate::fault::ReloadFault;
-use crate::fitting::fitting;
 use crate::lacking::missing_names;
 use crate::next::next_config;
 use crate::prepared_reload::{PreparedReload, read_on};
@@ -23,14 +23,14 @@ use std::io::Read;
 
 /// The table that the next desk opens with, and the principals in it that neither the new configuration nor the journal has.
 #[derive(Drop)]
-pub struct Reloaded {
+pub struct NextTable {
     pub table: Table,
     pub lacked: Vec<Name>,
 }
 
 /// A reload that was refused, and the unchanged closed table.
 #[derive(Drop)]
-pub struct Refused {
+pub struct RefusedReload {
     pub fault: ReloadFault,
     pub closed: Table,
 }
@@ -46,18 +46,18 @@ pub fn finish<F: Read + Drop>(
     renewal: PreparedReload,
     rest: F,
     closed: Table,
-) -> Result<Reloaded, Refused>
+) -> Result<NextTable, RefusedReload>
     ensures reloaded { IfOk result (IsReloaded renewal (F.remaining rest) closed) }
     ensures refused { IfErr result (λ refused.
         IsRefused renewal (F.remaining rest) closed refused.fault) }
     ensures unchanged { IfErr result (λ refused. refused.closed ≡ closed) }
 {
     match start_table(alloc, renewal, rest, &closed) {
-        Ok(started) => Ok(Reloaded {
+        Ok(started) => Ok(NextTable {
             table: started.table.going_on_from(closed),
             lacked: started.lacked,
         }),
-        Err(fault) => Err(Refused { fault, closed }),
+        Err(fault) => Err(RefusedReload { fault, closed }),
     }
 }
 
@@ -67,7 +67,7 @@ fn start_table<F: Read + Drop>(
     renewal: PreparedReload,
     rest: F,
     closed: &Table,
-) -> Result<Reloaded, ReloadFault>
+) -> Result<NextTable, ReloadFault>
     ensures started { IfOk result (IsStartedFrom renewal (F.remaining rest) closed.now.state) }
     ensures refused { IfErr result (IsRefused renewal (F.remaining rest) closed.now) }
 {
@@ -83,7 +83,7 @@ fn start_table<F: Read + Drop>(
     } = renewal;
     match read_on(alloc, table, rest) {
         Ok(restored) => start_over(alloc, settings, closed, &restored.table),
-        Err(fault) => Err(ReloadFault::of(fault_behind(records, fault))),
+        Err(fault) => Err(ReloadFault::of(fault_after(records, fault))),
     }
 }
 
@@ -107,23 +107,23 @@ fn realms(alloc: Global, held: &[u8], new: &[u8]) -> Result<ReloadFault, AllocEr
 }
 
 // A fault that was found after this many records.
-fn fault_behind(records: u64, fault: RestoreFault) -> RestoreFault
+fn fault_after(records: u64, fault: RestoreFault) -> RestoreFault
     ensures value { result ≡ fault_after records fault }
 {
     match fault {
-        RestoreFault::BadRecord(n) => RestoreFault::BadRecord(number_behind(records, n)),
-        RestoreFault::WrongVersion(n) => RestoreFault::WrongVersion(number_behind(records, n)),
+        RestoreFault::BadRecord(n) => RestoreFault::BadRecord(number_after(records, n)),
+        RestoreFault::WrongVersion(n) => RestoreFault::WrongVersion(number_after(records, n)),
         RestoreFault::UnknownPrincipal(n) => {
-            RestoreFault::UnknownPrincipal(number_behind(records, n))
+            RestoreFault::UnknownPrincipal(number_after(records, n))
         }
-        RestoreFault::TooMany(n) => RestoreFault::TooMany(number_behind(records, n)),
+        RestoreFault::TooMany(n) => RestoreFault::TooMany(number_after(records, n)),
         RestoreFault::OtherRealm => RestoreFault::OtherRealm,
         RestoreFault::CannotRead => RestoreFault::CannotRead,
         RestoreFault::Memory => RestoreFault::Memory,
     }
 }
 
-fn number_behind(records: u64, number: u64) -> u64
+fn number_after(records: u64, number: u64) -> u64
     ensures value { result ≡ number_after records number }
 {
     records.saturating_add(number)
@@ -135,7 +135,7 @@ fn start_over(
     settings: Config,
     closed: &Table,
     renewed: &Table,
-) -> Result<Reloaded, ReloadFault>
+) -> Result<NextTable, ReloadFault>
     ensures started { IfOk result (IsStarted settings closed.now.state renewed.now.state) }
     ensures refused { IfErr result
         (IsRefusedOver settings closed.now.state renewed.now.state) }
@@ -167,7 +167,7 @@ fn start_next(
     settings: Config,
     closed: &Table,
     renewed: &Table,
-) -> Result<Reloaded, ReloadFault>
+) -> Result<NextTable, ReloadFault>
     requires alike { (name : TheName) → HoldAlike closed.now.state renewed.now.state name }
     requires few { length closed.now.state.used ≤ 2 ^ 31 }
     ensures started { IfOk result (IsStarted settings closed.now.state renewed.now.state) }
@@ -180,5 +180,18 @@ fn start_next(
         return Err(ReloadFault::Limits);
     };
     let table = Table::start(alloc, config, closed.quiet_until())?;
-    Ok(Reloaded { table, lacked })
+    Ok(NextTable { table, lacked })
+}
+
+// The configuration, if it is within the limits. No name is repeated in it.
+fn fitting(config: Config) -> Option<Config>
+    requires once { are_distinct is_same_principal config.principals ≡ true }
+    ensures fits { IfSome result (λ same. (same ≡ config) × (config_fits same ≡ true)) }
+    ensures refused { IfNone result (config_fits config ≡ false) }
+{
+    if config.fits_with_distinct_names() {
+        Some(config)
+    } else {
+        None
+    }
 }

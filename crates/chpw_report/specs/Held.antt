@@ -23,7 +23,7 @@ pub record IsHeld (config : Config) (journal : Option (List ℕ)) (h : HeldTable
   pub read : IsWholeRestored before journal after
   pub table : h.table ≡ after.table
   pub changes : h.changes ≡ after.records
-  pub torn : h.torn_behind ≡ cut_of after
+  pub torn : h.torn_after ≡ cut_of after
 
 -- the journal's first fault, over such a table; or memory ran out
 abbrev pub IsHeldFault : Config → Option (List ℕ) → RestoreFault → Type 0

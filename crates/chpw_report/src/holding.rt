@@ -10,14 +10,13 @@ use chpw_table::Table;
 use std::alloc::Global;
 use std::io::Read;
 
-/// The table that is held.
 #[derive(Drop)]
 pub struct HeldTable {
     pub table: Table,
     /// How many records the journal has: accepted requests, raises of the count, and what the KDC said of a principal.
     pub changes: u64,
     /// After how many bytes an incomplete record begins; none if all are complete.
-    pub torn_behind: Option<u64>,
+    pub torn_after: Option<u64>,
 }
 
 /// The configuration's table with a journal's records replayed, so with the principals that joined, and without those that
@@ -44,7 +43,7 @@ pub fn held_from<F: Read + Drop>(
 fn held_of(restored: Restored) -> HeldTable
     ensures table { result.table ≡ restored.table }
     ensures changes { result.changes ≡ restored.records }
-    ensures torn { result.torn_behind ≡ cut_of restored }
+    ensures torn { result.torn_after ≡ cut_of restored }
 {
     let Restored {
         table,
@@ -55,6 +54,6 @@ fn held_of(restored: Restored) -> HeldTable
     HeldTable {
         table,
         changes: records,
-        torn_behind: torn.then_some(kept),
+        torn_after: torn.then_some(kept),
     }
 }

@@ -4,14 +4,14 @@ ghost use Rattle.std.specs.List.{flat_map};
 ghost use Rattle.chpw_printing.specs.Quoting.{principal_text, quoted};
 ghost use Rattle.chpw_report.specs.Reports.{key_line, keys_lines, row_lines, salt_text};
 
-use chpw_printing::{put_behind_space, put_hex, put_principal, put_quoted};
+use chpw_printing::{put_after_space, put_hex, put_principal, put_quoted};
 use chpw_rules::Name;
 use chpw_table::KeyRow;
 use std::alloc::{AllocError, Global};
 
 /// What all lines of a principal share, as it is printed.
 #[derive(Drop)]
-struct Printed {
+struct PrintedPrincipal {
     /// Its name and its realm, with `@` between them.
     principal: Vec<u8>,
     /// The default salt of its keys.
@@ -46,7 +46,7 @@ pub(crate) fn put_keys(
     Ok(())
 }
 
-fn make_printed(alloc: Global, realm: &[u8], name: &Name) -> Result<Printed, AllocError>
+fn make_printed(alloc: Global, realm: &[u8], name: &Name) -> Result<PrintedPrincipal, AllocError>
     ensures principal { IfOk result (λ p. p.principal.items ≡ principal_text realm.now name.now) }
     ensures salt { IfOk result (λ p. p.salt.items ≡ salt_text realm.now name.now) }
 {
@@ -55,7 +55,7 @@ fn make_printed(alloc: Global, realm: &[u8], name: &Name) -> Result<Printed, All
     let mut salt = Vec::new(alloc);
     put_quoted(&mut salt, realm)?;
     put_parts(&mut salt, name)?;
-    Ok(Printed { principal, salt })
+    Ok(PrintedPrincipal { principal, salt })
 }
 
 // Adds the components, with nothing between them.
@@ -72,7 +72,7 @@ fn put_parts(text: &mut Vec<u8>, name: &Name) -> Result<(), AllocError>
 }
 
 // Adds both keys of a version.
-fn put_row(text: &mut Vec<u8>, printed: &Printed, row: &KeyRow) -> Result<(), AllocError>
+fn put_row(text: &mut Vec<u8>, printed: &PrintedPrincipal, row: &KeyRow) -> Result<(), AllocError>
     ensures value { OnOk result (text.new.items ≡ text.old.items
         ++ row_lines printed.now.principal.items printed.now.salt.items row.now) }
 {
@@ -92,15 +92,15 @@ fn put_row(text: &mut Vec<u8>, printed: &Printed, row: &KeyRow) -> Result<(), Al
     put_key(text, printed, &older)
 }
 
-fn put_key(text: &mut Vec<u8>, printed: &Printed, key: &Key) -> Result<(), AllocError>
+fn put_key(text: &mut Vec<u8>, printed: &PrintedPrincipal, key: &Key) -> Result<(), AllocError>
     ensures value { OnOk result (text.new.items ≡ text.old.items
         ++ key_line printed.now.principal.items printed.now.salt.items
         key.now.kvno key.now.etype key.now.count key.now.bytes.now) }
 {
     text.extend_from_slice(&printed.principal)?;
-    put_behind_space(text, key.kvno)?;
-    put_behind_space(text, key.etype)?;
-    put_behind_space(text, key.count)?;
+    put_after_space(text, key.kvno)?;
+    put_after_space(text, key.etype)?;
+    put_after_space(text, key.count)?;
     text.push(b' ')?;
     put_hex(text, key.bytes)?;
     text.push(b' ')?;

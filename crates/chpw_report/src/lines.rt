@@ -4,7 +4,7 @@ ghost use Rattle.std.specs.List.{flat_map};
 ghost use Rattle.chpw_printing.specs.Quoting.{number_text};
 ghost use Rattle.chpw_report.specs.Reports.{shown_line};
 
-use chpw_printing::{put_behind_space, put_name, put_number};
+use chpw_printing::{put_after_space, put_name, put_number};
 use chpw_rules::Name;
 use chpw_table::Lookup;
 use std::alloc::AllocError;
@@ -28,7 +28,7 @@ fn put_counts(text: &mut Vec<u8>, counts: &[u32]) -> Result<(), AllocError>
 {
     let mut others = counts;
     while let [count, rest @ ..] = others {
-        put_behind_space(text, *count)?;
+        put_after_space(text, *count)?;
         others = rest;
     }
     Ok(())

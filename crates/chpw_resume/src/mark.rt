@@ -19,7 +19,6 @@ pub struct JournalMark {
     pub sum: [u8; 20],
 }
 
-/// The mark of a journal of this length with this end.
 pub fn mark_of(length: u64, end: &[u8]) -> JournalMark
     ensures value { result ≡ mark_spec length end.now }
 {

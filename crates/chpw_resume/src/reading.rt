@@ -11,14 +11,14 @@ use crate::mark::JournalMark;
 use crate::resume::{HEADER, Resume};
 use chpw_blocks::read_blocks;
 use chpw_rules::{Items, Name};
-use chpw_table::{Carried, RequestId};
+use chpw_table::{RequestId, ResumeState};
 use sha1::Sha1;
 use std::alloc::{AllocError, Global};
 
 // How many bytes the checksum at the end has.
 const SUM_BYTES: usize = 20;
 
-// How many bytes stand in the block behind the realm, and in the first one of an id.
+// How many bytes are in the block after the realm, and in the first one of an id.
 const STATE_BYTES: usize = 44;
 
 const TIMES_BYTES: usize = 12;
@@ -49,7 +49,7 @@ pub fn read_resume(alloc: Global, text: &[u8]) -> Result<Result<Resume, ResumeFa
     }
 }
 
-// What stands behind the first line; none if that is another one.
+// What follows the first line; none if that is another one.
 fn behind_header(text: &[u8]) -> Option<&[u8]>
     ensures value { MatchOption result
         ((rest : List ℕ) → text.now ≢ header ++ rest)
@@ -66,7 +66,7 @@ fn behind_header(text: &[u8]) -> Option<&[u8]>
     }
 }
 
-// What stands before the checksum at the end; none if that is another one.
+// What precedes the checksum at the end; none if that is another one.
 fn summed(text: &[u8]) -> Option<&[u8]>
     ensures value { MatchOption result
         ((body : List ℕ) → text.now ≢ body ++ sha1 body)
@@ -132,7 +132,7 @@ fn read_parts(
     Ok(Some(Resume {
         realm: realm.clone()?,
         journal,
-        carried: Carried {
+        carried: ResumeState {
             ids: Items::of(ids),
             clock,
             quiet_until,

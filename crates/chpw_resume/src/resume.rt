@@ -2,7 +2,7 @@
 
 use crate::mark::JournalMark;
 use chpw_rules::Items;
-use chpw_table::Carried;
+use chpw_table::ResumeState;
 
 /// The most bytes of a resume file: 256 MiB, some three million used ids.
 pub const LONGEST_RESUME: usize = 268_435_456;
@@ -18,5 +18,5 @@ pub struct Resume {
     /// Its journal, as it left it.
     pub journal: JournalMark,
     /// What its table leaves.
-    pub carried: Carried,
+    pub carried: ResumeState,
 }

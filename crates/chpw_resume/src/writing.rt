@@ -55,7 +55,7 @@ fn put(text: &mut Vec<u8>, bytes: &[u8]) -> Result<(), WriteFault>
     Ok(())
 }
 
-// Adds what stands behind the realm.
+// Adds what follows the realm.
 fn put_state(alloc: Global, text: &mut Vec<u8>, resume: &Resume) -> Result<(), WriteFault>
     ensures value { OnOk result (text.new.items ≡ text.old.items ++ block (state_text resume.now)) }
 {

@@ -1,3 +1,5 @@
+pub mod AscendingLemmas
 pub mod DistinctLemmas
 pub mod NameLemmas
+pub mod NameOrderLemmas
 pub mod PatternLemmas

@@ -1,3 +1,4 @@
+pub mod Ascending
 pub mod Fitting
 pub mod Limits
 pub mod Names

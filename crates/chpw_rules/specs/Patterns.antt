@@ -19,7 +19,7 @@ has_no_slash bytes = list_all (λ byte. not (byte == slash)) bytes
 abbrev pub StandsFor : ℕ → List ℕ → Type 0
 StandsFor byte run = ((byte ≡ star) × (has_no_slash run ≡ true)) ⊎ ((byte ≢ star) × (run ≡ byte ∷ []))
 
--- the text can be cut into runs, one for each byte of the pattern, which stand in their order
+-- the text can be cut into runs, one for each byte of the pattern, in their order
 abbrev pub Matches : List ℕ → List ℕ → Type 0
 Matches [] text = text ≡ []
 Matches (byte ∷ pattern) text =

@@ -3,7 +3,7 @@ use Rattle.std.specs.Prelude.{ℕ, ◌≤◌, Bool, false, not, ◌&&◌, ◌||�
 use Rattle.std.specs.Bool.{Decides}
 use Rattle.chpw_rules.specs.Patterns.{Matches, star, slash}
 
--- at k stands whether the pattern's first k bytes match the text
+-- place k says whether the pattern's first k bytes match the text
 abbrev pub AreMatched : List ℕ → List ℕ → List Bool → Type 0
 AreMatched pattern text matched =
     (k : ℕ) → k ≤ length pattern → Decides (slice_index_or matched k false) (Matches (take k pattern) text)

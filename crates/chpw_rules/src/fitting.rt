@@ -1,6 +1,7 @@
 //! Whether a configuration is within the limits.
-ghost use Rattle.std.specs.Prelude.{Bool, ◌≡◌};
+ghost use Rattle.std.specs.Prelude.{Bool, ◌≡◌, true};
 ghost use Rattle.std.specs.List.{list_any};
+ghost use Rattle.chpw_rules.specs.Ascending.{ascend_from, names_ascend};
 ghost use Rattle.chpw_rules.specs.Fitting.{are_distinct, config_fits, descend_from, is_aes_key};
 ghost use Rattle.chpw_rules.specs.Fitting.{is_same_principal, is_same_service_key, key_fits, kvnos_descend};
 ghost use Rattle.chpw_rules.specs.Fitting.{policy_fits, principal_fits, principals_fit, rule_fits};
@@ -20,8 +21,26 @@ impl Config {
     /// Whether every value is within its limits, no service key and no name is repeated, and each principal's version
     /// numbers go down. An empty list of service keys fits.
     ///
-    /// Each name is compared with those before it, which is quadratic in the number of principals.
+    /// Names that are in their order are compared with the one before alone. Others are each compared with all before
+    /// them, which is quadratic in the number of principals.
     pub fn fits(&self) -> bool
+        ensures value { result ≡ config_fits self.now }
+    {
+        self.fits_with(principals_fit(self.principals.as_slice()))
+    }
+
+    /// What `fits` says of a configuration in which no name is repeated. No names are compared, so the time is linear in
+    /// the number of keys, whatever order the names are in.
+    pub fn fits_with_distinct_names(&self) -> bool
+        requires once { are_distinct is_same_principal self.now.principals ≡ true }
+        ensures value { result ≡ config_fits self.now }
+    {
+        self.fits_with(distinct_principals_fit(self.principals.as_slice()))
+    }
+
+    // Whether all but the principals are within the limits, and they are.
+    fn fits_with(&self, principals: bool) -> bool
+        requires fit { principals ≡ principals_fit self.now.principals }
         ensures value { result ≡ config_fits self.now }
     {
         REALM_LENGTHS.allow(self.realm.as_slice().len())
@@ -29,7 +48,7 @@ impl Config {
             && service_fits(self.service.as_slice())
             && policy_fits(&self.policy)
             && rules_fit(self.rules.list.as_slice())
-            && principals_fit(self.principals.as_slice())
+            && principals
     }
 }
 
@@ -91,7 +110,46 @@ fn target_fits(target: &Option<Name>) -> bool
 fn principals_fit(principals: &[PrincipalRow]) -> bool
     ensures value { result ≡ principals_fit principals.now }
 {
-    PRINCIPAL_COUNTS.allow(principals.len()) && all_fit(principals) && are_distinct(principals)
+    PRINCIPAL_COUNTS.allow(principals.len())
+        && all_fit(principals)
+        && have_distinct_names(principals)
+}
+
+fn distinct_principals_fit(principals: &[PrincipalRow]) -> bool
+    requires once { are_distinct is_same_principal principals.now ≡ true }
+    ensures value { result ≡ principals_fit principals.now }
+{
+    PRINCIPAL_COUNTS.allow(principals.len()) && all_fit(principals)
+}
+
+#[tactic(auto, using(crate::proofs::AscendingLemmas::ascending_distinct))]
+fn have_distinct_names(principals: &[PrincipalRow]) -> bool
+    ensures value { result ≡ are_distinct is_same_principal principals.now }
+{
+    names_ascend(principals) || are_distinct(principals)
+}
+
+// Whether each name is above the one before it.
+fn names_ascend(principals: &[PrincipalRow]) -> bool
+    ensures value { result ≡ names_ascend principals.now }
+{
+    match principals {
+        [] => true,
+        [first, rest @ ..] => ascend_from(&first.name, rest),
+    }
+}
+
+fn ascend_from(first: &Name, principals: &[PrincipalRow]) -> bool
+    ensures value { result ≡ ascend_from first.now principals.now }
+{
+    let mut last = first;
+    for row in principals {
+        if !last.cmp(&row.name).is_lt() {
+            return false;
+        }
+        last = &row.name;
+    }
+    true
 }
 
 impl Limited for PrincipalRow {
@@ -158,7 +216,7 @@ impl Identified for PrincipalRow {
 }
 
 /// Whether an element of the list is the same as the item.
-pub fn stands_in<T: Identified>(item: &T, list: &[T]) -> bool
+pub fn is_in_list<T: Identified>(item: &T, list: &[T]) -> bool
     ensures value { result ≡ list_any (T.same item.now) list.now }
 {
     list.iter().any(|other| item.is_same(other))
@@ -168,7 +226,7 @@ fn are_distinct<T: Identified>(list: &[T]) -> bool
     ensures value { result ≡ are_distinct T.same list.now }
 {
     for (place, item) in list.iter().enumerate() {
-        if stands_in(item, &list[..place]) {
+        if is_in_list(item, &list[..place]) {
             return false;
         }
     }

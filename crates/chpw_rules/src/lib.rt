@@ -12,7 +12,7 @@ mod policy;
 mod rules;
 
 pub use config::{Config, KeyBytes, PrincipalRow, ServiceRow};
-pub use fitting::{Identified, stands_in};
+pub use fitting::{Identified, is_in_list};
 pub use items::Items;
 pub use limits::{
     AES128_LENGTH, AES256_LENGTH, COMPONENT_COUNTS, COMPONENT_LENGTHS, DEPTHS, ENTRY_COUNTS,

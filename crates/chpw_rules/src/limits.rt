@@ -35,21 +35,21 @@ pub const MIN_CLASS_COUNTS: Limits = Limits { low: 0, high: 5 };
 pub const DEPTHS: Limits = Limits { low: 0, high: 16 };
 /// Encryption types 17 and 18 (RFC 3962 section 7).
 pub const ETYPES: Limits = Limits { low: 17, high: 18 };
-/// How many keys the service has.
+
 pub const SERVICE_KEY_COUNTS: Limits = Limits { low: 1, high: 16 };
-/// How many keys a principal has.
+
 pub const KEY_COUNTS: Limits = Limits { low: 1, high: 16 };
-/// How many rules there are.
+
 pub const RULE_COUNTS: Limits = Limits {
     low: 0,
     high: 10_000,
 };
-/// How many principals there are.
+
 pub const PRINCIPAL_COUNTS: Limits = Limits {
     low: 0,
     high: 10_000,
 };
-/// How many components a name has.
+
 pub const COMPONENT_COUNTS: Limits = Limits { low: 1, high: 8 };
 /// The length of a name's component in bytes.
 pub const COMPONENT_LENGTHS: Limits = Limits { low: 1, high: 128 };

@@ -61,7 +61,6 @@ impl Name {
     }
 }
 
-// A component.
 impl Limited for Items<u8> {
     ghost fits = { is_component };
 

@@ -23,7 +23,6 @@ pub fn password_facts(password: &[u8]) -> Facts
     }
 }
 
-// A class of characters.
 #[derive(Clone, Copy, Drop)]
 enum Class {
     Lower,
@@ -34,7 +33,6 @@ enum Class {
 }
 
 impl Class {
-    // The class of a byte.
     fn of(byte: u8) -> Class
         ensures value { result ≡ class_of byte }
     {
@@ -47,7 +45,6 @@ impl Class {
         }
     }
 
-    // Whether the byte is of this class.
     fn has(self, byte: u8) -> bool
         ensures value { result ≡ is_of_class self byte }
     {

@@ -50,7 +50,6 @@ impl NamePattern {
         Ok(Some(NamePattern { text }))
     }
 
-    /// The pattern's bytes.
     pub fn as_bytes(&self) -> &[u8]
         ensures value { result.now ≡ self.now }
     {
@@ -147,7 +146,7 @@ fn read_bytes(pattern: &[u8], matched: &mut [bool], bytes: &[u8])
     }
 }
 
-// One more byte of a text is read. At k stands whether the pattern's first k bytes match the text without it, and then
+// One more byte of a text is read. Place k says whether the pattern's first k bytes match the text without it, and then
 // whether they match the text with it.
 fn read_byte(pattern: &[u8], matched: &mut [bool], byte: u8)
     requires room { length pattern.now < length matched.old }

@@ -9,9 +9,9 @@ use Rattle.chpw_table.specs.Replies.{Answer}
 use Rattle.chpw_table.specs.Completing.{completed}
 use Rattle.chpw_decider.specs.Deciding.{AddsReceipt, IsCompletedFrom}
 use Rattle.chpw_serve.specs.declared.messages.Seal.{Seal}
-use Rattle.chpw_serve.specs.declared.messages.Incoming.{Incoming}
+use Rattle.chpw_serve.specs.declared.messages.OpenRequest.{OpenRequest}
 use Rattle.chpw_serve.specs.Requests.{Request, opened_under}
-use Rattle.chpw_serve.specs.Holding.{IsIncoming, answer_in}
+use Rattle.chpw_serve.specs.Holding.{IsOpenRequest, answer_in}
 use Rattle.chpw_serve.specs.Answers.{history_full, reply, AnswersRequest}
 use Rattle.chpw_serve.specs.Trying.{IsVerdict}
 use Rattle.chpw_serve.proofs.CompletingLemmas.{under_more}
@@ -27,9 +27,9 @@ module _ (error_frame : Answer → Moment → List ℕ) (private_frame : Seal �
       inl (t.0 ∙ same, t.1, is ∙ ap (λ (a : Answer). error_frame a now) said)
 
   -- a verdict
-  pub answers_verdict : (i : Incoming) (password : List ℕ)
+  pub answers_verdict : (i : OpenRequest) (password : List ℕ)
       (ready : Opened) (mid : List Receipt) (d : Option Verdict) (v : Verdict) (q : Request) (bytes : List ℕ)
-      → IsIncoming q i → password ≡ i.password → IsCompletedFrom password i.opened ready
+      → IsOpenRequest q i → password ≡ i.password → IsCompletedFrom password i.opened ready
       → mid ≡ old → d ≡ Some v
       → IsVerdict full d password ready now mid new → bytes ≡ reply error_frame private_frame i.seal v words now
       → AnswersRequest error_frame private_frame full q words now old new bytes

@@ -60,7 +60,7 @@ module _ {C X G : Type 0} (error_frame : Answer → Moment → List ℕ) (privat
   opening_stays start (t ∷ ts) last h = opening_stays h.0 ts last h.2 ∙ h.1.1.answer.goes_on
 
   module _ (opening : Held) (all : List Receipt) (legal : IsLegal opening.state (entries all)) (room : opening.events + length all ≤ opening.max_entries) where
-    -- from the start of these turns to behind them, whatever is drawn after that
+    -- from the start of these turns to after them, whatever is drawn after that
     pub record Chain (start last : StreamState C X Kept G) (turns : List Turn) (stream : List ℕ) : Type 0 where
       pub rest : List ℕ
       pub bytes : List ℕ

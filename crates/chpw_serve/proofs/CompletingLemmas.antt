@@ -10,9 +10,9 @@ use Rattle.chpw_table.specs.Requests.{target_of}
 use Rattle.chpw_table.proofs.DerivationLemmas.{with_counts_there, with_counts_new}
 use Rattle.chpw_table.specs.Completing.{completed, salt_of}
 use Rattle.chpw_decider.specs.Deciding.{IsCompletedFrom}
-use Rattle.chpw_serve.specs.declared.messages.Incoming.{Incoming}
+use Rattle.chpw_serve.specs.declared.messages.OpenRequest.{OpenRequest}
 use Rattle.chpw_serve.specs.Requests.{Request, Content, new_password, opened_under, password_in}
-use Rattle.chpw_serve.specs.Holding.{IsIncoming}
+use Rattle.chpw_serve.specs.Holding.{IsOpenRequest}
 
 with_none : (p s : List ℕ) (d : Derivation) → with_counts p s d [] ≡ d
 with_none p s d = append-nil d
@@ -63,7 +63,7 @@ pub under : (counts : List ℕ) (q : Request) → completed (password_in q.conte
 under counts q = under_at counts q q.content
 
 -- what a message opened to, with keys derived of its password, and then more of them
-pub under_more : (q : Request) (i : Incoming) (password : List ℕ) (ready o : Opened) → IsIncoming q i → password ≡ i.password
+pub under_more : (q : Request) (i : OpenRequest) (password : List ℕ) (ready o : Opened) → IsOpenRequest q i → password ≡ i.password
     → IsCompletedFrom password i.opened ready → IsCompletedFrom password ready o → (counts : List ℕ) × (o ≡ opened_under counts q)
 under_more q i password ready o holds is_password first more =
     let whole = completed_on password i.opened ready o first more in

@@ -17,13 +17,13 @@ use Rattle.chpw_table.specs.Replies.{Answer}
 use Rattle.chpw_table.specs.Completing.{completed}
 use Rattle.chpw_decider.specs.Deciding.{AddsReceipt, IsCompletedFrom}
 use Rattle.chpw_serve.specs.declared.messages.Seal.{Seal}
-use Rattle.chpw_serve.specs.declared.messages.Incoming.{Incoming}
+use Rattle.chpw_serve.specs.declared.messages.OpenRequest.{OpenRequest}
 use Rattle.chpw_serve.specs.declared.messages.OpenResult.{OpenResult}
 use Rattle.chpw_serve.specs.declared.messages.OpenResult.TheVariants as program
 use Rattle.chpw_serve.specs.declared.gate.Spot.{Spot}
 use Rattle.chpw_serve.specs.declared.gate.Spot.TheVariants as spot
 use Rattle.chpw_serve.specs.Requests.{Request, Opens, refused, opened, opened_under}
-use Rattle.chpw_serve.specs.Holding.{IsIncoming, IsOpenResult, answer_in}
+use Rattle.chpw_serve.specs.Holding.{IsOpenRequest, IsOpenResult, answer_in}
 use Rattle.chpw_serve.specs.Answers.{history_full, AnswersRequest, IsAnswer, is_opened}
 use Rattle.chpw_serve.specs.InTurn.{InTurn}
 use Rattle.chpw_serve.specs.Hearing.{Heard, Call, passed, heard, decision, refusal, Does, AreCallsForRequest, AreCallsFor, IsKvnoUnder}
@@ -74,15 +74,15 @@ module _ {G : Type 0} (passes : G → Spot → G → Type 0) (hears : G → Hear
   calls_refused opens found r e (opened q, is, h) unchanged k = absurd (subst (λ (x : OpenResult). IsOpenResult (opened q) x) e h)
 
   -- one that did
-  pub calls_opened : (opens : Opens → Type 0) (found : OpenResult) (i : Incoming) → found ≡ program.Opened i → ((o : Opens) × opens o × IsOpenResult o found)
-      → ((q : Request) → IsIncoming q i → CallsForRequest q) → (o : Opens) × opens o × CallsFor o
+  pub calls_opened : (opens : Opens → Type 0) (found : OpenResult) (i : OpenRequest) → found ≡ program.Opened i → ((o : Opens) × opens o × IsOpenResult o found)
+      → ((q : Request) → IsOpenRequest q i → CallsForRequest q) → (o : Opens) × opens o × CallsFor o
   calls_opened opens found i e (refused a, is, h) f = absurd (subst (λ (x : OpenResult). IsOpenResult (refused a) x) e h)
   calls_opened opens found i e (opened q, is, h) f = (opened q, is, f q (subst (λ (x : OpenResult). IsOpenResult (opened q) x) e h))
 
   -- what came of its request
-  pub calls_request : (full : Type 0) (i : Incoming)
+  pub calls_request : (full : Type 0) (i : OpenRequest)
       (password : List ℕ) (ready : Opened) (mid : List Receipt) (d : Option Verdict) (q : Request) (between : G)
-      → IsIncoming q i → password ≡ i.password → IsCompletedFrom password i.opened ready
+      → IsOpenRequest q i → password ≡ i.password → IsCompletedFrom password i.opened ready
       → mid ≡ old → IsVerdict full d password ready now mid new → passes gate spot.Opened between
       → HearsVerdict hears peer now made new password ready d between later → CallsForRequest q
   calls_request full i password ready mid None q between holds is_password first same v by h =
@@ -136,8 +136,8 @@ module _ {G : Type 0} (passes : G → Spot → G → Type 0) (hears : G → Hear
         }
     answered_refused found r e (opened q, is, h) same is_reply k = absurd (subst (λ (x : OpenResult). IsOpenResult (opened q) x) e h)
 
-    pub answered_opened : (found : OpenResult) (i : Incoming) → found ≡ program.Opened i → ((o : Opens) × opens o × IsOpenResult o found)
-        → ((q : Request) → IsIncoming q i → AnswersRequest error_frame private_frame full q words now old new bytes
+    pub answered_opened : (found : OpenResult) (i : OpenRequest) → found ≡ program.Opened i → ((o : Opens) × opens o × IsOpenResult o found)
+        → ((q : Request) → IsOpenRequest q i → AnswersRequest error_frame private_frame full q words now old new bytes
         × CallsForRequest q) → AnsweredWith error_frame private_frame full opens words bytes true
     answered_opened found i e (refused a, is, h) f = absurd (subst (λ (x : OpenResult). IsOpenResult (refused a) x) e h)
     answered_opened found i e (opened q, is, h) f =

@@ -51,7 +51,7 @@ less_is_other a b h = grind (arith, nat_tests)
 -- ---- one message
 
 module _ (error_frame : Answer → Moment → List ℕ) (private_frame : Seal → Answer → List ℕ → List ℕ) (opens : List ℕ → Opens → Type 0) (opening : Held) where
-  -- the machine behind these receipts
+  -- the machine after these receipts
   abbrev pub run_at : List Receipt → Run
   run_at receipts = record { state = outcome opening.state (entries receipts); events = opening.events + length receipts }
 

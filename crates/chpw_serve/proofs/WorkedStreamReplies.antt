@@ -1,4 +1,4 @@
--- The replies to a stream of two messages: an empty one, and one that announces 65,536 bytes. Behind
+-- The replies to a stream of two messages: an empty one, and one that announces 65,536 bytes. After
 -- a stream that is cut off there are none.
 use Rattle.std.proofs.Common.{◌≡◌, ℕ, List, [], ◌∷◌, ◌++◌, false, refl}
 use Rattle.chpw_frame.specs.Stream.{sent}

@@ -1,5 +1,5 @@
--- The effect of serving a stream over a table that one thread owns: the bytes written are the replies to the bytes
--- read.
+-- For what tests alone call (`serve_alone`): the effect of serving a stream over a table that one thread owns. The
+-- bytes written are the replies to the bytes read.
 use Rattle.std.specs.Prelude.{◌≡◌, ℕ, ◌+◌, ◌≤◌, List, [], ◌∷◌, ◌++◌, Bool, true, false, length, map, Option, Some}
 use Rattle.std.specs.List.{flat_map}
 use Rattle.std.specs.Io.KnownBytes.{Appends}

@@ -9,7 +9,7 @@ use crate::completing::derive_wanted;
 use crate::draws::Drawing;
 use crate::gate::{Gate, Spot};
 use crate::hearing::decide_heard;
-use crate::messages::{Incoming, Messages, OpenResult, Seal};
+use crate::messages::{Messages, OpenRequest, OpenResult, Seal};
 use crate::observer::Observer;
 use chpw_decider::Decider;
 use chpw_endpoints::Endpoints;
@@ -20,7 +20,7 @@ use std::alloc::{AllocError, Global};
 
 /// A reply, and whether its message opened.
 #[derive(Drop)]
-pub struct Answered {
+pub struct MessageReply {
     pub bytes: Vec<u8>,
     pub opened: bool,
 }
@@ -62,7 +62,7 @@ pub fn answer_message<M: Messages, D: Decider, G: Gate + Observer>(
     decider: &mut D,
     gate: &mut G,
     drawn: Drawing,
-) -> Result<Answered, AllocError>
+) -> Result<MessageReply, AllocError>
     ensures answers { IfOk result (λ a.
         Answering (M.error_frame service.now) (M.private_frame service.now) D.may_be_full D.gathered
         D.follows D.made G.passes G.hears (M.opens service.now ends) ends.peer
@@ -70,22 +70,22 @@ pub fn answer_message<M: Messages, D: Decider, G: Gate + Observer>(
     ensures refused { OnErr result (Unanswered D.gathered D.follows D.made G.passes G.hears
         (M.opens service.now ends) ends.peer message.now drawn.now decider.old decider.new gate.old gate.new) }
 {
-    let incoming = match service.open(alloc, ends, message)? {
-        OpenResult::Opened(incoming) => incoming,
+    let request = match service.open(alloc, ends, message)? {
+        OpenResult::Opened(request) => request,
         OpenResult::Refused(refusal) => {
             gate.refused(ends.peer, drawn.now, None, &refusal);
             let bytes = service.make_error(alloc, refusal, drawn.now)?;
-            return Ok(Answered {
+            return Ok(MessageReply {
                 bytes,
                 opened: false,
             });
         }
     };
-    let Incoming {
+    let OpenRequest {
         opened,
         password,
         seal,
-    } = incoming;
+    } = request;
     let ready = derive_wanted(
         service.realm(),
         decider,
@@ -106,7 +106,7 @@ pub fn answer_message<M: Messages, D: Decider, G: Gate + Observer>(
         None => service.make_error(alloc, history_full(), drawn.now)?,
         Some(verdict) => reply(alloc, service, &seal, verdict, drawn)?,
     };
-    Ok(Answered {
+    Ok(MessageReply {
         bytes,
         opened: true,
     })

@@ -48,13 +48,11 @@ fn is_shown<D: Decider>(realm: &[u8], decider: &mut D, opened: &Opened) -> bool
     ensures receipts { D.gathered decider.new ≡ D.gathered decider.old }
     ensures follows { D.follows decider.old decider.new }
 {
-    let (target_realm, name) = match &opened.body {
-        Body::Ask {
-            target: Some(target),
-            ..
-        } => (&target.realm, &target.name),
-        Body::Ask { target: None, .. } => (&opened.crealm, &opened.client),
-        Body::BadPrivate | Body::BadData => return false,
-    };
-    target_realm.as_slice() == realm && decider.lookup(name).is_some()
+    match &opened.body {
+        Body::BadPrivate | Body::BadData => false,
+        Body::Ask { .. } => {
+            opened.target_realm().as_slice() == realm
+                && decider.lookup(opened.target_name()).is_some()
+        }
+    }
 }

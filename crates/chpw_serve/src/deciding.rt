@@ -59,7 +59,6 @@ pub(crate) fn decide<D: Decider>(
     }
 }
 
-/// One try.
 fn try_once<D: Decider>(
     decider: &mut D,
     now: Moment,

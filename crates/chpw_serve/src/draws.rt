@@ -15,7 +15,6 @@ pub struct Drawing {
     ghost range: { IsMoment now × (now.micros < 1000000) },
 }
 
-/// A clock.
 pub trait Clock {
     /// In the first state it may give this moment, which leads to the second.
     ghost gives: { Self → Moment → Self → Type 0 };
@@ -43,23 +42,18 @@ pub(crate) fn draw<C: Clock, X: Words>(clock: &mut C, words: &mut X) -> Drawing
     ensures nine { length result.words ≡ 9 }
 {
     let now = clock.now();
-    let words = next_nine(words);
+    let words = next_words::<9, X>(words);
     Drawing { now, words }
 }
 
-/// Nine words in order.
-fn next_nine<X: Words>(words: &mut X) -> [u32; 9]
+/// The next `N` words, in order.
+pub fn next_words<const N: usize, X: Words>(words: &mut X) -> [u32; N]
     ensures words { InTurn X.gives words.old result words.new }
-    ensures nine { length result ≡ 9 }
+    ensures count { length result ≡ N }
 {
-    let w0 = words.next();
-    let w1 = words.next();
-    let w2 = words.next();
-    let w3 = words.next();
-    let w4 = words.next();
-    let w5 = words.next();
-    let w6 = words.next();
-    let w7 = words.next();
-    let w8 = words.next();
-    [w0, w1, w2, w3, w4, w5, w6, w7, w8]
+    let mut drawn = [0; N];
+    for i in 0..N {
+        drawn[i] = words.next();
+    }
+    drawn
 }

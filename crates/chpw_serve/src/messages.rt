@@ -33,7 +33,7 @@ pub struct Seal {
 
 /// A request that opened, its digest with no keys yet.
 #[derive(Drop)]
-pub struct Incoming {
+pub struct OpenRequest {
     pub opened: Opened,
     /// The new password; no bytes if none came.
     pub password: Items<u8>,
@@ -44,7 +44,7 @@ pub struct Incoming {
 #[derive(Drop)]
 pub enum OpenResult {
     Refused(Refusal),
-    Opened(Incoming),
+    Opened(OpenRequest),
 }
 
 /// The service's realm and keys, with which messages are opened and made.

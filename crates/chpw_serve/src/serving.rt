@@ -1,21 +1,17 @@
 //! Serving a stream.
-ghost use Rattle.std.specs.Prelude.{◌≡◌, IfSome};
+ghost use Rattle.std.specs.Prelude.{◌≡◌};
 ghost use Rattle.chpw_serve.specs.Answering.{Answering, Unanswered};
-ghost use Rattle.chpw_serve.specs.Hearing.{HoldsNobody, NotesNothing};
 ghost use Rattle.chpw_serve.specs.Holding.{answer_in};
 ghost use Rattle.chpw_serve.specs.Serving.{stream_state, message_too_long, IsServed, IsRefused, Passes};
-ghost use Rattle.chpw_serve.specs.declared.gate.NoGate.{NoGate};
-ghost use Rattle.chpw_serve.specs.ServedAlone.{AnsweringAlone, AddsOneAlone, IsServedAlone};
 
 use crate::answering::answer_message;
 use crate::draws::{Clock, Words, draw};
-use crate::gate::{Gate, NoGate, Spot};
+use crate::gate::{Gate, Spot};
 use crate::messages::Messages;
 use crate::observer::Observer;
-use chpw_decider::{Alone, Decider};
+use chpw_decider::Decider;
 use chpw_endpoints::Endpoints;
-use chpw_frame::{Received, read_tcp, write_tcp};
-use chpw_table::JournalSink;
+use chpw_frame::{TcpOutcome, read_tcp, write_tcp};
 use krb_protocol::Refusal;
 use krb_protocol::codes::{KRB_ERR_FIELD_TOOLONG, KRB5_KPASSWD_MALFORMED};
 use std::alloc::Global;
@@ -40,7 +36,7 @@ pub enum Ended {
     WriteFault,
     /// 65,536 messages were answered.
     Count,
-    /// A growth was refused. A decision may stand whose reply was not written.
+    /// A growth was refused. A decision may have been made whose reply was not written.
     Memory,
 }
 
@@ -77,13 +73,13 @@ pub fn serve_stream<
     while served < MAX_MESSAGES {
         let message = match read_tcp(alloc, reader) {
             Err(_) => return Ended::Memory,
-            Ok(Received::Ended) => return Ended::Input,
-            Ok(Received::CutOff) => return Ended::CutOff,
-            Ok(Received::ReadFault) => return Ended::ReadFault,
-            Ok(Received::TooLong) => {
+            Ok(TcpOutcome::Ended) => return Ended::Input,
+            Ok(TcpOutcome::CutOff) => return Ended::CutOff,
+            Ok(TcpOutcome::ReadFault) => return Ended::ReadFault,
+            Ok(TcpOutcome::TooLong) => {
                 return refuse(alloc, service, ends.peer, writer, gate, clock, words);
             }
-            Ok(Received::Message(message)) => message,
+            Ok(TcpOutcome::Message(message)) => message,
         };
         let drawn = draw(clock, words);
         let answer = match answer_message(alloc, service, ends, &message, decider, gate, drawn) {
@@ -142,46 +138,4 @@ fn too_long() -> Refusal
         error: KRB_ERR_FIELD_TOOLONG,
         text: "message too long",
     }
-}
-
-/// Serves a stream over a table that one thread owns. If the reader's bytes are known, the bytes written are the
-/// replies to them, as the machine gives them from the table's state, with the moments and words drawn and the appends
-/// that failed; after a write fault a beginning of those.
-pub fn serve_alone<R: Read, W: Write, M: Messages, S: JournalSink, C: Clock, X: Words>(
-    alloc: Global,
-    service: &M,
-    ends: Endpoints,
-    reader: &mut R,
-    writer: &mut W,
-    alone: &mut Alone<S>,
-    clock: &mut C,
-    words: &mut X,
-) -> Ended
-    ensures served { (gate later : NoGate) × IsServed
-        (AnsweringAlone HoldsNobody NotesNothing (M.error_frame service.now) (M.private_frame service.now)
-        (M.opens service.now ends) ends.peer)
-        (AddsOneAlone HoldsNobody NotesNothing (M.opens service.now ends) ends.peer)
-        (λ now. M.error_frame service.now message_too_long now) C.gives X.gives HoldsNobody NotesNothing ends.peer result
-        (stream_state (R.remaining reader.old) alone.old (W.contents writer.old) clock.old words.old gate)
-        (stream_state (R.remaining reader.new) alone.new (W.contents writer.new) clock.new words.new later) }
-    ensures replies { IfSome (R.remaining reader.old) (λ stream. (gate later : NoGate) × IsServedAlone
-        (M.error_frame service.now) (M.private_frame service.now) (M.opens service.now ends)
-        C.gives X.gives result stream
-        (stream_state (R.remaining reader.old) alone.old (W.contents writer.old) clock.old words.old gate)
-        (stream_state (R.remaining reader.new) alone.new (W.contents writer.new) clock.new words.new later)) }
-{
-    let ended = serve_stream(
-        alloc,
-        service,
-        ends,
-        reader,
-        writer,
-        alone,
-        &mut NoGate,
-        clock,
-        words,
-    );
-    // What `replies` rests on: the history is legal, and no longer than allowed.
-    let _full = alone.table().is_full();
-    ended
 }

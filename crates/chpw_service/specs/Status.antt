@@ -13,7 +13,7 @@ use Rattle.chpw_control.specs.declared.time.Time.{Time}
 use Rattle.chpw_transfers.specs.Controlling.{sum_of}
 use Rattle.chpw_transfers.specs.declared.connection_counts.ConnectionCounts.{ConnectionCounts}
 use Rattle.chpw_kdc.specs.Dialogs.{State as Dialog}
-use Rattle.chpw_kdc.specs.declared.update.Refusal.{Refusal}
+use Rattle.chpw_kdc.specs.declared.update.RefusedName.{RefusedName}
 use Rattle.chpw_kdc.specs.Spelling.{reason_word}
 use Rattle.chpw_printing.specs.Quoting.{name_text}
 use Rattle.chpw_journal.specs.Causes.{cause_text}
@@ -40,7 +40,7 @@ IsReadOf (Some d) changed (Some r) =
     (r.is_connected ≡ d.pace.connected) × (r.since ≡ changed) × (r.behind ≡ length d.puts) × (r.held ≡ length d.mirror)
 
 -- a refusal, as `status` and the notices have it
-abbrev pub refusal_words : Refusal → List ℕ
+abbrev pub refusal_words : RefusedName → List ℕ
 refusal_words r = name_text r.name ++ codes " " ++ reason_word r.reason
 
 -- the status of a service of this version, by what was read of it, its counters and its connections: busy are the

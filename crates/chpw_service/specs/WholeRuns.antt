@@ -11,7 +11,7 @@ use Rattle.chpw_workers.specs.Clocks.{moment_after}
 use Rattle.chpw_invocation.specs.declared.invocation.ServeOptions.{ServeOptions}
 use Rattle.chpw_start.specs.Opening.{IsOpening}
 use Rattle.chpw_start.specs.Resuming.{IsTakenOver}
-use Rattle.chpw_table.specs.declared.table.resuming.Carried.{Carried}
+use Rattle.chpw_table.specs.declared.table.resuming.ResumeState.{ResumeState}
 use Rattle.chpw_start.specs.Raised.{IsRaisedWhereAsked}
 use Rattle.chpw_desks.specs.ServiceRuns.{RunsTo, gives_moment, new_passes}
 use Rattle.chpw_start.specs.Rules.{AreRulesOf}
@@ -46,7 +46,7 @@ pub record IsOpenedFrom (config : Config) (before : Moment) (opened : Held) : Ty
   pub found : Journal File
   pub opening : IsOpening gives_moment config given before started found
   pub start : Moment
-  pub left : Option Carried
+  pub left : Option ResumeState
   pub taken : IsTakenOver start.seconds found.table left opened
 
 -- there is a configuration that a text sets, by whose rules messages are answered; the first desk opens with its table, by a clock

@@ -12,7 +12,7 @@ use chpw_connections::Unconfirmed;
 use chpw_control::Time;
 use chpw_desks::{JournalLength, KdcPlace};
 use chpw_invocation::VERSION;
-use chpw_kdc::{KdcDialog, Notice as KdcNotice, ProtocolFault, Refusal};
+use chpw_kdc::{KdcDialog, Notice as KdcNotice, ProtocolFault, RefusedName};
 use chpw_logging::{Log, Notice, is_first, time_of};
 use chpw_printing::put_name;
 use chpw_reactor::{KdcTerms, StatusReporter};
@@ -140,7 +140,7 @@ impl<R: Net<Listener = TcpListener, Stream = TcpStream> + Wait + Eprint, T: Cloc
         match notice {
             KdcNotice::Lost => self.log.tell(Notice::KdcLost(socket)),
             KdcNotice::Refused { name, reason } => {
-                let words = words_of(self.alloc, &Refusal { name, reason });
+                let words = words_of(self.alloc, &RefusedName { name, reason });
                 self.log.tell(Notice::KdcRefused(socket, text_of(&words)));
             }
             KdcNotice::TooManyGone { gone, of } => {
@@ -230,7 +230,7 @@ fn readings_of(kdc: Option<&KdcDialog>, changed: Time) -> Option<KdcReadings>
 }
 
 // A name that the agent refused, and why; empty if memory is refused.
-fn words_of(alloc: Global, refusal: &Refusal) -> Vec<u8>
+fn words_of(alloc: Global, refusal: &RefusedName) -> Vec<u8>
     ensures value { (result.items ≡ []) ⊎ (result.items ≡ refusal_words refusal.now) }
 {
     let mut words = Vec::new(alloc);
@@ -251,7 +251,7 @@ fn name_text(alloc: Global, name: &Name) -> Vec<u8>
     }
 }
 
-fn put_refusal(words: &mut Vec<u8>, refusal: &Refusal) -> Result<(), AllocError>
+fn put_refusal(words: &mut Vec<u8>, refusal: &RefusedName) -> Result<(), AllocError>
     ensures value { OnOk result (words.new.items ≡ words.old.items ++ refusal_words refusal.now) }
 {
     put_name(words, &refusal.name)?;

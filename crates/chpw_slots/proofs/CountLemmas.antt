@@ -10,8 +10,8 @@ use Rattle.chpw_connection.specs.Counting.{is_counted, one_at}
 use Rattle.chpw_slots.specs.Counting.{CountedOnce}
 use Rattle.chpw_connection.specs.Stages.{Stage, stage, reading, queued, answering, confirming, writing, lingering, abandoned, ended}
 use Rattle.chpw_connection.specs.declared.connection.Connection.{Connection}
-use Rattle.chpw_connection.specs.declared.counting.Counted.{Counted}
-use Rattle.chpw_connection.specs.declared.counting.Counted.TheVariants as counted
+use Rattle.chpw_connection.specs.declared.counting.CountedStage.{CountedStage}
+use Rattle.chpw_connection.specs.declared.counting.CountedStage.TheVariants as counted
 
 -- over the slots below this one
 abbrev pub below : (Option Connection → ℕ) → Slab Connection → ℕ → ℕ
@@ -32,7 +32,7 @@ below_next f slots n empty =
 pub below_all : (f : Option Connection → ℕ) (slots : Slab Connection) (n : ℕ) → length slots.slots ≤ n → below f slots n ≡ sum_by f slots.slots
 below_all f slots n few = ap (sum_by f) (take_all n slots.slots few)
 
-pub one_at_le : (which : Counted) (o : Option Connection) → one_at which o ≤ 1
+pub one_at_le : (which : CountedStage) (o : Option Connection) → one_at which o ≤ 1
 one_at_le which None = omega arith
 one_at_le which (Some c) = by_test (is_counted which (stage c))
   where

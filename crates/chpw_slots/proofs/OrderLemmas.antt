@@ -19,7 +19,7 @@ picks_rest x (z ∷ xs) [] p = absurd p
 picks_rest x (z ∷ xs) (y ∷ ys) (inl both) = inr both.1
 picks_rest x (z ∷ xs) (y ∷ ys) (inr later) = inr (picks_rest x (z ∷ xs) ys later)
 
--- the same list behind a first one that may be left out
+-- the same list after a first one that may be left out
 picks_front : (x : ℕ) (xs zs : List ℕ) → ((ys : List ℕ) → Picks xs ys → Picks zs ys) → (ys : List ℕ) → Picks (x ∷ xs) ys → Picks (x ∷ zs) ys
 picks_front x xs zs fewer [] p = absurd p
 picks_front x xs zs fewer (y ∷ ys) (inl both) = inl (both.0, fewer ys both.1)
@@ -35,7 +35,7 @@ picks_filter test (x ∷ q) ys p =
     by_test true stays goes = stays
     by_test false stays goes = goes
 
--- behind those that were taken
+-- after those that were taken
 picks_after : (test : ℕ → Bool) (taken q ys : List ℕ) → Picks (taken ++ q) ys → Picks (taken ++ filter test q) ys
 picks_after test [] q ys p = picks_filter test q ys p
 picks_after test (x ∷ taken) q ys p = picks_front x (taken ++ q) (taken ++ filter test q) (λ zs r. picks_after test taken q zs r) ys p

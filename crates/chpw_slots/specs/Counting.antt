@@ -2,12 +2,12 @@
 use Rattle.std.specs.Prelude.{◌≡◌, ℕ, ◌+◌, sum_by}
 use Rattle.slab.specs.Slab.{Slab, slab_len}
 use Rattle.chpw_connection.specs.declared.connection.Connection.{Connection}
-use Rattle.chpw_connection.specs.declared.counting.Counted.{Counted}
-use Rattle.chpw_connection.specs.declared.counting.Counted.TheVariants as counted
+use Rattle.chpw_connection.specs.declared.counting.CountedStage.{CountedStage}
+use Rattle.chpw_connection.specs.declared.counting.CountedStage.TheVariants as counted
 use Rattle.chpw_connection.specs.Counting.{one_at}
 
 -- those of one stage
-abbrev pub count_in : Counted → Slab Connection → ℕ
+abbrev pub count_in : CountedStage → Slab Connection → ℕ
 count_in which slots = sum_by (one_at which) slots.slots
 
 -- those of all stages together

@@ -5,11 +5,11 @@ ghost use Rattle.chpw_connection.specs.Counting.{one_at};
 ghost use Rattle.chpw_slots.specs.Counting.{count_in};
 
 use crate::slots::Slots;
-use chpw_connection::Counted;
+use chpw_connection::CountedStage;
 
 impl Slots {
     /// How many are in this stage.
-    pub fn count(&self, which: Counted) -> usize
+    pub fn count(&self, which: CountedStage) -> usize
         ensures value { result ≡ count_in which self.now.connections }
     {
         let mut count = 0;
@@ -20,7 +20,7 @@ impl Slots {
     }
 
     // One if the connection in a slot is in this stage, otherwise none.
-    fn one(&self, slot: usize, which: Counted) -> usize
+    fn one(&self, slot: usize, which: CountedStage) -> usize
         ensures value { result ≡ one_at which (get self.now.connections slot) }
     {
         match self.get(slot) {

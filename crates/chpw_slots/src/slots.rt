@@ -12,7 +12,7 @@ ghost use Rattle.chpw_connection.specs.Shares.{one_of_share};
 ghost use Rattle.chpw_endpoints.specs.declared.peer.Peer.{Peer};
 ghost use Rattle.chpw_slots.specs.Shares.{count_of, is_share_full, IsShared};
 
-use chpw_connection::{Change, Connection, Phase, WholeMessage};
+use chpw_connection::{Connection, ConnectionEvent, Phase, WholeMessage};
 use chpw_endpoints::{Endpoints, Peer};
 use slab::Slab;
 use std::alloc::{AllocError, Global};
@@ -163,7 +163,7 @@ impl Slots {
     }
 
     /// This happens to the connection in a slot, if there is one.
-    pub fn change(&mut self, alloc: Global, slot: usize, change: Change, now: u64)
+    pub fn change(&mut self, alloc: Global, slot: usize, change: ConnectionEvent, now: u64)
         requires fits { held_in self.old.connections + added_by change < 2 ^ 64 }
         ensures happens { Happens now self.old.connections self.new.connections slot (event_of change) }
         ensures stands { Stands self.old.connections self.new.connections }
@@ -176,7 +176,6 @@ impl Slots {
         }
     }
 
-    /// The connection in a slot.
     pub fn get(&self, slot: usize) -> Option<&Connection>
         ensures value { option_copied result ≡ get self.now.connections slot }
     {

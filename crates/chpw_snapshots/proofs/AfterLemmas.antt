@@ -8,7 +8,7 @@ use Rattle.std.specs.BTreeSet.{insert_key}
 use Rattle.chpw_rules.specs.declared.name.Name.{Name}
 use Rattle.chpw_rules.specs.Names.{name_cmp}
 use Rattle.chpw_table.specs.State.{State, kept_count}
-use Rattle.chpw_table.specs.declared.change.Accepted.{Accepted}
+use Rattle.chpw_table.specs.declared.change.AcceptedChange.{AcceptedChange}
 use Rattle.chpw_table.specs.Versions.{Shown, shown, shown_count, count_after}
 use Rattle.chpw_changelog.specs.declared.change.KeysChange.{KeysChange}
 use Rattle.chpw_changelog.specs.declared.change.KeysChange.TheVariants.{Key, Adopted, Lifted, Removed}
@@ -50,7 +50,7 @@ count_same n name (Adopted kvno count) = refl
 count_same n name (Lifted kvno) = refl
 count_same n name Removed = refl
 
-pub policy_after : (opening : State) (list : List Accepted) (c : NumberedChange) (r : Rowed)
+pub policy_after : (opening : State) (list : List AcceptedChange) (c : NumberedChange) (r : Rowed)
     → r.policy ≡ shown_count opening list → (rows_after c r).policy ≡ shown_count opening (list ++ named opening c ∷ [])
 policy_after opening list (Keys (Number n) k) r e =
     e ∙ sym (count_more opening list (named opening (Keys (Number n) k)) ∙ count_same (shown_count opening list) (name_at opening.principals n) k)
@@ -64,7 +64,7 @@ length_names : (rows : List Row) → length (names_of_rows rows) ≡ length rows
 length_names [] = refl
 length_names (r ∷ rs) = ap suc (length_names rs)
 
-names_more : (opening : State) (list : List Accepted) (c : Accepted)
+names_more : (opening : State) (list : List AcceptedChange) (c : AcceptedChange)
     → added_names opening (list ++ c ∷ []) ≡ with_adopted_name opening (added_names opening list) c
 names_more opening list c = fold-append _ _ list (c ∷ [])
 
@@ -134,7 +134,7 @@ added_at_names opening kept k of added None is lacks room = at (adopts k) refl
         ap names_of_rows (no_row kept k of added e) ∙ sym (other_adds_none opening (names_of_rows added) of k e)
 
 -- the room of the rows is that of their names
-room_of : (opening : State) (list : List Accepted) (k : KeysChange) (of : Name) (added : List Row)
+room_of : (opening : State) (list : List AcceptedChange) (k : KeysChange) (of : Name) (added : List Row)
     → names_of_rows added ≡ added_names opening list
     → (adopts k ≡ true → has_name (added_names opening list) of ≡ false → length (added_names opening list) < added_limit)
     → HasRoom k of added
@@ -143,7 +143,7 @@ room_of opening list k of added e room a missing =
     let long = sym (length_names added) ∙ ap (λ (ns : List Name). length ns) e in
     omega (arith, less, long)
 
-pub added_names_after : (opening : State) (list : List Accepted) (c : NumberedChange) (r : Rowed)
+pub added_names_after : (opening : State) (list : List AcceptedChange) (c : NumberedChange) (r : Rowed)
     → names_of_rows r.added ≡ added_names opening list → HasPlace opening list c
     → names_of_rows (rows_after c r).added ≡ added_names opening (list ++ named opening c ∷ [])
 added_names_after opening list (Keys (Number n) k) r e has =
@@ -178,7 +178,7 @@ added_at_shows kept k of added name None is room = at (adopts k) refl
         ap (λ rows. shown_in rows name) (no_row kept k of added e) ∙ not_added_shows kept k of added name missing e
 
 -- one change of this name's keys more
-one_more : (opening : State) (list : List Accepted) (kept : ℕ) (k : KeysChange) (of name : Name) (before after : Option Shown)
+one_more : (opening : State) (list : List AcceptedChange) (kept : ℕ) (k : KeysChange) (of name : Name) (before after : Option Shown)
     → kept ≡ kept_count opening → before ≡ shown opening list name → after ≡ changed_for kept k of name before
     → after ≡ shown opening (list ++ change_of_name of k ∷ []) name
 one_more opening list kept k of name before after e is made =
@@ -187,7 +187,7 @@ one_more opening list kept k of name before after e is made =
     ∙ (ap (λ s. changed_for (kept_count opening) k of name s) is
     ∙ sym (shown_more opening list (change_of_name of k) name ∙ shown_one (kept_count opening) of name k (shown opening list name))))
 
-pub shows_after : (opening : State) (list : List Accepted) (c : NumberedChange) (r : Rowed)
+pub shows_after : (opening : State) (list : List AcceptedChange) (c : NumberedChange) (r : Rowed)
     → names_of_rows r.rows ≡ names_of opening → names_of_rows r.added ≡ added_names opening list
     → r.kept ≡ kept_count opening → HasPlace opening list c
     → (name : Name) → shown_in (all_rows r) name ≡ shown opening list name
@@ -208,7 +208,7 @@ shows_after opening list (Count n) r names added kept has name is = is ∙ sym (
 
 -- ---- counts
 
-brings : (opening : State) (list : List Accepted) (name : Name) (k : KeysChange) (policy : ℕ)
+brings : (opening : State) (list : List AcceptedChange) (name : Name) (k : KeysChange) (policy : ℕ)
     → policy ≡ shown_count opening list → 1 ≤ policy → IsNextVersion opening list (change_of_name name k) → BringsPositive k
 brings opening list name (Key kvno count) policy e h next = subst (λ m. 1 ≤ m) (e ∙ sym next.3) h
 brings opening list name (Adopted kvno count) policy e h next = next.1
@@ -223,7 +223,7 @@ added_at_positive kept k of added None h all =
     either_way (All HasPositive) (adopts k && nat_lt (length added) added_limit) (with_row row added) added
     (more_positive row added (blank_positive kept k of h) all) all
 
-pub positive_after : (opening : State) (list : List Accepted) (c : NumberedChange) (r : Rowed)
+pub positive_after : (opening : State) (list : List AcceptedChange) (c : NumberedChange) (r : Rowed)
     → r.policy ≡ shown_count opening list
     → IsNextVersion opening list (named opening c) → IsPositive r → IsPositive (rows_after c r)
 positive_after opening list (Keys (Number n) k) r policy next is =

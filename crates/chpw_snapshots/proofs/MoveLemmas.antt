@@ -10,7 +10,7 @@ use Rattle.crossbeam_utils.specs.Register.{Admits, TurnsAt, Forks, Merges}
 use Rattle.atomic_table.proofs.Lists.{at_set, at_snoc}
 use Rattle.logbook.specs.Pages.{Book as LogbookName}
 use Rattle.chpw_rules.specs.declared.name.Name.{Name}
-use Rattle.chpw_table.specs.declared.change.Accepted.{Accepted}
+use Rattle.chpw_table.specs.declared.change.AcceptedChange.{AcceptedChange}
 use Rattle.chpw_table.specs.Versions.{Shown, shown_count}
 use Rattle.chpw_changelog.specs.declared.entry.LogEntry.{LogEntry}
 use Rattle.chpw_changelog.specs.Changes.{named}
@@ -27,32 +27,32 @@ use Rattle.chpw_snapshots.specs.Following.{IsRuled, Publishes, IsTied, Looked, P
 use Rattle.chpw_snapshots.proofs.RiseLemmas.{next_on}
 use Rattle.chpw_snapshots.proofs.AfterLemmas.{names_after, added_names_after, kept_after, seen_after, policy_after, shows_after, positive_after}
 
-abbrev AllTied : Snapshot → List Accepted → List View → Type 0
+abbrev AllTied : Snapshot → List AcceptedChange → List View → Type 0
 AllTied x list views = (seat : ℕ) (v : View) → get_elem? views seat ≡ some v → IsTied x list v
 
-unknown_tied : (x : Snapshot) (list : List Accepted) → IsTied x list unknown
+unknown_tied : (x : Snapshot) (list : List AcceptedChange) → IsTied x list unknown
 unknown_tied x list t = absurd (cc)
 
-moved : (x y : Snapshot) (list n : List Accepted) (v : View) → y.root ≡ x.root → IsTied x list v → IsTied y (list ++ n) v
+moved : (x y : Snapshot) (list n : List AcceptedChange) (v : View) → y.root ≡ x.root → IsTied x list v → IsTied y (list ++ n) v
 moved x y list n v e h k = let t = h k in (t.0 ∙ sym (ap (λ m. m.book) e), t.1 ∙ sym (ap (λ m. m.log) e), prefix_trans v.front list (list ++ n) t.2 (n, refl))
 
-same : (x : Snapshot) (list : List Accepted) (views : List View) (seat : ℕ) (w : View)
+same : (x : Snapshot) (list : List AcceptedChange) (views : List View) (seat : ℕ) (w : View)
     → AllTied x list views → IsTied x list w → AllTied x list (set views seat w)
 same x list views seat w each own j u at =
     ⊎_elim (λ (t : (j ≡ seat) × (w ≡ u)). subst (λ z. IsTied x list z) t.1 own)
     (λ (t : (j ≢ seat) × (get_elem? views j ≡ some u)). each j u t.1)
     (at_set views seat j w u at)
 
-snoc : (x : Snapshot) (list : List Accepted) (views : List View) (w : View) → AllTied x list views → IsTied x list w → AllTied x list (views ++ w ∷ [])
+snoc : (x : Snapshot) (list : List AcceptedChange) (views : List View) (w : View) → AllTied x list views → IsTied x list w → AllTied x list (views ++ w ∷ [])
 snoc x list views w each own j u at = ⊎_elim (each j u) (λ (e : w ≡ u). subst (λ z. IsTied x list z) e own) (at_snoc views w u j at)
 
 pub admits : Admits IsRuled unknown
 admits x views (list, is, each) = (list, is, snoc x list views unknown each (unknown_tied x list))
 
-pub opens : (x : Snapshot) (list : List Accepted) → ShowsList x.root.book x.root.log list x → IsRuled x (unknown ∷ [])
+pub opens : (x : Snapshot) (list : List AcceptedChange) → ShowsList x.root.book x.root.log list x → IsRuled x (unknown ∷ [])
 opens x list is = (list, is, snoc x list [] unknown (λ j u at. absurd (cc)) (unknown_tied x list))
 
-pub renamed : (b b' : LogbookName) (r r' : List LogEntry) (list : List Accepted) (x : Snapshot)
+pub renamed : (b b' : LogbookName) (r r' : List LogEntry) (list : List AcceptedChange) (x : Snapshot)
     → b ≡ b' → r ≡ r' → ShowsList b r list x → ShowsList b' r' list x
 renamed b b' r r' list x e f is = subst (λ c. ShowsList c r' list x) e (subst (λ l. ShowsList b l list x) f is)
 
@@ -66,13 +66,13 @@ looks seat v x views (list, is, each) at =
     )
 
 -- the version with one operation more shows the list with one change more
-pub goes_on : (b : LogbookName) (r : List LogEntry) (list : List Accepted) (x : Snapshot) (o : Operation)
+pub goes_on : (b : LogbookName) (r : List LogEntry) (list : List AcceptedChange) (x : Snapshot) (o : Operation)
     → ShowsList b r list x
     → o.seen.book ≡ b → changes_in r o.seen.log ≡ list → CanBeShown (opening_state r) list o.change
     → AreAccepted (opening_state r) (list ++ named (opening_state r) o.change ∷ [])
     → length list + 1 < 2147483648 → ShowsList b r (list ++ named (opening_state r) o.change ∷ []) (applied x o)
 goes_on b r list x o is ob ol can done room =
-    let c : Accepted = named (opening_state r) o.change in
+    let c : AcceptedChange = named (opening_state r) o.change in
     let a = length-append list (c ∷ []) in
     let i = is.len_is in
     let n = is.seen_is in
@@ -98,25 +98,25 @@ goes_on b r list x o is ob ol can done room =
 
 -- the writer, which knows the whole list, makes the change of one operation
 pub published_at : (seat : ℕ) (b : LogbookName) (r : List LogEntry) (v : View) (x : Snapshot)
-    (list : List Accepted) (o : Operation) → Publishes b r v x list → o.seen.book ≡ b → changes_in r o.seen.log ≡ list
+    (list : List AcceptedChange) (o : Operation) → Publishes b r v x list → o.seen.book ≡ b → changes_in r o.seen.log ≡ list
     → CanBeShown (opening_state r) list o.change → AreAccepted (opening_state r) (list ++ named (opening_state r) o.change ∷ [])
     → length list + 1 < 2147483648 → TurnsAt IsRuled seat v x (applied x o) Published
 published_at seat b r v x list o sh ob ol can done room views (all, is, each) at =
     let mine = each seat v at sh.0.0 in
-    let pre : IsPrefix list all = subst (λ (l : List Accepted). IsPrefix l all) sh.1 mine.2 in
+    let pre : IsPrefix list all = subst (λ (l : List AcceptedChange). IsPrefix l all) sh.1 mine.2 in
     let long : length list ≡ length all = sym sh.2.len_is ∙ is.len_is in
     let whole : list ≡ all = prefix_same list all all pre (prefix_self all) long in
     let y : Snapshot = applied x o in
-    let c : Accepted = named (opening_state r) o.change in
+    let c : AcceptedChange = named (opening_state r) o.change in
     let w : View = record v { front = v.front ++ named (opening_state v.root) o.change ∷ [] } in
     let next : ShowsList y.root.book y.root.log (list ++ c ∷ []) y =
     renamed b y.root.book r y.root.log (list ++ c ∷ []) y
     (sym sh.2.root_book) (sym sh.2.root_log) (goes_on b r list x o sh.2 ob ol can done room) in
     let told : w.front ≡ list ++ c ∷ [] =
-    ap (λ (l : List Accepted). l ++ named (opening_state v.root) o.change ∷ []) sh.1
+    ap (λ (l : List AcceptedChange). l ++ named (opening_state v.root) o.change ∷ []) sh.1
     ∙ ap (λ l. list ++ named (opening_state l) o.change ∷ []) sh.0.2 in
-    let own : IsPrefix w.front (list ++ c ∷ []) = subst (λ (l : List Accepted). IsPrefix l (list ++ c ∷ [])) (sym told) (prefix_self (list ++ c ∷ [])) in
-    let before : AllTied x list views = subst (λ (l : List Accepted). AllTied x l views) (sym whole) each in (
+    let own : IsPrefix w.front (list ++ c ∷ []) = subst (λ (l : List AcceptedChange). IsPrefix l (list ++ c ∷ [])) (sym told) (prefix_self (list ++ c ∷ [])) in
+    let before : AllTied x list views = subst (λ (l : List AcceptedChange). AllTied x l views) (sym whole) each in (
       w,
       (
         list ++ c ∷ [],
@@ -128,15 +128,15 @@ published_at seat b r v x list o sh ob ol can done room views (all, is, each) at
     )
 
 pub published_after : (b : LogbookName) (r : List LogEntry) (v w : View) (x y : Snapshot)
-    (list : List Accepted) (o : Operation) → Publishes b r v x list → o.seen.book ≡ b → changes_in r o.seen.log ≡ list
+    (list : List AcceptedChange) (o : Operation) → Publishes b r v x list → o.seen.book ≡ b → changes_in r o.seen.log ≡ list
     → CanBeShown (opening_state r) list o.change → AreAccepted (opening_state r) (list ++ named (opening_state r) o.change ∷ [])
     → length list + 1 < 2147483648
     → y ≡ applied x o → Published v x y w → Publishes b r w y (list ++ named (opening_state r) o.change ∷ [])
 published_after b r v w x y list o sh ob ol can done room is told =
-    let c : Accepted = named (opening_state r) o.change in (
+    let c : AcceptedChange = named (opening_state r) o.change in (
       (ap (λ (z : View). z.known) told ∙ sh.0.0, ap log_of told ∙ sh.0.1, ap (λ (z : View). z.root) told ∙ sh.0.2),
       ap (λ (z : View). z.front) told
-          ∙ (ap (λ (l : List Accepted). l ++ named (opening_state v.root) y.last ∷ []) sh.1
+          ∙ (ap (λ (l : List AcceptedChange). l ++ named (opening_state v.root) y.last ∷ []) sh.1
           ∙ (ap (λ l. list ++ named (opening_state l) y.last ∷ []) sh.0.2
           ∙ ap (λ (z : Snapshot). list ++ named (opening_state r) z.last ∷ []) is)),
       subst (λ (z : Snapshot). ShowsList b r (list ++ c ∷ []) z) (sym is) (goes_on b r list x o sh.2 ob ol can done room),
@@ -214,12 +214,12 @@ ok_case (Ok a) P Q ok m = (a, m)
 ok_case (Err e) P Q ok m = absurd (cc)
 
 -- the list that a version shows is the one that its mark and last change make
-pub shown_list : (b : LogbookName) (r : List LogEntry) (list : List Accepted) (x : Snapshot) → ShowsList b r list x → list ≡ list_shown r x
+pub shown_list : (b : LogbookName) (r : List LogEntry) (list : List AcceptedChange) (x : Snapshot) → ShowsList b r list x → list ≡ list_shown r x
 shown_list b r [] x is = sym (ap (λ n. list_by (changes_in r x.seen.log) (named (opening_state r) x.last) n) is.len_is)
 shown_list b r (c ∷ cs) x is = is.last (omega arith) ∙ sym (ap (λ n. list_by (changes_in r x.seen.log) (named (opening_state r) x.last) n) is.len_is)
 
 -- what its rows show is what that list shows
-pub shown_by : (b : LogbookName) (r : List LogEntry) (list : List Accepted) (x : Snapshot) (name : Name) → ShowsList b r list x
+pub shown_by : (b : LogbookName) (r : List LogEntry) (list : List AcceptedChange) (x : Snapshot) (name : Name) → ShowsList b r list x
     → option_map (lookup_with x.rows.policy x.rows.seen) (shown_in (all_rows x.rows) name) ≡ lookup_after (opening_table r) (list_shown r x) name
 shown_by b r list x name is =
     let e = shown_list b r list x is in
@@ -229,12 +229,12 @@ shown_by b r list x name is =
     ∙ ap (λ l. lookup_after (opening_table r) l name) e))
 
 -- what is told begins it, where `Front::begins` says so
-pub begins_shown : (b : LogbookName) (r : List LogEntry) (list told : List Accepted) (x : Snapshot) → ShowsList b r list x
+pub begins_shown : (b : LogbookName) (r : List LogEntry) (list told : List AcceptedChange) (x : Snapshot) → ShowsList b r list x
     → (x.len ≡ length (changes_in r x.seen.log ++ named (opening_state r) x.last ∷ [])
     → IsPrefix told (changes_in r x.seen.log ++ named (opening_state r) x.last ∷ []))
     → (x.len ≡ 0 → told ≡ []) → IsPrefix told (list_shown r x)
-begins_shown b r [] told x is tells empty = subst (λ (l : List Accepted). IsPrefix l (list_shown r x)) (sym (empty is.len_is)) (list_shown r x, refl)
+begins_shown b r [] told x is tells empty = subst (λ (l : List AcceptedChange). IsPrefix l (list_shown r x)) (sym (empty is.len_is)) (list_shown r x, refl)
 begins_shown b r (c ∷ cs) told x is tells empty =
     let all = is.last (omega arith) in
     let long : x.len ≡ length (changes_in r x.seen.log ++ named (opening_state r) x.last ∷ []) = is.len_is ∙ ap length all in
-    subst (λ (l : List Accepted). IsPrefix told l) (sym all ∙ shown_list b r (c ∷ cs) x is) (tells long)
+    subst (λ (l : List AcceptedChange). IsPrefix told l) (sym all ∙ shown_list b r (c ∷ cs) x is) (tells long)

@@ -5,7 +5,7 @@ use Rattle.std.proofs.lemmas.Option.{none-some}
 use Rattle.chpw_rules.specs.declared.name.Name.{Name}
 use Rattle.chpw_rules.specs.Names.{is_same_name}
 use Rattle.chpw_table.specs.State.{State}
-use Rattle.chpw_table.specs.declared.change.Accepted.{Accepted}
+use Rattle.chpw_table.specs.declared.change.AcceptedChange.{AcceptedChange}
 use Rattle.chpw_table.specs.Versions.{Shown}
 use Rattle.chpw_changelog.specs.declared.change.Whose.{Whose}
 use Rattle.chpw_changelog.specs.declared.change.Whose.TheVariants.{Number, Short}
@@ -21,7 +21,7 @@ or_true true = refl
 or_true false = refl
 
 -- a row that was found is one that changes of the name have
-pub is_place : (opening : State) (list : List Accepted) (r : Rowed) (name : Name) (whose : Whose)
+pub is_place : (opening : State) (list : List AcceptedChange) (r : Rowed) (name : Name) (whose : Whose)
     → names_of_rows r.rows ≡ names_of opening → names_of_rows r.added ≡ added_names opening list
     → IsWhose r name (Some whose) → IsPlaceOf opening list name whose × (has_row opening list name ≡ true)
 is_place opening list r name (Number n) names added is =
@@ -44,7 +44,7 @@ is_place opening list r name (Short s) names added is =
     )
 
 -- without one the name has none
-pub no_place : (opening : State) (list : List Accepted) (r : Rowed) (name : Name)
+pub no_place : (opening : State) (list : List AcceptedChange) (r : Rowed) (name : Name)
     → names_of_rows r.rows ≡ names_of opening → names_of_rows r.added ≡ added_names opening list
     → IsWhose r name None → has_row opening list name ≡ false
 no_place opening list r name names added is =
@@ -53,7 +53,7 @@ no_place opening list r name names added is =
     ap (λ b. b || has_name (added_names opening list) name) lacks ∙ missing
 
 -- both
-pub is_any_place : (opening : State) (list : List Accepted) (r : Rowed) (name : Name) (found : Option Whose)
+pub is_any_place : (opening : State) (list : List AcceptedChange) (r : Rowed) (name : Name) (found : Option Whose)
     → names_of_rows r.rows ≡ names_of opening → names_of_rows r.added ≡ added_names opening list
     → IsWhose r name found
     → IfSome found (λ (whose : Whose). IsPlaceOf opening list name whose × (has_row opening list name ≡ true))
@@ -62,7 +62,7 @@ is_any_place opening list r name None names added is = (tt, no_place opening lis
 is_any_place opening list r name (Some whose) names added is = (is_place opening list r name whose names added is, tt)
 
 -- a name that is shown has a row
-pub shown_has_row : (opening : State) (list : List Accepted) (r : Rowed) (name : Name) (row : Shown)
+pub shown_has_row : (opening : State) (list : List AcceptedChange) (r : Rowed) (name : Name) (row : Shown)
     → names_of_rows r.rows ≡ names_of opening → names_of_rows r.added ≡ added_names opening list
     → shown_in (all_rows r) name ≡ Some row → has_row opening list name ≡ false → ⊥
 shown_has_row opening list r name row names added is none =
@@ -74,7 +74,7 @@ shown_has_row opening list r name row names added is none =
     ∙ missing_unfound r.added name missing in
     none-some row (sym (ap (λ (o : Option Row). option_map keys_as_shown (found_keys o)) unfound) ∙ is)
 
-pub shown_found : (opening : State) (list : List Accepted) (r : Rowed) (name : Name) (found : Option Whose) (row : Shown)
+pub shown_found : (opening : State) (list : List AcceptedChange) (r : Rowed) (name : Name) (found : Option Whose) (row : Shown)
     → names_of_rows r.rows ≡ names_of opening → names_of_rows r.added ≡ added_names opening list
     → IsWhose r name found → shown_in (all_rows r) name ≡ Some row → IsSome found
 shown_found opening list r name None row names added is shows =

@@ -7,8 +7,8 @@ use Rattle.chpw_rules.specs.declared.name.Name.{Name}
 use Rattle.chpw_rules.specs.Names.{is_same_name}
 use Rattle.chpw_table.specs.declared.table.Lookup.{Lookup}
 use Rattle.chpw_table.specs.declared.change.KeyChange.{KeyChange}
-use Rattle.chpw_table.specs.declared.change.Accepted.{Accepted}
-use Rattle.chpw_table.specs.declared.change.Accepted.TheVariants.{Key, Count, Adopted, Lifted, Removed}
+use Rattle.chpw_table.specs.declared.change.AcceptedChange.{AcceptedChange}
+use Rattle.chpw_table.specs.declared.change.AcceptedChange.TheVariants.{Key, Count, Adopted, Lifted, Removed}
 use Rattle.chpw_table.specs.State.{State, kept_count}
 use Rattle.chpw_table.specs.Agreement.{Held}
 use Rattle.chpw_table.specs.Versions.{Shown, shown, shown_count, with_change, with_adopted, with_version}
@@ -18,7 +18,7 @@ use Rattle.chpw_snapshots.specs.Rising.{IsNextVersion, AreNextVersions, removes,
 use Rattle.chpw_snapshots.proofs.RowLemmas.{either_false, shown_more, count_more}
 
 -- one version more
-pub next_on : (opening : State) (before list : List Accepted) (c : Accepted) → AreNextVersions opening before list
+pub next_on : (opening : State) (before list : List AcceptedChange) (c : AcceptedChange) → AreNextVersions opening before list
     → IsNextVersion opening (before ++ list) c → AreNextVersions opening before (list ++ c ∷ [])
 next_on opening before [] c all next = (subst (λ l. IsNextVersion opening l c) (append-nil before) next, tt)
 next_on opening before (d ∷ ds) c all next = (
@@ -27,13 +27,14 @@ next_on opening before (d ∷ ds) c all next = (
       (before ++ d ∷ []) ds c all.1 (subst (λ l. IsNextVersion opening l c) (sym (append_assoc before (d ∷ []) ds)) next),
 )
 
--- what comes behind a beginning
-behind : (opening : State) (before list rest : List Accepted) → AreNextVersions opening before (list ++ rest) → AreNextVersions opening (before ++ list) rest
+-- what comes after a beginning
+behind : (opening : State) (before list rest : List AcceptedChange) → AreNextVersions opening before (list ++ rest)
+    → AreNextVersions opening (before ++ list) rest
 behind opening before [] rest all = subst (λ l. AreNextVersions opening l rest) (sym (append-nil before)) all
 behind opening before (d ∷ ds) rest all = subst (λ l. AreNextVersions opening l rest)
     (append_assoc before (d ∷ []) ds) (behind opening (before ++ d ∷ []) ds rest all.1)
 
-key_later : (opening : State) (before : List Accepted) (c : KeyChange) (name : Name) (row : Shown)
+key_later : (opening : State) (before : List AcceptedChange) (c : KeyChange) (name : Name) (row : Shown)
     → IsNextVersion opening before (Key c) → shown opening before name ≡ Some row
     → (b : Bool) → is_same_name c.name name ≡ b → (later : Shown) × (shown opening (before ++ Key c ∷ []) name ≡ Some later) × (row.kvno ≤ later.kvno)
 key_later opening before c name row next h true e =
@@ -55,7 +56,7 @@ key_later opening before c name row next h false e = (
   omega arith,
 )
 
-adopted_later : (opening : State) (before : List Accepted) (c : KeyChange) (name : Name) (row : Shown)
+adopted_later : (opening : State) (before : List AcceptedChange) (c : KeyChange) (name : Name) (row : Shown)
     → IsNextVersion opening before (Adopted c) → shown opening before name ≡ Some row
     → (b : Bool) → is_same_name c.name name ≡ b
     → (later : Shown) × (shown opening (before ++ Adopted c ∷ []) name ≡ Some later) × (row.kvno ≤ later.kvno)
@@ -77,7 +78,7 @@ adopted_later opening before c name row next h false e = (
   omega arith,
 )
 
-lifted_later : (opening : State) (before : List Accepted) (lifted : Name) (kvno : ℕ) (name : Name) (row : Shown)
+lifted_later : (opening : State) (before : List AcceptedChange) (lifted : Name) (kvno : ℕ) (name : Name) (row : Shown)
     → IsNextVersion opening before (Lifted lifted kvno) → shown opening before name ≡ Some row
     → (b : Bool) → is_same_name lifted name ≡ b
     → (later : Shown) × (shown opening (before ++ Lifted lifted kvno ∷ []) name ≡ Some later) × (row.kvno ≤ later.kvno)
@@ -100,7 +101,7 @@ lifted_later opening before lifted kvno name row next h false e = (
   omega arith,
 )
 
-one_later : (opening : State) (before : List Accepted) (c : Accepted) (name : Name) (row : Shown)
+one_later : (opening : State) (before : List AcceptedChange) (c : AcceptedChange) (name : Name) (row : Shown)
     → IsNextVersion opening before c → removes name c ≡ false → shown opening before name ≡ Some row
     → (later : Shown) × (shown opening (before ++ c ∷ []) name ≡ Some later) × (row.kvno ≤ later.kvno)
 one_later opening before (Key c) name row next keeps h = key_later opening before c name row next h (is_same_name c.name name) refl
@@ -115,19 +116,19 @@ one_later opening before (Removed removed) name row next keeps h = (
 )
 
 -- where a list goes on so, and doesn't remove the name, what it shows of it is no older
-pub no_older : (opening : State) (before more : List Accepted) (name : Name) (row : Shown)
+pub no_older : (opening : State) (before more : List AcceptedChange) (name : Name) (row : Shown)
     → AreNextVersions opening before more → is_removed name more ≡ false → shown opening before name ≡ Some row
     → (later : Shown) × (shown opening (before ++ more) name ≡ Some later) × (row.kvno ≤ later.kvno)
-no_older opening before [] name row next keeps h = (row, ap (λ (cs : List Accepted). shown opening cs name) (append-nil before) ∙ h, omega arith)
+no_older opening before [] name row next keeps h = (row, ap (λ (cs : List AcceptedChange). shown opening cs name) (append-nil before) ∙ h, omega arith)
 no_older opening before (c ∷ cs) name row next keeps h =
     let stays = either_false (removes name c) (is_removed name cs) keeps in
     let one = one_later opening before c name row next.0 stays.0 h in
     let all = no_older opening (before ++ c ∷ []) cs name one.0 next.1 stays.1 one.1 in
     let a = one.2 in
     let b = all.2 in
-    (all.0, ap (λ (xs : List Accepted). shown opening xs name) (sym (append_assoc before (c ∷ []) cs)) ∙ all.1, omega (arith, a, b))
+    (all.0, ap (λ (xs : List AcceptedChange). shown opening xs name) (sym (append_assoc before (c ∷ []) cs)) ∙ all.1, omega (arith, a, b))
 
-one_higher : (opening : State) (before : List Accepted) (c : Accepted)
+one_higher : (opening : State) (before : List AcceptedChange) (c : AcceptedChange)
     → IsNextVersion opening before c → shown_count opening before ≤ shown_count opening (before ++ c ∷ [])
 one_higher opening before (Key c) next = let more = count_more opening before (Key c) in omega (arith, more)
 one_higher opening before (Count n) next = let more = count_more opening before (Count n) in omega (arith, more, next)
@@ -136,21 +137,21 @@ one_higher opening before (Lifted name kvno) next = let more = count_more openin
 one_higher opening before (Removed name) next = let more = count_more opening before (Removed name) in omega (arith, more)
 
 -- nor is its count of new keys lower
-pub no_lower : (opening : State) (before more : List Accepted)
+pub no_lower : (opening : State) (before more : List AcceptedChange)
     → AreNextVersions opening before more → shown_count opening before ≤ shown_count opening (before ++ more)
 no_lower opening before [] next =
-    let same = ap (λ (l : List Accepted). shown_count opening l) (append-nil before) in
+    let same = ap (λ (l : List AcceptedChange). shown_count opening l) (append-nil before) in
     omega (arith, same)
 no_lower opening before (c ∷ cs) next =
     let one = one_higher opening before c next.0 in
     let all = no_lower opening (before ++ c ∷ []) cs next.1 in
-    let same = ap (λ (l : List Accepted). shown_count opening l) (append_assoc before (c ∷ []) cs) in
+    let same = ap (λ (l : List AcceptedChange). shown_count opening l) (append_assoc before (c ∷ []) cs) in
     omega (arith, one, all, same)
 
 -- so no lookup after a list shows an older version than one after a beginning of it, unless the name was removed since
-pub lookup_rises : (opening : Held) (list : List Accepted) (name : Name) (found : Option Lookup)
+pub lookup_rises : (opening : Held) (list : List AcceptedChange) (name : Name) (found : Option Lookup)
     → AreNextVersions opening.state [] list → found ≡ lookup_after opening list name
-    → (before since : List Accepted) → before ++ since ≡ list → is_removed name since ≡ false → IfSome (lookup_after opening before name) (λ
+    → (before since : List AcceptedChange) → before ++ since ≡ list → is_removed name since ≡ false → IfSome (lookup_after opening before name) (λ
     earlier. IsSomeAnd found (λ now. earlier.kvno ≤ now.kvno))
 lookup_rises opening list name found rise is before since whole keeps = at (shown opening.state before name) refl
   where
@@ -160,9 +161,9 @@ lookup_rises opening list name found rise is before since whole keeps = at (show
     at None e = rw e tt
     at (Some row) e =
         let next : AreNextVersions opening.state before since = behind opening.state [] before since
-        (subst (λ (l : List Accepted). AreNextVersions opening.state [] l) (sym whole) rise) in
+        (subst (λ (l : List AcceptedChange). AreNextVersions opening.state [] l) (sym whole) rise) in
         let later = no_older opening.state before since name row next keeps e in
-        let there : shown opening.state list name ≡ Some later.0 = ap (λ (l : List Accepted). shown opening.state l name) (sym whole) ∙ later.1 in
+        let there : shown opening.state list name ≡ Some later.0 = ap (λ (l : List AcceptedChange). shown opening.state l name) (sym whole) ∙ later.1 in
         let shows : found ≡ Some (lookup_with (shown_count opening.state list) (opening.seen + length list) later.0) =
         is ∙ ap (λ (o : Option Shown). option_map (lookup_with (shown_count opening.state list) (opening.seen + length list)) o) there in
         let one : IsSomeAnd found (λ now. row.kvno ≤ now.kvno) = subst (λ (o : Option Lookup). IsSomeAnd o (λ now. row.kvno ≤ now.kvno)) (sym shows) later.2 in

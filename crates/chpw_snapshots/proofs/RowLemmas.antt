@@ -15,7 +15,7 @@ use Rattle.chpw_rules.specs.declared.name.Name.{Name}
 use Rattle.chpw_rules.specs.Names.{is_same_name, name_cmp}
 use Rattle.chpw_table.specs.declared.table.Principal.{Principal}
 use Rattle.chpw_table.specs.State.{State, kept_count}
-use Rattle.chpw_table.specs.declared.change.Accepted.{Accepted}
+use Rattle.chpw_table.specs.declared.change.AcceptedChange.{AcceptedChange}
 use Rattle.chpw_table.specs.Versions.{Shown, shown, shown_after, shown_count, count_after, with_change, with_adopted, with_version}
 use Rattle.chpw_table.proofs.NameLemmas.{is_same_name-Decides}
 use Rattle.chpw_changelog.specs.declared.change.KeysChange.{KeysChange}
@@ -126,7 +126,7 @@ pub either_false : (a b : Bool) → (a || b) ≡ false → (a ≡ false) × (b �
 either_false true b h = absurd (cc)
 either_false false b h = (refl, h)
 
--- also behind rows none of which has the name
+-- also after rows none of which has the name
 pub shows_behind : (kept : ℕ) (c : KeysChange) (of : Name) (rows xs ys : List Row) (name : Name) → has_name (names_of_rows rows) of ≡ false
     → shown_in ys name ≡ changed_for kept c of name (shown_in xs name)
     → shown_in (rows ++ ys) name ≡ changed_for kept c of name (shown_in (rows ++ xs) name)
@@ -342,11 +342,12 @@ found_second is_it (x ∷ xs) ys h = at (is_it x) refl (found_second is_it xs ys
 
 -- ---- one change more
 
-pub shown_more : (opening : State) (list : List Accepted) (c : Accepted) (name : Name)
+pub shown_more : (opening : State) (list : List AcceptedChange) (c : AcceptedChange) (name : Name)
     → shown opening (list ++ c ∷ []) name ≡ shown_after (kept_count opening) name (shown opening list name) c
 shown_more opening list c name = fold-append _ _ list (c ∷ [])
 
-pub count_more : (opening : State) (list : List Accepted) (c : Accepted) → shown_count opening (list ++ c ∷ []) ≡ count_after (shown_count opening list) c
+pub count_more : (opening : State) (list : List AcceptedChange) (c : AcceptedChange)
+    → shown_count opening (list ++ c ∷ []) ≡ count_after (shown_count opening list) c
 count_more opening list c = fold-append _ _ list (c ∷ [])
 
 pub none_mapped : {A B : Type 0} (f : A → B) (o : Option A) → option_map f o ≡ None → o ≡ None

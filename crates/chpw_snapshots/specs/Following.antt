@@ -8,7 +8,7 @@ use Rattle.logbook.specs.Pages.{Book as LogbookName}
 use Rattle.chpw_rules.specs.declared.name.Name.{Name}
 use Rattle.chpw_rules.specs.Names.{is_same_name}
 use Rattle.chpw_table.specs.State.{State, kept_count}
-use Rattle.chpw_table.specs.declared.change.Accepted.{Accepted}
+use Rattle.chpw_table.specs.declared.change.AcceptedChange.{AcceptedChange}
 use Rattle.chpw_table.specs.Versions.{shown, shown_count}
 use Rattle.chpw_changelog.specs.declared.change.NumberedChange.{NumberedChange}
 use Rattle.chpw_changelog.specs.declared.change.NumberedChange.TheVariants.{Keys, Count}
@@ -51,7 +51,7 @@ IsWhose r name (Some (Short s)) =
 
 -- A change of keys is one of a principal of the opening, by its number, or of another name, which has an added row, or room
 -- for one if it is adopted.
-abbrev pub HasPlace : State → List Accepted → NumberedChange → Type 0
+abbrev pub HasPlace : State → List AcceptedChange → NumberedChange → Type 0
 HasPlace opening list (Keys (Number n) c) = IsNumberOf (names_of opening) (name_at opening.principals n) n
 HasPlace opening list (Keys (Short s) c) =
     (has_name (names_of opening) (short_name s) ≡ false)
@@ -59,24 +59,24 @@ HasPlace opening list (Keys (Short s) c) =
 HasPlace opening list (Count n) = Unit {0}
 
 -- changes of this one's keys have their place, and are of this name
-pub record IsPlaceOf (opening : State) (list : List Accepted) (name : Name) (whose : Whose) : Type 0 where
+pub record IsPlaceOf (opening : State) (list : List AcceptedChange) (name : Name) (whose : Whose) : Type 0 where
   pub named : name_whose opening whose ≡ name
   pub has : (c : KeysChange) → HasPlace opening list (Keys whose c)
 
 -- it can be shown after this list: it has its place, and may come next
-abbrev pub CanBeShown : State → List Accepted → NumberedChange → Type 0
+abbrev pub CanBeShown : State → List AcceptedChange → NumberedChange → Type 0
 CanBeShown opening list c = HasPlace opening list c × IsNextVersion opening list (named opening c)
 
-abbrev pub list_by : List Accepted → Accepted → ℕ → List Accepted
+abbrev pub list_by : List AcceptedChange → AcceptedChange → ℕ → List AcceptedChange
 list_by before last zero = []
 list_by before last (suc n) = before ++ last ∷ []
 
 -- the list that the version shows, all but the last change of which its mark knows
-abbrev pub list_shown : List LogEntry → Snapshot → List Accepted
+abbrev pub list_shown : List LogEntry → Snapshot → List AcceptedChange
 list_shown root x = list_by (changes_in root x.seen.log) (named (opening_state root) x.last) x.len
 
 -- the list that is kept of the version, likewise
-abbrev pub list_of : List LogEntry → ShownPrefix → List Accepted
+abbrev pub list_of : List LogEntry → ShownPrefix → List AcceptedChange
 list_of root s = list_by (changes_in root s.seen.log) (named (opening_state root) s.last) s.len
 
 -- what is kept is of this log, and counts the list's changes
@@ -85,7 +85,7 @@ IsKnown log root s = (s.seen.book ≡ log) × (s.len ≡ length (list_of root s)
 
 -- The version is of the list named by this log and root, and shows these changes of it, which a legal
 -- history accepted and along which versions rise. Its rows count them, and those that the table had accepted before.
-pub record ShowsList (log : LogbookName) (root : List LogEntry) (list : List Accepted) (x : Snapshot) : Type 0 where
+pub record ShowsList (log : LogbookName) (root : List LogEntry) (list : List AcceptedChange) (x : Snapshot) : Type 0 where
   pub root_book : x.root.book ≡ log
   pub root_log : x.root.log ≡ root
   pub seen_book : x.seen.book ≡ log
@@ -113,12 +113,12 @@ log_of v = record { number = v.number; log_name = v.log_name; cells_name = v.cel
 abbrev pub IsOf : LogbookName → List LogEntry → View → Type 0
 IsOf log root v = (v.known ≡ true) × (log_of v ≡ log) × (v.root ≡ root)
 
-abbrev pub IsTied : Snapshot → List Accepted → View → Type 0
+abbrev pub IsTied : Snapshot → List AcceptedChange → View → Type 0
 IsTied x list v = v.known ≡ true → (log_of v ≡ x.root.book) × (v.root ≡ x.root.log) × IsPrefix v.front list
 
 abbrev pub IsRuled : Snapshot → List View → Type 0
 IsRuled x views =
-    (list : List Accepted) × ShowsList x.root.book x.root.log list x
+    (list : List AcceptedChange) × ShowsList x.root.book x.root.log list x
     × ((seat : ℕ) (v : View) → get_elem? views seat ≡ some v → IsTied x list v)
 
 -- a reader enters: the list goes on from what it saw, and the version shows it
@@ -135,17 +135,17 @@ abbrev pub Settled : View → Snapshot → Snapshot → View → Type 0
 Settled v x y w = IsOf y.root.book y.root.log w × (w.front ≡ [])
 
 -- the operations that wait: none, or this change, which can be shown after this list
-abbrev pub IsWaiting : LogbookName → List LogEntry → List Accepted → List Operation → Option NumberedChange → Type 0
+abbrev pub IsWaiting : LogbookName → List LogEntry → List AcceptedChange → List Operation → Option NumberedChange → Type 0
 IsWaiting log root list ops None = ops ≡ []
 IsWaiting log root list ops (Some c) =
     (o : Operation) × (ops ≡ o ∷ []) × (o.change ≡ c) × (o.seen.book ≡ log) × (changes_in root o.seen.log ≡ list)
     × CanBeShown (opening_state root) list o.change
 
 -- what the writer holds shows this list, and it knows that
-abbrev pub Publishes : LogbookName → List LogEntry → View → Snapshot → List Accepted → Type 0
+abbrev pub Publishes : LogbookName → List LogEntry → View → Snapshot → List AcceptedChange → Type 0
 Publishes log root v x list = IsOf log root v × (v.front ≡ list) × ShowsList log root list x
 
 -- what a reader that isn't lent out knows
-abbrev pub front_by : {R : Type 0} → Option R → (R → View) → List Accepted
+abbrev pub front_by : {R : Type 0} → Option R → (R → View) → List AcceptedChange
 front_by None f = []
 front_by (Some r) f = (f r).front

@@ -4,7 +4,7 @@ use mathlib.Core.List.{IsPrefix}
 use Rattle.chpw_rules.specs.declared.name.Name.{Name}
 use Rattle.chpw_table.specs.declared.table.Lookup.{Lookup}
 use Rattle.chpw_table.specs.Agreement.{Held}
-use Rattle.chpw_table.specs.declared.change.Accepted.{Accepted}
+use Rattle.chpw_table.specs.declared.change.AcceptedChange.{AcceptedChange}
 use Rattle.chpw_snapshots.specs.Known.{Known}
 use Rattle.chpw_snapshots.specs.Rows.{lookup_after}
 use Rattle.chpw_snapshots.specs.Rising.{is_removed}
@@ -22,7 +22,7 @@ pub record LooksUp (opening : Held) (mine more : Known) (name : Name) (found : O
   pub shown : found ≡ lookup_after opening more.seen name
   -- Whatever version a beginning of that list shows of the name, it shows that one or a later one, unless the name was removed
   -- since. So no lookup shows an older version than one before it, until its name is removed.
-  pub rises : (before since : List Accepted) → before ++ since ≡ more.seen → is_removed name since ≡ false →
+  pub rises : (before since : List AcceptedChange) → before ++ since ≡ more.seen → is_removed name since ≡ false →
       IfSome (lookup_after opening before name) (λ earlier. IsSomeAnd found (λ now. earlier.kvno ≤ now.kvno))
   -- its iteration counts are at least 1
   pub positive : IfSome found (λ l. (1 ≤ l.policy) × All (λ n. 1 ≤ n) l.held)

@@ -3,8 +3,8 @@ use Rattle.std.specs.Prelude.{◌≡◌, ◌+◌, ◌<◌, ◌≤◌, List, [], 
 use Rattle.std.specs.List.{list_any}
 use Rattle.chpw_rules.specs.declared.name.Name.{Name}
 use Rattle.chpw_rules.specs.Names.{is_same_name}
-use Rattle.chpw_table.specs.declared.change.Accepted.{Accepted}
-use Rattle.chpw_table.specs.declared.change.Accepted.TheVariants.{Key, Count, Adopted, Lifted, Removed}
+use Rattle.chpw_table.specs.declared.change.AcceptedChange.{AcceptedChange}
+use Rattle.chpw_table.specs.declared.change.AcceptedChange.TheVariants.{Key, Count, Adopted, Lifted, Removed}
 use Rattle.chpw_table.specs.State.{State}
 use Rattle.chpw_table.specs.Versions.{Shown, shown, shown_count}
 
@@ -12,7 +12,7 @@ use Rattle.chpw_table.specs.Versions.{Shown, shown, shown_count}
 -- change of the count may: it is higher. A key may be adopted: its version is higher than the one shown of its name, if
 -- one is, and its count at least 1. A version may be lifted: its name is shown, and it is higher. A name may be removed that
 -- is shown.
-abbrev pub IsNextVersion : State → List Accepted → Accepted → Type 0
+abbrev pub IsNextVersion : State → List AcceptedChange → AcceptedChange → Type 0
 IsNextVersion opening before (Key c) =
     (row : Shown) × (shown opening before c.name ≡ Some row)
     × (c.kvno ≡ row.kvno + 1) × (c.count ≡ shown_count opening before)
@@ -24,15 +24,15 @@ IsNextVersion opening before (Lifted name kvno) =
 IsNextVersion opening before (Removed name) = (row : Shown) × (shown opening before name ≡ Some row)
 
 -- after these changes those may come, one after the other
-abbrev pub AreNextVersions : State → List Accepted → List Accepted → Type 0
+abbrev pub AreNextVersions : State → List AcceptedChange → List AcceptedChange → Type 0
 AreNextVersions opening before [] = Unit {0}
 AreNextVersions opening before (c ∷ cs) = IsNextVersion opening before c × AreNextVersions opening (before ++ c ∷ []) cs
 
 -- the change removes this name
-abbrev pub removes : Name → Accepted → Bool
+abbrev pub removes : Name → AcceptedChange → Bool
 removes name (Removed removed) = is_same_name removed name
 removes name _ = false
 
 -- one of these changes removes the name
-abbrev pub is_removed : Name → List Accepted → Bool
+abbrev pub is_removed : Name → List AcceptedChange → Bool
 is_removed name changes = list_any (removes name) changes

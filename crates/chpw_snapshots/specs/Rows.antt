@@ -1,4 +1,4 @@
--- The published rows, and what they show: a row for each principal of the opening, in the order of their names, and behind
+-- The published rows, and what they show: a row for each principal of the opening, in the order of their names, and after
 -- them one for each name that was adopted since and isn't among those, in their order too.
 use Rattle.std.specs.Prelude.{◌≡◌, ℕ, ◌+◌, ◌%◌, ◌<◌, ◌≤◌, zero, suc, List, [], ◌∷◌, ◌++◌, Bool, true, false, ◌&&◌, if◌then◌else◌, nat_lt}
 use Rattle.std.specs.Prelude.{Option, Some, None, option_map, find, position, map, take, length, All}
@@ -10,7 +10,7 @@ use Rattle.chpw_table.specs.declared.table.Principal.{Principal}
 use Rattle.chpw_table.specs.declared.table.Lookup.{Lookup}
 use Rattle.chpw_table.specs.State.{State, keys_held, new_count, kept_count}
 use Rattle.chpw_table.specs.Agreement.{Held}
-use Rattle.chpw_table.specs.declared.change.Accepted.{Accepted}
+use Rattle.chpw_table.specs.declared.change.AcceptedChange.{AcceptedChange}
 use Rattle.chpw_table.specs.Versions.{Shown, shown, shown_count, shown_keys}
 use Rattle.chpw_changelog.specs.declared.change.Whose.TheVariants.{Number, Short}
 use Rattle.chpw_changelog.specs.declared.change.KeysChange.{KeysChange}
@@ -40,7 +40,7 @@ names_of_rows rows = map (λ (r : Row). r.name) rows
 abbrev pub names_of : State → List Name
 names_of opening = map (λ (p : Principal). p.name) opening.principals
 
--- where the first row of a name stands
+-- the place of the first row of a name
 abbrev pub place_in : List Row → Name → Option ℕ
 place_in rows name = position (λ (r : Row). is_same_name r.name name) rows
 
@@ -90,11 +90,11 @@ abbrev pub with_row : Row → List Row → List Row
 with_row row [] = row ∷ []
 with_row row (r ∷ rs) = if is_lt (name_cmp row.name r.name) then row ∷ r ∷ rs else r ∷ with_row row rs
 
--- a row of this name stands there if it is put in at this place
+-- a row of this name is there if it is put in at this place
 abbrev pub IsPlaceFor : List Row → Name → ℕ → Type 0
 IsPlaceFor rows name place = (place ≤ length rows) × ((row : Row) → row.name ≡ name → insert rows place row ≡ with_row row rows)
 
--- the change of this name among the rows that were added, where its row stands there; and otherwise a row more, in its order,
+-- the change of this name among the rows that were added, where its row is there; and otherwise a row more, in its order,
 -- if there is a key to show
 abbrev pub added_at : ℕ → KeysChange → Name → Option ℕ → List Row → List Row
 added_at kept c name (Some n) added = changed_at kept c n added
@@ -150,6 +150,6 @@ lookup_with policy seen s = record { kvno = s.kvno; held = s.counts; policy = po
 
 -- What a lookup shows of a name after the table of the opening and these changes: none for an unknown
 -- name. It counts the changes that the table had accepted before, and these.
-abbrev pub lookup_after : Held → List Accepted → Name → Option Lookup
+abbrev pub lookup_after : Held → List AcceptedChange → Name → Option Lookup
 lookup_after opening changes name =
     option_map (lookup_with (shown_count opening.state changes) (opening.seen + length changes)) (shown opening.state changes name)

@@ -39,7 +39,6 @@ impl AddedRow {
         AddedRow { name, shown: None }
     }
 
-    // Its name.
     pub(crate) fn name(&self) -> ShortName
         ensures value { short_name result ≡ self.now.name }
     {
@@ -73,7 +72,7 @@ impl AddedRow {
     }
 }
 
-// Where the row of a name stands among rows in the order of their names.
+// The place of a name's row among rows in the order of their names.
 pub(crate) fn place_of_name(rows: &[AddedRow], name: &Name) -> Option<usize>
     requires order { IsStrictlySortedBy name_cmp (names_of_rows rows.now) }
     ensures value { result ≡ place_in rows.now name.now }

@@ -26,7 +26,6 @@ impl KeysShown {
         KeysShown { kvno, counts: all }
     }
 
-    // These keys after a change.
     fn after(self, kept: u8, change: KeysChange) -> Option<KeysShown>
         requires kept { (1 ≤ kept) × (kept ≤ 16) }
         ensures value { result ≡ keys_after kept change (Some self) }

@@ -4,7 +4,7 @@ ghost use Rattle.chpw_snapshots.specs.Rows.{changed_at, row_after};
 
 use crate::keys_shown::KeysShown;
 use chpw_changelog::KeysChange;
-use chpw_ordered_keys::Keyed;
+use chpw_ordered_keys::HasKey;
 use chpw_rules::Name;
 
 /// What is published of a principal.
@@ -16,7 +16,7 @@ pub struct Row {
 }
 
 // Rows are ordered by their names.
-impl Keyed<Name> for Row {
+impl HasKey<Name> for Row {
     ghost key_of = { λ r. r.name };
 
     fn key(&self) -> &Name {

@@ -172,7 +172,6 @@ impl Rows {
         self.added.get(place)
     }
 
-    // The row of a name of the opening.
     fn opening_row(&self, name: &Name) -> Option<&Row>
         ensures value { option_copied result
             ≡ find (λ r. is_same_name r.name name.now) self.now.rows }
@@ -189,7 +188,6 @@ impl Rows {
         self.rows.get(place)
     }
 
-    // The keys in the row of a name.
     fn keys_of(&self, name: &Name) -> Option<&KeysShown>
         ensures value { option_copied result ≡ keys_in (all_rows self.now) name.now }
     {

@@ -3,7 +3,7 @@
 use crate::snapshot::{Operation, Snapshot};
 use atomic_table::{Join, Split};
 use chpw_changelog::LogEntry;
-use chpw_table::Accepted;
+use chpw_table::AcceptedChange;
 use crossbeam_utils::rule::{Outcome, Protocol};
 use left_right::reader::Reader;
 use left_right::writer::Writer;
@@ -17,13 +17,13 @@ pub struct View {
     pub log_name: u64,
     pub cells_name: u64,
     pub root: LinkedList<LogEntry>,
-    pub front: LinkedList<Accepted>,
+    pub front: LinkedList<AcceptedChange>,
 }
 
 /// The rule: the version shows a list, and each view that knows whose it is has a beginning of it.
-pub struct Ruled;
+pub struct ViewRule;
 
-impl Protocol<Snapshot, View> for Ruled {
+impl Protocol<Snapshot, View> for ViewRule {
     ghost use Rattle.chpw_snapshots.specs.Following.{IsRuled, unknown};
 
     ghost holds = { IsRuled };
@@ -31,9 +31,9 @@ impl Protocol<Snapshot, View> for Ruled {
     ghost first = { unknown };
 }
 
-pub(crate) type LeftRightReader = Reader<Snapshot, View, Ruled>;
+pub(crate) type LeftRightReader = Reader<Snapshot, View, ViewRule>;
 
-pub(crate) type LeftRightWriter = Writer<Snapshot, Operation, View, Ruled>;
+pub(crate) type LeftRightWriter = Writer<Snapshot, Operation, View, ViewRule>;
 
 // A reader enters.
 pub(crate) struct Enters;

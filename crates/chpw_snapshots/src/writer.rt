@@ -2,7 +2,7 @@
 ghost use Rattle.std.specs.Prelude.{◌≡◌, ◌+◌, ◌<◌, ◌^◌, ◌++◌, ◌∷◌, [], length, nat_lt, true, false, None, Some};
 ghost use Rattle.std.specs.Prelude.{IsSome, IfOk, IfErr, IfSome, IfNone, IsTrue, OnOk, OnErr};
 ghost use mathlib.Core.List.{IsPrefix};
-ghost use Rattle.chpw_table.specs.declared.change.Accepted.TheVariants.{Key, Count};
+ghost use Rattle.chpw_table.specs.declared.change.AcceptedChange.TheVariants.{Key, Count};
 ghost use Rattle.chpw_table.specs.Updates.{name_in};
 ghost use Rattle.chpw_table.specs.Versions.{Shown, shown, change_in};
 ghost use Rattle.chpw_changelog.specs.Changes.{change_of_name, named};

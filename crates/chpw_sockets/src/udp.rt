@@ -20,7 +20,7 @@ use crate::channel::DatagramChannel;
 use crate::own_sockets::OwnSockets;
 use crate::pool_fault::PoolFault;
 use chpw_connections::Todo;
-use chpw_datagrams::{Answered, Sender, is_answerable};
+use chpw_datagrams::{AnswerCache, Sender, is_answerable};
 use chpw_transfers::{Progress, State, Transfer, reply_of_datagram};
 use mio::Registry;
 use std::alloc::{AllocError, Global};
@@ -95,7 +95,7 @@ pub struct Datagrams<D> {
     port: u16,
     // The service's realm.
     realm: Vec<u8>,
-    answered: Answered,
+    answered: AnswerCache,
 }
 
 impl Datagrams<OwnSockets> {
@@ -115,7 +115,7 @@ impl Datagrams<OwnSockets> {
             port,
             realm,
         } = sockets;
-        let Ok(answered) = Answered::new(alloc) else {
+        let Ok(answered) = AnswerCache::new(alloc) else {
             return Err(PoolFault::Memory);
         };
         match OwnSockets::watch(alloc, sockets, registry) {

@@ -5,14 +5,14 @@ use Rattle.chpw_resume.specs.Fitting.{misfit_of}
 use Rattle.chpw_resume.specs.ResumeText.{mark_of}
 use Rattle.chpw_resume.specs.declared.mark.JournalMark.{JournalMark}
 use Rattle.chpw_resume.specs.declared.resume.Resume.{Resume}
-use Rattle.chpw_table.specs.declared.table.resuming.Carried.{Carried}
+use Rattle.chpw_table.specs.declared.table.resuming.ResumeState.{ResumeState}
 
 -- the mark of a new journal of this realm, which has the realm's record alone
 abbrev pub new_mark : List ℕ → JournalMark
 new_mark realm = mark_of (length (realm_record realm)) (realm_record realm)
 
 -- no id is used, no event has come since the beginning of 1970, and it is quiet before that
-abbrev pub nothing_left : Carried
+abbrev pub nothing_left : ResumeState
 nothing_left = record { ids = []; clock = pos 0; quiet_until = negsuc 0 }
 
 abbrev pub first_resume : List ℕ → Resume

@@ -11,7 +11,7 @@ use Rattle.chpw_resume.specs.declared.resume.Resume.{Resume}
 use Rattle.chpw_table.specs.Agreement.{Agrees, Held}
 use Rattle.chpw_table.specs.Resuming.{resumed}
 use Rattle.chpw_table.specs.Times.{IsTime}
-use Rattle.chpw_table.specs.declared.table.resuming.Carried.{Carried}
+use Rattle.chpw_table.specs.declared.table.resuming.ResumeState.{ResumeState}
 use Rattle.chpw_start.specs.Faults.{IsOfJournal, IsUnread}
 use Rattle.chpw_start.specs.Modes.{words_of}
 use Rattle.chpw_start.specs.declared.fault.ServeFault.{ServeFault}
@@ -22,7 +22,7 @@ use Rattle.chpw_start.specs.declared.resuming.SetAside.{SetAside}
 use Rattle.chpw_start.specs.declared.resuming.SetAside.TheVariants.{Exposed, Unread, TooLong, Fault, Misfit}
 
 -- a resume file that fits a start of this realm at this time, with some journal, leaves this
-pub record IsLeft (realm : List ℕ) (start : ℤ) (left : Carried) : Type 0 where
+pub record IsLeft (realm : List ℕ) (start : ℤ) (left : ResumeState) : Type 0 where
   pub resume : Resume
   pub fits : ResumeFits resume
   pub journal : JournalMark
@@ -30,12 +30,12 @@ pub record IsLeft (realm : List ℕ) (start : ℤ) (left : Carried) : Type 0 whe
   pub is : left ≡ resume.carried
 
 -- a table that takes this over: its ids, clock and quiet time are those that were left, all else is as it was restored
-pub record TakesOver (before : Held) (left : Carried) (next : Held) : Type 0 where
+pub record TakesOver (before : Held) (left : ResumeState) (next : Held) : Type 0 where
   pub agrees : Agrees next.state (resumed left before.state)
   pub counts : (next.events ≡ 0) × (next.seen ≡ 0) × (next.max_entries ≡ before.max_entries)
 
 -- the table that a service opens with: the restored one, or that one with what was left
-abbrev pub IsTakenOver : ℤ → Held → Option Carried → Held → Type 0
+abbrev pub IsTakenOver : ℤ → Held → Option ResumeState → Held → Type 0
 IsTakenOver start before None next = next ≡ before
 IsTakenOver start before (Some left) next = IsLeft before.state.fixed.realm start left × TakesOver before left next
 

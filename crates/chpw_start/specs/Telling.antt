@@ -26,7 +26,7 @@ pub record TellsOf (bytes : List ℕ) (form : TableForm) (torn : Option ℕ) (te
   pub journal : Option (List ℕ)
   pub held : HeldTable
   pub holds : IsHeld config journal held
-  pub behind : torn ≡ held.torn_behind
+  pub behind : torn ≡ held.torn_after
   pub told : IsTold form config held text
 
 -- of some configuration; no contract says which bytes a file has

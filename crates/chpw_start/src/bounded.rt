@@ -2,7 +2,7 @@
 ghost use Rattle.std.specs.Prelude.{◌<◌, ◌^◌, IfOk, IfSome, IfNone, length};
 ghost use Rattle.chpw_start.specs.Bounded.{IsLonger, IsPiece, IsWhole};
 
-use chpw_read_fully::{Filled, fill};
+use chpw_read_fully::{FillOutcome, fill};
 use std::alloc::Global;
 use std::io::{self, ErrorKind, Read};
 
@@ -44,14 +44,14 @@ fn read_piece<F: Read>(
         (F.remaining reader.old) (F.remaining reader.new) bytes.old.items bytes.new.items) }
 {
     match fill(reader, piece, reads) {
-        Filled::Whole => {
+        FillOutcome::Whole => {
             bytes.extend_from_slice(piece)?;
             Ok(false)
         }
-        Filled::Short(count) => {
+        FillOutcome::Short(count) => {
             bytes.extend_from_slice(&piece[..count])?;
             Ok(true)
         }
-        Filled::Fault(_) => Err(io::Error::from(ErrorKind::Other)),
+        FillOutcome::Fault(_) => Err(io::Error::from(ErrorKind::Other)),
     }
 }

@@ -13,7 +13,7 @@ use chpw_invocation::NewJournalOptions;
 use chpw_journal::{heading_bytes, write_new};
 use chpw_resume::{Resume, WriteFault, mark_of, write_resume};
 use chpw_rules::Items;
-use chpw_table::Carried;
+use chpw_table::ResumeState;
 use std::alloc::Global;
 use std::fs::{self, File, Files};
 use std::io::ErrorKind;
@@ -125,7 +125,7 @@ fn first_resume(alloc: Global, realm: &[u8], journal: &[u8]) -> Result<Vec<u8>, 
     let resume = Resume {
         realm: Items::of(Vec::from_slice(alloc, realm)?),
         journal: mark_of(journal.len() as u64, journal),
-        carried: Carried {
+        carried: ResumeState {
             ids: Items::of(Vec::new(alloc)),
             clock: 0,
             quiet_until: -1,

@@ -2,7 +2,7 @@
 ghost use Rattle.std.specs.Prelude.{◌≡◌, ℕ, ℤ, List, IfErr, IfOk, None, Option};
 ghost use Rattle.chpw_start.specs.Faults.{IsUnread};
 ghost use Rattle.chpw_start.specs.Resuming.{IsAtResume, IsFound, IsOfResumption, IsTakenOver};
-ghost use Rattle.chpw_table.specs.declared.table.resuming.Carried.{Carried as Left};
+ghost use Rattle.chpw_table.specs.declared.table.resuming.ResumeState.{ResumeState as Left};
 
 use crate::bounded::read_at_most;
 use crate::fault::ServeFault;
@@ -14,7 +14,7 @@ use chpw_invocation::ServeOptions;
 use chpw_resume::{
     JournalMark, LONGEST_RESUME, Misfit, ResumeFault, first_misfit, mark_in, read_resume,
 };
-use chpw_table::{Carried, Moment, Table};
+use chpw_table::{Moment, ResumeState, Table};
 use std::alloc::{AllocError, Global};
 use std::fs::{self, File, Files};
 use std::{fmt, io};
@@ -68,7 +68,7 @@ pub struct Resumption {
 pub(crate) enum Found {
     Nothing,
     Unfit(SetAside),
-    Fit(Carried),
+    Fit(ResumeState),
 }
 
 /// The table that a service opens with: the one restored from this journal, or that one with what the run before it left in the

@@ -72,7 +72,7 @@ pub fn write_table_of<'a, R: Files<File = File> + AllocGlobal, W: Write>(
     };
     let held = held_table(rt, config, journal)?;
     tell(alloc, form, text, realm.as_slice(), &held, writer)?;
-    Ok(held.torn_behind)
+    Ok(held.torn_after)
 }
 
 // The report in this form, with the bytes of the configuration and the realm that it sets.

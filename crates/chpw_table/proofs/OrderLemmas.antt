@@ -11,22 +11,13 @@ use Rattle.std.specs.Ordering.{eq_by_cmp, is_eq, is_lt, nat_cmp, int_cmp, orderi
 use Rattle.std.proofs.lemmas.Cmp.{then_total, on_total, nat_cmp_total, int_cmp_total, eq_by_cmp_equiv}
 use Rattle.chpw_rules.specs.declared.name.Name.{Name}
 use Rattle.chpw_rules.specs.Names.{is_same_name, name_cmp}
+pub use Rattle.chpw_rules.proofs.NameOrderLemmas.{names_total, same_name_ties, same_name_turned}
 use Rattle.chpw_table.specs.declared.request.RequestId.{RequestId}
 use Rattle.chpw_table.specs.Requests.{is_same_id}
 use Rattle.chpw_table.specs.Holding.{are_in_order, id_cmp}
 use Rattle.chpw_table.proofs.BoolLemmas.{and_left, and_right, both}
 
 -- ---- names
-
-pub names_total : IsTotalOrder name_cmp
-names_total = on_total (λ (n : Name). n.parts) (lists_total nat_list_cmp_total)
-
--- names are the same where none comes before the other
-pub same_name_ties : (a b : Name) → is_same_name a b ≡ eq_by_cmp name_cmp a b
-same_name_ties a b = lists_ties (slice_cmp nat_cmp) texts_ties a.parts b.parts
-
-pub same_name_turned : (a b : Name) → is_same_name a b ≡ is_same_name b a
-same_name_turned a b = same_name_ties a b ∙ ((eq_by_cmp_equiv names_total).symm a b ∙ sym (same_name_ties b a))
 
 is_less : (c : Ordering) → is_lt c ≡ true → c ≡ Less
 is_less Less h = refl

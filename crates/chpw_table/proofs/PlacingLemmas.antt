@@ -49,7 +49,7 @@ below_differs Greater h = refl
 pub before_differs : (a b : Name) → is_lt (name_cmp a b) ≡ true → is_same_name a b ≡ false
 before_differs a b h = same_name_ties a b ∙ below_differs (name_cmp a b) h
 
--- nor is it that of one of those behind
+-- nor is it that of one of those after
 behind_differs : (a : Name) (ps : List Principal) (i : ℕ) (d : Principal) (name : Name)
     → list_all (λ m. is_lt (name_cmp a m)) (names ps) ≡ true → i < length ps
     → is_same_name (get_or ps i d).name name ≡ true → is_same_name a name ≡ false
@@ -132,7 +132,7 @@ first_inserted p ps m false e = rw e refl
 some_none : {A : Type 0} (x : A) (o : Option A) → o ≡ Some x → o ≡ None → ⊥
 some_none x o h e = cc
 
--- where the head has another name, none of it is held behind
+-- where the head has another name, none of it is held after
 head_lacks : (q : Principal) (qs : List Principal) (name : Name) → keys_in (q ∷ qs) name ≡ None
     → (b : Bool) → is_same_name q.name name ≡ b → (b ≡ false) × (keys_in qs name ≡ None)
 head_lacks q qs name h true e = let found : keys_in (q ∷ qs) name ≡ Some q.keys = rw e refl in absurd (some_none q.keys (keys_in (q ∷ qs) name) found h)

@@ -10,7 +10,7 @@ use Rattle.chpw_table.specs.declared.request.Opened.{Opened}
 use Rattle.chpw_table.specs.declared.verdict.Verdict.{Verdict}
 use Rattle.chpw_table.specs.declared.verdict.Verdict.TheVariants.{Done}
 use Rattle.chpw_record.specs.declared.key.KeyRow.{KeyRow}
-use Rattle.chpw_table.specs.declared.table.changing.Change.{Change}
+use Rattle.chpw_table.specs.declared.table.changing.PreparedChange.{PreparedChange}
 use Rattle.chpw_table.specs.declared.table.preparing.Prepared.{Prepared}
 use Rattle.chpw_table.specs.Requests.{target_of}
 use Rattle.chpw_table.specs.State.{State, Fixed, keys_held, kept_count}
@@ -72,15 +72,15 @@ row_at s now o h =
     }
 
 -- the change that is prepared
-pub ready_change : (t : Held) (p : Prepared) (c : Change) → IsReady t p → p.change ≡ Some c → (p.row ≡ Done) × IsNext t p.opened c
-ready_change t p c r e = subst (λ (x : Option Change). IsPlanned t p.row p.opened x) e r.change
+pub ready_change : (t : Held) (p : Prepared) (c : PreparedChange) → IsReady t p → p.change ≡ Some c → (p.row ≡ Done) × IsNext t p.opened c
+ready_change t p c r e = subst (λ (x : Option PreparedChange). IsPlanned t p.row p.opened x) e r.change
 
 -- the journal is whole then
-pub ready_whole : (t : Held) (p : Prepared) (c : Change) → IsReady t p → p.change ≡ Some c → t.state.broken ≡ false
+pub ready_whole : (t : Held) (p : Prepared) (c : PreparedChange) → IsReady t p → p.change ≡ Some c → t.state.broken ≡ false
 ready_whole t p c r e = done_whole t.state p.opened (done_key_row t.state p.moment p.opened (sym r.row ∙ (ready_change t p c r e).0))
 
 -- the row of a step that is prepared
-pub next_row : (t : Held) (s : State) (p : Prepared) (c : Change) (name : Name) (row : Shown) → IsReady t p → p.change ≡ Some c → Agrees t.state s
+pub next_row : (t : Held) (s : State) (p : Prepared) (c : PreparedChange) (name : Name) (row : Shown) → IsReady t p → p.change ≡ Some c → Agrees t.state s
     → name ≡ (target_of p.opened).name → shown_keys c.keys ≡ row → IsNextRow s p.moment p.opened name row
 next_row t s p c name row r e a n d =
     let planned : (p.row ≡ Done) × IsNext t p.opened c = ready_change t p c r e in
@@ -92,7 +92,7 @@ next_row t s p c name row r e a n d =
 
 -- a step that is prepared without a change is none of the row Done
 pub no_row : (t : Held) (p : Prepared) → IsReady t p → p.change ≡ None → is_done p.row ≡ false
-no_row t p r e = subst (λ (x : Option Change). IsPlanned t p.row p.opened x) e r.change
+no_row t p r e = subst (λ (x : Option PreparedChange). IsPlanned t p.row p.opened x) e r.change
 
 -- ---- what the sink tells once it is finished
 
@@ -116,7 +116,7 @@ written_appends s o bytes true told h = told_nothing told
 written_appends s o bytes false told h = ap (λ (ys : List ℕ). option_map (λ (xs : List ℕ). xs ++ ys) told) h
 
 -- with one its record more, unless the append failed
-pub told_written : (t : Held) (p : Prepared) (c : Change) (io : Bool) (v : Verdict) (before later : Option (List ℕ))
+pub told_written : (t : Held) (p : Prepared) (c : PreparedChange) (io : Bool) (v : Verdict) (before later : Option (List ℕ))
     → IsReady t p → p.change ≡ Some c → v ≡ with_append io Done
     → later ≡ (if io then before else option_map (λ xs. xs ++ c.record.items) before) → later ≡ option_map (λ xs. xs ++ appended t.state p.opened v) before
 told_written t p c io v before later r e g f =

@@ -17,7 +17,7 @@ use Rattle.chpw_table.specs.declared.verdict.Verdict.TheVariants.{Skew, Replay}
 use Rattle.chpw_table.specs.declared.history.Event.{Event}
 use Rattle.chpw_table.specs.declared.history.Event.TheVariants.{Ask, Raise, Update}
 use Rattle.chpw_table.specs.declared.history.Entry.{Entry}
-use Rattle.chpw_table.specs.declared.table.resuming.Carried.{Carried}
+use Rattle.chpw_table.specs.declared.table.resuming.ResumeState.{ResumeState}
 use Rattle.chpw_table.specs.Requests.{id_of, is_same_id}
 use Rattle.chpw_table.specs.State.{State, is_used, keys_held}
 use Rattle.chpw_table.specs.Times.{clock_at, is_far, is_later}
@@ -89,7 +89,7 @@ resumed_is_left held left start a r = record {
 }
 
 -- a table with what was carried over agrees with the state that takes it over
-pub resumed_agrees : (c : Carried) (s t : State) (clock : ℤ) → t.fixed ≡ record s.fixed { quiet_until = c.quiet_until } → t.principals ≡ s.principals
+pub resumed_agrees : (c : ResumeState) (s t : State) (clock : ℤ) → t.fixed ≡ record s.fixed { quiet_until = c.quiet_until } → t.principals ≡ s.principals
     → t.clock ≡ c.clock → t.broken ≡ s.broken → t.count ≡ s.count → clock ≡ c.clock → HoldsIds clock c.ids t.used → Agrees t (resumed c s)
 resumed_agrees c s t clock f p k b n e h = record {
   fixed = f;

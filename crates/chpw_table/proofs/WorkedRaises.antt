@@ -4,7 +4,7 @@ use Rattle.std.specs.Prelude.{negsuc}
 use Rattle.chpw_table.specs.declared.verdict.Verdict.TheVariants.{Done, Broken}
 use Rattle.chpw_table.specs.declared.raising.RaiseVerdict.{RaiseVerdict}
 use Rattle.chpw_table.specs.declared.raising.RaiseVerdict.TheVariants as raise
-use Rattle.chpw_table.specs.declared.change.Accepted.TheVariants.{Key, Count}
+use Rattle.chpw_table.specs.declared.change.AcceptedChange.TheVariants.{Key, Count}
 use Rattle.chpw_table.specs.declared.history.Event.{Event}
 use Rattle.chpw_table.specs.declared.history.Event.TheVariants.{Ask, Raise}
 use Rattle.chpw_table.specs.declared.history.Entry.{Entry}

@@ -5,7 +5,7 @@ use Rattle.chpw_table.specs.declared.times.Moment.{Moment}
 use Rattle.chpw_table.specs.declared.request.Opened.{Opened}
 use Rattle.chpw_table.specs.declared.verdict.Verdict.TheVariants.{Skew, Replay}
 use Rattle.chpw_table.specs.declared.history.Entry.{Entry}
-use Rattle.chpw_table.specs.declared.table.resuming.Carried.{Carried}
+use Rattle.chpw_table.specs.declared.table.resuming.ResumeState.{ResumeState}
 use Rattle.chpw_table.specs.Requests.{id_of}
 use Rattle.chpw_table.specs.State.{State, keys_held}
 use Rattle.chpw_table.specs.Times.{clock_at, is_far, is_later}
@@ -16,11 +16,11 @@ use Rattle.chpw_table.specs.History.{outcome}
 use Rattle.chpw_table.specs.Agreement.{Agrees}
 
 -- what a state leaves
-abbrev pub carried_of : State → Carried
+abbrev pub carried_of : State → ResumeState
 carried_of s = record { ids = s.used; clock = s.clock; quiet_until = s.fixed.quiet_until }
 
 -- a state that takes it over
-abbrev pub resumed : Carried → State → State
+abbrev pub resumed : ResumeState → State → State
 resumed c s = record s { fixed = record s.fixed { quiet_until = c.quiet_until }; used = c.ids; clock = c.clock }
 
 -- ---- laws
@@ -56,6 +56,6 @@ ReplayOverResume = (s : State) (before : Moment) (used : Opened) (failed : Bool)
 
 -- and a request that is too old for the clock that was taken over is Skew
 abbrev pub OlderIsSkew : Type 0
-OlderIsSkew = (c : Carried) (start next : State) → Agrees next (resumed c start) →
+OlderIsSkew = (c : ResumeState) (start next : State) → Agrees next (resumed c start) →
     (later : List Entry) (now : Moment) (o : Opened) (io : Bool) → is_later c.clock o.ctime ≡ true →
     verdict (outcome next later) now o io ≡ Skew

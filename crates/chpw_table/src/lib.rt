@@ -20,10 +20,10 @@ mod times;
 mod updating;
 mod verdict;
 
-pub use change::{Accepted, KeyChange};
+pub use change::{AcceptedChange, KeyChange};
 pub use chpw_record::{KeyRow, raise_bytes, record_bytes};
 pub use counts::{COUNTS_LIMIT, Counts};
-pub use derived::Derived;
+pub use derived::DerivedKeys;
 pub use digest::Digest;
 pub use history::{Entry, Event, Receipt};
 pub use key::newest;
@@ -34,7 +34,8 @@ pub use same_keys::are_same_keys;
 pub use sink::{Durability, JournalSink, SinkFault};
 pub use standing::StandingRules;
 pub use table::{
-    Carried, KeyFault, Lookup, MOST_CARRIED, Prepared, PreparedUpdate, Principal, RowChange, Table,
+    KeyFault, Lookup, MOST_CARRIED, Prepared, PreparedUpdate, Principal, ResumeState, RowChange,
+    Table,
 };
 pub use times::{CLOCK_SKEW, LAST_SECOND, Moment};
 pub use updating::{KdcUpdate, UpdateFault, UpdateOutcome, UpdateRefused, UpdateVerdict};

@@ -34,14 +34,14 @@ use crate::counts::Counts;
 use crate::key::{counts_of, kvno_of};
 use crate::request::RequestId;
 use crate::standing::StandingRules;
-use chpw_ordered_keys::{KeyTree, Keyed};
+use chpw_ordered_keys::{HasKey, KeyTree};
 use chpw_record::KeyRow;
 use chpw_rules::{Config, Items, Name, Policy};
 use opening::opening_table;
 pub use preparing::{Prepared, RowChange};
 pub use reopening::MOST_CARRIED;
 pub use restoring::KeyFault;
-pub use resuming::Carried;
+pub use resuming::ResumeState;
 use std::alloc::{AllocError, Global};
 use std::marker::Model;
 pub use updating::PreparedUpdate;
@@ -67,7 +67,7 @@ pub struct Lookup {
 }
 
 // Principals are ordered by their names.
-impl Keyed<Name> for Principal {
+impl HasKey<Name> for Principal {
     ghost key_of = { λ p. p.name };
 
     fn key(&self) -> &Name {
@@ -252,7 +252,6 @@ impl Table {
         self.standing.policy()
     }
 
-    /// How many principals it has.
     pub fn principals(&self) -> usize
         ensures value { result ≡ length self.now.state.principals }
     {

@@ -7,7 +7,7 @@ use Rattle.slab.specs.Slab.{Slab, get, slab_len, SameValues, Updates}
 use Rattle.mio.specs.declared.net.uds.stream.UnixStream.{UnixStream}
 use Rattle.chpw_slots.specs.Counting.{count_in}
 use Rattle.chpw_connection.specs.declared.connection.Connection.{Connection}
-use Rattle.chpw_connection.specs.declared.counting.Counted.TheVariants as counted
+use Rattle.chpw_connection.specs.declared.counting.CountedStage.TheVariants as counted
 use Rattle.chpw_slots.proofs.CountLemmas.{counted_once}
 use Rattle.chpw_control.specs.Callers.{asking, failed}
 use Rattle.chpw_control.specs.Dialogs.{at_start}

@@ -4,7 +4,7 @@ use Rattle.slab.specs.Slab.{Slab, get}
 use Rattle.mio.specs.declared.net.uds.stream.UnixStream.{UnixStream}
 use Rattle.chpw_slots.specs.Counting.{count_in}
 use Rattle.chpw_connections.specs.Held.{slots_of}
-use Rattle.chpw_connection.specs.declared.counting.Counted.TheVariants as counted
+use Rattle.chpw_connection.specs.declared.counting.CountedStage.TheVariants as counted
 use Rattle.chpw_control.specs.Callers.{asking, closed, failed, told, wrote}
 use Rattle.chpw_control.specs.Answers.{lines_text, ok_line}
 use Rattle.chpw_control.specs.Dialogs.{at_start}

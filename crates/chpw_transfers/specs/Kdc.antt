@@ -7,7 +7,7 @@ use Rattle.slab.specs.Slab.{Slab, get}
 use Rattle.chpw_rules.specs.declared.name.Name.{Name}
 use Rattle.chpw_rules.specs.declared.pattern.NamePatterns.{NamePatterns}
 use Rattle.chpw_record.specs.declared.key.KeyRow.{KeyRow}
-use Rattle.chpw_record.specs.declared.record.Change.{Change}
+use Rattle.chpw_record.specs.declared.record.PrincipalKey.{PrincipalKey}
 use Rattle.chpw_kdc.specs.declared.fault.ProtocolFault.{ProtocolFault}
 use Rattle.chpw_kdc.specs.Dialogs.{State, after_hold, after_none, after_full_table, after_want, after_want_comparison, after_lost_want}
 use Rattle.chpw_kdc.specs.Dialogs.{after_decision, is_in_reach}
@@ -66,7 +66,7 @@ abbrev pub release_of_key : Bool → State → Release
 release_of_key needed s = if needed || s.pace.connected then release.After (s.issued + 1) else release.Now
 
 -- its key is on its way; or it is lost, and they are compared anew
-abbrev pub LeavesKey : Bool → ℕ → Change → State → State → Release → Type 0
+abbrev pub LeavesKey : Bool → ℕ → PrincipalKey → State → State → Release → Type 0
 LeavesKey needed now c s t r =
     ((t ≡ after_want now c.name c.key s) × (r ≡ release_of_key needed s))
     ⊎ (((t ≡ after_lost_want (after_hold c.name c.key s)) ⊎ (t ≡ after_lost_want s)) × (r ≡ release_of_lost needed))

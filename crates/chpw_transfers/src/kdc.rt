@@ -5,7 +5,7 @@ ghost use Rattle.std.specs.Prelude.{nat_lt, if◌then◌else◌, option_map, opt
 ghost use Rattle.chpw_connections.specs.Held.{slots_of, bounds_of};
 ghost use Rattle.chpw_slots.specs.Counting.{count_in};
 ghost use Rattle.chpw_connections.specs.Turns.{slot_of};
-ghost use Rattle.chpw_connection.specs.declared.counting.Counted.TheVariants as counted;
+ghost use Rattle.chpw_connection.specs.declared.counting.CountedStage.TheVariants as counted;
 ghost use Rattle.chpw_kdc.specs.Dialogs.{first_update, after_take};
 ghost use Rattle.chpw_kdc.specs.Mirrors.{are_ours};
 ghost use Rattle.chpw_transfers.specs.Kdc.{IsDecided, IsFaulty, IsHeard, IsToldFull, IsToldTo, LeavesChange, LeavesKey, Releases};
@@ -17,9 +17,9 @@ ghost use Rattle.chpw_transfers.specs.Rounds.{is_update_next};
 ghost use Rattle.chpw_transfers.specs.Steps.{IsAnswered};
 
 use crate::state::State;
-use chpw_connections::{Counted, KdcChange, Reply, Turn, Unconfirmed};
+use chpw_connections::{CountedStage, KdcChange, Reply, Turn, Unconfirmed};
 use chpw_kdc::{HoldFault, KdcDialog, KdcUpdate, ProtocolFault};
-use chpw_record::{Change, KeyRow};
+use chpw_record::{KeyRow, PrincipalKey};
 use chpw_rules::{Name, NamePatterns};
 
 /// The worker that takes what the KDC says into the table.
@@ -229,7 +229,7 @@ impl State {
     pub fn has_waiting(&self) -> bool
         ensures value { result ≡ nat_lt 0 (count_in counted.Confirming (slots_of self.now.connections)) }
     {
-        self.connections.count(Counted::Confirming) > 0
+        self.connections.count(CountedStage::Confirming) > 0
     }
 
     /// Whether there is something for a worker to take into the table.
@@ -261,10 +261,10 @@ pub(crate) fn is_clerk(worker: usize) -> bool
 }
 
 // The key is on its way. When its reply may go. If memory runs out for it, table and KDC are compared anew.
-fn want(kdc: &mut KdcDialog, change: Change, is_needed: bool, now: u64) -> Release
+fn want(kdc: &mut KdcDialog, change: PrincipalKey, is_needed: bool, now: u64) -> Release
     ensures left { LeavesKey is_needed now change kdc.old kdc.new result }
 {
-    let Change { name, key } = change;
+    let PrincipalKey { name, key } = change;
     let wanted = match name.clone() {
         Ok(copy) => kdc.want(copy, key, now),
         Err(_) => Err(HoldFault::Memory),

@@ -21,7 +21,7 @@ use crate::accept_limit::AcceptLimit;
 use crate::accepting::Accepting;
 use crate::connection_counts::ConnectionCounts;
 use crate::kdc::{KdcSide, is_clerk};
-use chpw_connections::{Connections, Counted, TakenMessage, Todo};
+use chpw_connections::{Connections, CountedStage, TakenMessage, Todo};
 use chpw_endpoints::{Endpoints, Peer};
 use chpw_kdc::KdcDialog;
 use chpw_rules::NamePatterns;
@@ -318,12 +318,12 @@ impl State {
         ensures behind { result.is_behind ≡ is_behind self.now.kdc }
     {
         ConnectionCounts {
-            reading: self.connections.count(Counted::Reading),
-            waiting: self.connections.count(Counted::Waiting),
-            answering: self.connections.count(Counted::Answering),
-            confirming: self.connections.count(Counted::Confirming),
-            writing: self.connections.count(Counted::Writing),
-            ending: self.connections.count(Counted::Ending),
+            reading: self.connections.count(CountedStage::Reading),
+            waiting: self.connections.count(CountedStage::Waiting),
+            answering: self.connections.count(CountedStage::Answering),
+            confirming: self.connections.count(CountedStage::Confirming),
+            writing: self.connections.count(CountedStage::Writing),
+            ending: self.connections.count(CountedStage::Ending),
             is_behind: self.is_behind(),
         }
     }

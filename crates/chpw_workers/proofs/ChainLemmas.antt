@@ -43,7 +43,7 @@ change_lifts holds later f has_kdc before receipts left h = at (if has_kdc then 
 module _ {C X : Type 0} (moments : C → Moment → C → Type 0) (random : X → ℕ → X → Type 0)
     (error_frame : Answer → Moment → List ℕ) (private_frame : Seal → Answer → List ℕ → List ℕ) (opens : Endpoints → List ℕ → Opens → Type 0)
   where
-    -- an answer that a full history is behind, if the history is full then too
+    -- an answer that a full history follows, if the history is full then too
     answer_lifts : (full more : Type 0) → (full → more) → (os : Opens → Type 0) (words : List ℕ) (now : Moment) (old new : List Receipt) (bytes : List ℕ)
         → IsAnswer error_frame private_frame full os words now old new bytes → IsAnswer error_frame private_frame more os words now old new bytes
     answer_lifts full more f os words now old new bytes (refused a, o, h) = (refused a, o, h)

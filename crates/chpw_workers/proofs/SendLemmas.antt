@@ -13,13 +13,13 @@ use Rattle.chpw_changelog.specs.declared.log_name.LogName
 use Rattle.chpw_book.specs.declared.naming.DeskName
 use Rattle.chpw_book.proofs.pass.Pass.TheSendSync as pass
 use Rattle.chpw_workers.specs.contracts.context.Context as Context
-use Rattle.chpw_workers.specs.contracts.shift.Placed as Placed
+use Rattle.chpw_workers.specs.contracts.shift.PlacedWorker as PlacedWorker
 
 pub context_sync : (a : NamedLft) (M T : RattleType) → IsSync M → IsSync T → IsSync (Context.the_row a M T)
 context_sync a M T m t = search (global.the_field_sync, sendable) depth 20
 
 pub placed_send : (D I G C X : RattleType) (g : DeskName.Ghosts D.Denot) (g' : Ledger.Ghosts D.Denot) (g'' : LogName.Ghosts D.Denot)
-    → IsSend D → IsSend I → IsSend G → IsSend C → IsSend X → IsSend (Placed.the_row D I G C X g g' g'')
+    → IsSend D → IsSend I → IsSend G → IsSend C → IsSend X → IsSend (PlacedWorker.the_row D I G C X g g' g'')
 placed_send D I G C X g g' g'' d i o c x = search (pass.the_send, sendable) depth 20
 
 -- the runtime, what all share, the desk, and the worker at it

@@ -6,7 +6,7 @@ use Rattle.chpw_table.specs.declared.times.Moment.{Moment}
 use Rattle.chpw_table.specs.declared.history.Receipt.{Receipt}
 use Rattle.chpw_table.specs.Replies.{Answer}
 use Rattle.chpw_serve.specs.declared.messages.Seal.{Seal}
-use Rattle.chpw_serve.specs.declared.messages.Incoming.{Incoming}
+use Rattle.chpw_serve.specs.declared.messages.OpenRequest.{OpenRequest}
 use Rattle.chpw_serve.specs.declared.messages.OpenResult.TheVariants as program
 use Rattle.chpw_serve.specs.Requests.{Opens, Request, refused, opened}
 use Rattle.chpw_serve.specs.Holding.{IsOpenResult, answer_in}
@@ -17,7 +17,7 @@ use Rattle.chpw_workers.specs.Turns.{At, AddsEntry, Comes, Draws}
 use Rattle.chpw_workers.specs.Undecided.{OpensUndecided, kdc_out_of_reach, undecided}
 
 -- what an opened message becomes, and one that was refused
-pub of_opened : (opens : Opens → Type 0) (i : Incoming) (r : Refusal) → answer_in r ≡ kdc_out_of_reach
+pub of_opened : (opens : Opens → Type 0) (i : OpenRequest) (r : Refusal) → answer_in r ≡ kdc_out_of_reach
     → ((o : Opens) × opens o × IsOpenResult o (program.Opened i))
     → (o : Opens) × ((found : Opens) × opens found × (o ≡ undecided found)) × IsOpenResult o (program.Refused r)
 of_opened opens i r said (refused a, is, h) = absurd h

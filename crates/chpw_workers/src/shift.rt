@@ -34,7 +34,7 @@ pub struct NotStarted;
 
 /// A worker at a desk: its pass there, and what it has at each.
 #[derive(Drop)]
-struct Placed<D: DeskName, I, G, C, X> {
+struct PlacedWorker<D: DeskName, I, G, C, X> {
     pass: Pass<D>,
     worker: Worker<I, G, C, X>,
 }
@@ -137,7 +137,7 @@ fn place_all<
         };
     };
     let staff = Staff { passes, workers };
-    match start(scope, rt, context, desk, Placed { pass, worker }) {
+    match start(scope, rt, context, desk, PlacedWorker { pass, worker }) {
         Ok(handle) => {
             let Shift { staff, done } = place_all(scope, rt, context, desk, staff, meanwhile);
             Shift {
@@ -170,8 +170,11 @@ fn start<
     rt: &'s R,
     context: &'s Context<'s, M, T>,
     desk: &'s Desk<D, S>,
-    placed: Placed<D, I, G, C, X>,
-) -> Result<PromisedHandle<Placed<D, I, G, C, X>, Serves<M, D, I, G, C, X>>, Placed<D, I, G, C, X>>
+    placed: PlacedWorker<D, I, G, C, X>,
+) -> Result<
+    PromisedHandle<PlacedWorker<D, I, G, C, X>, Serves<M, D, I, G, C, X>>,
+    PlacedWorker<D, I, G, C, X>,
+>
     ensures started { IfOk result (λ h. (h.promise.service.value ≡ context.now.service.now)
         × (h.promise.has_kdc ≡ context.now.has_kdc) × (h.promise.placed.value ≡ placed)) }
     ensures refused { IfErr result (λ p. IsShift C.gives X.gives I.turns (M.error_frame context.now.service.now)
@@ -195,7 +198,7 @@ fn start<
 // These, and one worker more.
 fn with_last<D: DeskName, I, G, C, X>(
     staff: Staff<D, I, G, C, X>,
-    placed: Placed<D, I, G, C, X>,
+    placed: PlacedWorker<D, I, G, C, X>,
 ) -> Staff<D, I, G, C, X>
     requires passes { vec_len staff.passes < vec_capacity staff.passes }
     requires workers { vec_len staff.workers < vec_capacity staff.workers }
@@ -207,7 +210,7 @@ fn with_last<D: DeskName, I, G, C, X>(
         mut passes,
         mut workers,
     } = staff;
-    let Placed { pass, worker } = placed;
+    let PlacedWorker { pass, worker } = placed;
     passes.push_reserved(pass);
     workers.push_reserved(worker);
     Staff { passes, workers }
@@ -218,10 +221,10 @@ fn with_last<D: DeskName, I, G, C, X>(
 struct Serves<M, D: DeskName, I, G, C, X> {
     service: Snapshot<M>,
     has_kdc: bool,
-    placed: Snapshot<Placed<D, I, G, C, X>>,
+    placed: Snapshot<PlacedWorker<D, I, G, C, X>>,
 }
 
-impl<M: Messages, D: DeskName, I: Inbox, G, C: Clock, X: Words> Promise<Placed<D, I, G, C, X>>
+impl<M: Messages, D: DeskName, I: Inbox, G, C: Clock, X: Words> Promise<PlacedWorker<D, I, G, C, X>>
     for Serves<M, D, I, G, C, X> {
     ghost use Rattle.chpw_changelog.specs.Pens.{opening_state};
     ghost use Rattle.chpw_book.specs.Newest.{AreHeldAfter};
@@ -246,17 +249,17 @@ fn serve_placed<
     rt: &R,
     context: &Context<'_, M, T>,
     desk: &Desk<D, S>,
-    placed: Placed<D, I, G, C, X>,
-) -> Placed<D, I, G, C, X>
+    placed: PlacedWorker<D, I, G, C, X>,
+) -> PlacedWorker<D, I, G, C, X>
     ensures shift { IsShift C.gives X.gives I.turns (M.error_frame context.now.service.now) (M.private_frame context.now.service.now)
         (M.opens context.now.service.now) (AreHeldAfter (opening_state D.root)) context.now.has_kdc placed.pass placed.worker result.pass result.worker }
 {
-    let Placed {
+    let PlacedWorker {
         mut pass,
         mut worker,
     } = placed;
     serve_at(rt, context, desk, &mut pass, &mut worker);
-    Placed { pass, worker }
+    PlacedWorker { pass, worker }
 }
 
 /// Answers the messages of a worker's inbox at a desk with its pass there, in this thread, until none will come any more, it is to

@@ -12,11 +12,11 @@ use std::alloc::{AllocError, Global};
 
 /// A service's realm and keys while the KDC is out of reach: a request that opens is refused.
 #[derive(Drop)]
-pub(crate) struct Undecided<'a, M> {
+pub(crate) struct WithoutKdc<'a, M> {
     pub messages: &'a M,
 }
 
-impl<'a, M: Messages> Messages for Undecided<'a, M> {
+impl<'a, M: Messages> Messages for WithoutKdc<'a, M> {
     ghost use Rattle.chpw_workers.specs.Undecided.{OpensUndecided};
 
     ghost opens = { λ s. OpensUndecided (M.opens s.messages.now) };

@@ -34,7 +34,6 @@ impl FittingUpdate {
         }
     }
 
-    /// The update.
     pub fn update(self) -> KdcUpdate
         ensures value { result ≡ self.update }
         ensures fits { update_fits result ≡ true }

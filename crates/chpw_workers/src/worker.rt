@@ -11,12 +11,12 @@ ghost use Rattle.chpw_connections.specs.Turns.{message_of, ends_of};
 
 use crate::context::Context;
 use crate::inbox::{Crew, Inbox, Task, WorkerTurn};
-use crate::undecided::Undecided;
+use crate::undecided::WithoutKdc;
 use crate::updates::{FittingUpdate, KdcDecider, UpdateTurn};
 use chpw_book::DeskUpdateFault;
 use chpw_connections::{KdcChange, Reply, TakenMessage, Turn};
 use chpw_decider::Decider;
-use chpw_record::Change;
+use chpw_record::PrincipalKey;
 use chpw_rules::Name;
 use chpw_serve::{Clock, Ended, Gate, Messages, Observer, UpdateObserver, Words, serve_stream};
 use chpw_table::{Body, Digest, Durability, Event, Opened, Receipt, Verdict};
@@ -95,7 +95,7 @@ fn do_task<
         }
         Task::Undecided(taken) => {
             let alloc = context.alloc;
-            let service = Undecided {
+            let service = WithoutKdc {
                 messages: context.service,
             };
             let turn = take_turn(alloc, &service, context.has_kdc, taken, decider, worker);
@@ -182,7 +182,7 @@ fn change_after<K: KdcDecider>(has_kdc: bool, decider: &K, before: usize) -> Kdc
     };
     let key = decider.made_key(name, digest);
     match (name.clone(), key) {
-        (Ok(name), Some(key)) => KdcChange::Key(Change { name, key }),
+        (Ok(name), Some(key)) => KdcChange::Key(PrincipalKey { name, key }),
         _ => KdcChange::Lost,
     }
 }

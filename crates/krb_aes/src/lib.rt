@@ -2,7 +2,8 @@
 //! over it (RFC 3962 section 5).
 #![tactic(auto)]
 
-mod cipher;
+mod block;
+mod block_cipher;
 mod column;
 mod cts;
 mod field;
@@ -10,9 +11,7 @@ mod key_schedule;
 pub mod laws;
 mod xor;
 
-pub use cipher::Aes;
+pub use block::BLOCK_LEN;
+pub use block_cipher::Aes;
 pub use cts::{cts_decrypt, cts_encrypt};
 pub use xor::xor_into;
-
-/// The bytes of a block.
-pub const BLOCK_LEN: usize = 16;

@@ -1,4 +1,4 @@
--- A usual spelling of a value is its text.
+-- A regular spelling of a value is its text.
 use Rattle.std.proofs.Common.{◌≡◌, ℕ, zero, suc, ◌-◌, ◌+◌, ◌^◌, ◌≤◌, ◌<◌, ◌&&◌, true, false, cond, List}
 use Rattle.std.proofs.Common.{[], ◌∷◌, ◌++◌, Some, None, refl, sym, ap, subst, ◌∙◌, arith, length, get_or}
 use Rattle.std.proofs.Common.{eqb, ltb, inl, inr, ℤ, pos, negsuc, ◌≤ℤ◌, ◌-ℤ◌, FitsSigned, w64, w32}
@@ -45,7 +45,7 @@ eight_only bytes n len all is = absurd (omega (arith, len))
 
 -- ---- lengths
 
--- bytes in front, as many as k, each found from what stands behind it
+-- bytes in front, as many as k, each found from what follows it
 filled : (List ℕ → ℕ) → ℕ → List ℕ → List ℕ
 filled fill zero bytes = bytes
 filled fill (suc k) bytes = fill (filled fill k bytes) ∷ filled fill k bytes

@@ -41,7 +41,7 @@ text_held (option tag first rest) front (Some v, w) =
 
 -- ---- its length
 
--- what is held after a text of m bytes, behind n others
+-- what is held after a text of m bytes, after n others
 abbrev pub held : ℕ → Bool → ℕ → Option ℕ
 held n good m = cond good (allowed (n + m)) None
 
@@ -55,7 +55,7 @@ never : (b : Bool) (n : ℕ) → longest_text < n → cond b (allowed n) None �
 never true n lt = too_long n lt
 never false n lt = refl
 
--- one text behind the other
+-- one text after the other
 joined : (n : ℕ) (a : Bool) (m : ℕ) (b : Bool) (k : ℕ) (more : Option ℕ → Option ℕ) → more None ≡ None
     → ((i : ℕ) → i ≤ longest_text → more (Some i) ≡ held i b k) → more (held n a m) ≡ held n (a && b) (m + k)
 joined n false m b k more none some = none

@@ -45,7 +45,7 @@ IsUsual (field first rest) text v h = IsUsual first h.0 v.0 h.3 × IsUsual rest 
 IsUsual (option tag first rest) text (None, w) h = IsUsual rest text w h
 IsUsual (option tag first rest) text (Some v, w) h = IsUsual first h.3.0 v h.3.2 × IsUsual rest h.1 w h.4
 
--- a value has one usual spelling, its text; other spellings have a negative sequence number, a BIT
+-- a value has one regular spelling, its text; other spellings have a negative sequence number, a BIT
 -- STRING of another length, or further elements
 abbrev pub OneText : Type 0
 OneText = (s : Shape) → is_legal s ≡ true → (bytes : List ℕ) (v : Value s) (h : Spells s bytes v)

@@ -25,7 +25,6 @@ use std::alloc::{AllocError, Global};
 pub trait Fields<'a> {
     ghost use Rattle.krb_codec.specs.Shapes.{Shape, Value};
 
-    /// The values of the fields.
     type Values: Drop;
 
     /// References to the values of the fields.

@@ -16,7 +16,6 @@ use std::alloc::{AllocError, Global};
 pub trait Layout<'a> {
     ghost use Rattle.krb_codec.specs.Shapes.{Shape, Value};
 
-    /// The values of the fields.
     type Values: Drop;
 
     /// References to the values of the fields.
@@ -25,7 +24,6 @@ pub trait Layout<'a> {
     /// Which elements spell the fields.
     ghost shape: { Shape };
 
-    /// The value of the fields.
     ghost value: { Self.Values → Value shape };
 
     /// The values that are referred to.

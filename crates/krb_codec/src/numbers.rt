@@ -16,7 +16,6 @@ use crate::tag::INTEGER;
 use crate::writing::Write;
 use std::alloc::{AllocError, Global};
 
-/// Microseconds in a second.
 const MICROSECONDS: u32 = 1_000_000;
 
 /// Microseconds, 0 to 999,999 on the wire (RFC 4120 section 5.2.4).

@@ -186,7 +186,6 @@ fn date_of(day: i64) -> Date
     Date::from_unix_epoch_day(day).unwrap()
 }
 
-/// The text of a time.
 fn civil_text(time: CivilTime) -> [u8; 15]
     requires { IsCivilTime time }
     ensures { result ≡ civil_text time }

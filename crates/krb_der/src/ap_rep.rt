@@ -34,7 +34,6 @@ impl Element for ApRep {
     ghost legal = { refl };
 }
 
-/// The fields in turn.
 type ReplyFields = Application<
     15,
     (
@@ -100,7 +99,6 @@ impl Element for EncApRepPart {
     ghost legal = { refl };
 }
 
-/// The fields in turn.
 type PartFields = Application<
     27,
     (

@@ -39,7 +39,6 @@ impl Element for ApReq {
     ghost legal = { refl };
 }
 
-/// The fields in turn.
 type Fields = Application<
     14,
     (

@@ -44,7 +44,6 @@ impl Element for Authenticator {
     ghost legal = { refl };
 }
 
-/// The fields in turn.
 type Fields = Application<
     2,
     (

@@ -38,7 +38,6 @@ impl Element for ChangePasswdData {
     ghost legal = { refl };
 }
 
-/// The fields in turn.
 type Fields = ExtensibleSequence<
     FIRST_FURTHER,
     LAST_FURTHER,

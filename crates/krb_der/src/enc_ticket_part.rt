@@ -103,7 +103,6 @@ impl Element for EncTicketPart {
     ghost legal = { refl };
 }
 
-/// The fields in turn.
 type PartFields = Application<
     3,
     (

@@ -33,7 +33,6 @@ impl Element for EncryptedData {
     ghost legal = { refl };
 }
 
-/// The fields in turn.
 type SealedFields = Sequence<(Required<0, i32>, Optional<1, u32>, Required<2, OctetString>)>;
 
 impl Read for EncryptedData {

@@ -49,7 +49,6 @@ impl Element for KrbError {
     ghost legal = { refl };
 }
 
-/// The fields in turn.
 type Fields = Application<
     30,
     (

@@ -35,7 +35,6 @@ impl Element for KrbPriv {
     ghost legal = { refl };
 }
 
-/// The fields in turn.
 type MessageFields = Application<
     21,
     (
@@ -104,7 +103,6 @@ impl Element for EncKrbPrivPart {
     ghost legal = { refl };
 }
 
-/// The fields in turn.
 type PartFields = Application<
     28,
     (

@@ -19,7 +19,6 @@ use std::alloc::{AllocError, Global};
 pub struct PrincipalName {
     /// What kind of name it is; no part of its identity.
     pub name_type: i32,
-    /// Its components.
     pub name_string: SequenceOf<GeneralString>,
 }
 
@@ -31,7 +30,6 @@ impl Element for PrincipalName {
     ghost legal = { refl };
 }
 
-/// The fields in turn.
 type Fields = Sequence<(Required<0, i32>, Required<1, SequenceOf<GeneralString>>)>;
 
 impl Read for PrincipalName {

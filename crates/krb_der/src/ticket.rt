@@ -37,7 +37,6 @@ impl Element for Ticket {
     ghost legal = { refl };
 }
 
-/// The fields in turn.
 type Fields = Application<
     1,
     (

@@ -11,13 +11,13 @@ use Rattle.std.proofs.lemmas.List.{get_or_append_left, get_or-append_right, get_
 use Rattle.std.proofs.lemmas.List.Concat.{get_or-flat_map}
 use Rattle.std.proofs.lemmas.List.FromFn.{length-range_with_len, get_or-range_with_len, sum_by-map-range_with_len_more}
 use Rattle.std.specs.List.{flat_map, range_with_len}
-use Rattle.krb_keys.specs.Nfold.{value, number_bytes, turned, copy, copy_count, joined, sum_of_parts}
+use Rattle.krb_keys.specs.Nfold.{value, number_bytes, rotated, copy, copy_count, joined, sum_of_parts}
 use Rattle.krb_keys.proofs.PiecesLemmas.{length-pieces}
 use Rattle.krb_keys.proofs.NumberLemmas.{pow_of_256, value-append, value_below, get_or-number_bytes, length-number_bytes, two_bytes}
 
 -- a number turned right lies in the number written twice
-turned_is : (w r v : ℕ) → r ≤ w → v < 2 ^ w → turned w r v ≡ (v * 2 ^ w + v) / 2 ^ r % 2 ^ w
-unfolding turned
+turned_is : (w r v : ℕ) → r ≤ w → v < 2 ^ w → rotated w r v ≡ (v * 2 ^ w + v) / 2 ^ r % 2 ^ w
+unfolding rotated
 turned_is w r v le small =
     let high : ℕ = 2 ^ (w - r) in
     let low : ℕ = 2 ^ r in
@@ -81,8 +81,8 @@ copied xs turns place low left right small inside el ea eb =
     let b : ℕ = low % 8 in
     let k : ℕ = 8 * (m - 1 - place) in
     let vl : v < 2 ^ w = subst (λ (n : ℕ). v < n) (pow_of_256 m) (value_below xs small) in
-    let lt : get_or (number_bytes m (turned w r v)) place 0 ≡ d / 2 ^ r % 2 ^ w / 2 ^ k % 2 ^ 8 =
-    get_or-number_bytes m (turned w r v) place inside ∙ ap (λ (n : ℕ). n / 2 ^ k % 2 ^ 8) (turned_is w r v (omega arith) vl) in
+    let lt : get_or (number_bytes m (rotated w r v)) place 0 ≡ d / 2 ^ r % 2 ^ w / 2 ^ k % 2 ^ 8 =
+    get_or-number_bytes m (rotated w r v) place inside ∙ ap (λ (n : ℕ). n / 2 ^ k % 2 ^ 8) (turned_is w r v (omega arith) vl) in
     let ew : w ≡ 8 * (place + 1) + k = omega arith in
     let cut : d / 2 ^ r % 2 ^ w / 2 ^ k % 2 ^ 8 ≡ d / 2 ^ r / 2 ^ k % 2 ^ 8 =
     ap (λ (n : ℕ). d / 2 ^ r % 2 ^ n / 2 ^ k % 2 ^ 8) ew ∙ ap (λ (n : ℕ). n % 2 ^ 8) (field_of (d / 2 ^ r) (8 * (place + 1)) k)
@@ -108,7 +108,7 @@ copied xs turns place low left right small inside el ea eb =
 
 length-copy : (xs : List ℕ) (i : ℕ) → length (copy xs i) ≡ length xs
 unfolding copy
-length-copy xs i = let w : ℕ = 8 * length xs in length-number_bytes (length xs) (turned w (13 * i % w) (value xs))
+length-copy xs i = let w : ℕ = 8 * length xs in length-number_bytes (length xs) (rotated w (13 * i % w) (value xs))
 
 pub length-joined : (xs : List ℕ) (n : ℕ) → length (joined xs n) ≡ length xs * copy_count (length xs) n
 unfolding joined

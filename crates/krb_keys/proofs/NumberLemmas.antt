@@ -11,7 +11,7 @@ use Rattle.std.proofs.lemmas.Grind.{same_number_lists}
 use Rattle.std.proofs.Common.{inl, inr}
 use Rattle.std.proofs.lemmas.List.Elements.{All-nil, All-cons, All-append}
 use Rattle.krb_aes.specs.Bytes.{AreBytes}
-use Rattle.krb_keys.specs.Nfold.{value, number_bytes, residue}
+use Rattle.krb_keys.specs.Nfold.{value, number_bytes, ones_complement}
 
 pub pow_of_256 : (k : ℕ) → 256 ^ k ≡ 2 ^ (8 * k)
 pow_of_256 zero = refl
@@ -155,21 +155,21 @@ add_part_step was sum part n k carry total lw ls lp h same et old =
     ∙ ap (λ (x : ℕ). value (drop k was) + x) (sym (rw lp at (value-drop part k (omega arith))))
 
 -- what is left of s + b, once s is reduced, is what ones' complement addition of what is left of s and b gives
-residue_add : (m s b : ℕ) → 0 < m → b ≤ m → residue m s + b ≤ m → residue m (s + b) ≡ residue m s + b
-unfolding residue
+residue_add : (m s b : ℕ) → 0 < m → b ≤ m → ones_complement m s + b ≤ m → ones_complement m (s + b) ≡ ones_complement m s + b
+unfolding ones_complement
 residue_add m zero zero pos small fits = refl
 residue_add m zero (suc b) pos small fits =
     let e : 0 + suc b ≡ suc b = omega arith in let lt : b < m = omega arith in
-    ap (residue m) e ∙ ap (λ (n : ℕ). n + 1) (mod-eq_of_lt lt) ∙ omega arith
+    ap (ones_complement m) e ∙ ap (λ (n : ℕ). n + 1) (mod-eq_of_lt lt) ∙ omega arith
 residue_add m (suc s) b pos small fits =
     let e : suc s + b ≡ suc (s + b) = omega arith in
     let lt : s % m + b < m = omega arith in
     let split : s + b ≡ s / m * m + (s % m + b) = omega (arith, div-add-mod' s m) in
     let r : (s + b) % m ≡ s % m + b = ap (λ (x : ℕ). x % m) split ∙ mod-mul-add (s / m) m (s % m + b) lt in
-    ap (residue m) e ∙ ap (λ (n : ℕ). n + 1) r ∙ omega arith
+    ap (ones_complement m) e ∙ ap (λ (n : ℕ). n + 1) r ∙ omega arith
 
-residue_wrap : (m s b : ℕ) → 0 < m → b ≤ m → m < residue m s + b → residue m (s + b) + m ≡ residue m s + b
-unfolding residue
+residue_wrap : (m s b : ℕ) → 0 < m → b ≤ m → m < ones_complement m s + b → ones_complement m (s + b) + m ≡ ones_complement m s + b
+unfolding ones_complement
 residue_wrap m zero b pos small over = absurd (omega arith)
 residue_wrap m (suc s) b pos small over =
     let e : suc s + b ≡ suc (s + b) = omega arith in
@@ -177,11 +177,11 @@ residue_wrap m (suc s) b pos small over =
     let lt : s % m + b - m < m = omega arith in
     let split : s + b ≡ (s / m + 1) * m + (s % m + b - m) = omega (arith, div-add-mod' s m) in
     let r : (s + b) % m ≡ s % m + b - m = ap (λ (x : ℕ). x % m) split ∙ mod-mul-add (s / m + 1) m (s % m + b - m) lt in
-    let t : residue m (suc s + b) ≡ (s + b) % m + 1 = ap (residue m) e in
+    let t : ones_complement m (suc s + b) ≡ (s + b) % m + 1 = ap (ones_complement m) e in
     omega arith
 
 -- the sum of two numbers of n bytes: x with the carry c, which comes in again at the low end
-pub ones_complement_sum : (m s b x c : ℕ) → 0 < m → b ≤ m → x ≤ m → c ≤ 1 → x + c * (m + 1) ≡ residue m s + b → x + c ≡ residue m (s + b)
+pub ones_complement_sum : (m s b x c : ℕ) → 0 < m → b ≤ m → x ≤ m → c ≤ 1 → x + c * (m + 1) ≡ ones_complement m s + b → x + c ≡ ones_complement m (s + b)
 ones_complement_sum m s b x zero pos small low bit e =
     let r = residue_add m s b pos small (omega arith) in omega arith
 ones_complement_sum m s b x (suc zero) pos small low bit e =

@@ -69,7 +69,7 @@ unfolding IsDeciphered enciphered
 deciphered_in_place key usage cipher body text ec isKey same value inverse =
     (rw ec at isKey, same, rw ec at value, rw ec at inverse)
 
--- what stands between confounder and checksum, where the checksum was left as it was
+-- what is between confounder and checksum, where the checksum was left as it was
 pub plain_part_of : (text checksum : List ℕ) → length checksum ≡ 12 → plain_part (text ++ checksum) ≡ drop 16 text
 plain_part_of text checksum twelve =
     let cut : length text ≡ length (text ++ checksum) - 12 = omega (arith, length-append text checksum) in

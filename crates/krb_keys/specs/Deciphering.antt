@@ -14,6 +14,6 @@ IsDeciphered key usage body text =
     IsKey ke × (length text ≡ length body)
     × (text ≡ uncts (unaes ke) body) × (enciphered key usage text ≡ body)
 
--- what stands between confounder and checksum
+-- what is between confounder and checksum
 abbrev pub plain_part : List ℕ → List ℕ
 plain_part text = drop 16 (take (length text - 12) text)

@@ -14,14 +14,14 @@ number_bytes zero number = []
 number_bytes (suc n) number = number_bytes n (number / 256) ++ number % 256 ∷ []
 
 -- a number of w bits, rotated right by r of them
-unfoldable pub turned : ℕ → ℕ → ℕ → ℕ
-turned w r number = number / 2 ^ r + number % 2 ^ r * 2 ^ (w - r)
+unfoldable pub rotated : ℕ → ℕ → ℕ → ℕ
+rotated w r number = number / 2 ^ r + number % 2 ^ r * 2 ^ (w - r)
 
 -- copy i of the input, from 0: each is rotated right by 13 bits from the one before
 unfoldable pub copy : List ℕ → ℕ → List ℕ
 copy input i =
     let w : ℕ = 8 * length input in
-    number_bytes (length input) (turned w (13 * i % w) (value input))
+    number_bytes (length input) (rotated w (13 * i % w) (value input))
 
 -- the fewest copies of m bytes that make up whole parts of n bytes: m times their number is the
 -- least common multiple of m and n. Of the first n numbers the last one, n, always is such a
@@ -39,12 +39,12 @@ sum_of_parts n bytes k = sum (map (λ p. value (take n (drop (n * p) bytes))) (r
 
 -- what ones' complement addition makes of a sum s, where m is the number of all ones: 0 for 0,
 -- else the number from 1 to m that equals s modulo m
-unfoldable pub residue : ℕ → ℕ → ℕ
-residue m zero = 0
-residue m (suc s) = s % m + 1
+unfoldable pub ones_complement : ℕ → ℕ → ℕ
+ones_complement m zero = 0
+ones_complement m (suc s) = s % m + 1
 
 -- n-fold to n bytes
 unfoldable pub nfold : List ℕ → ℕ → List ℕ
 nfold input n =
     let text : List ℕ = joined input n in
-    number_bytes n (residue (256 ^ n - 1) (sum_of_parts n text (length text / n)))
+    number_bytes n (ones_complement (256 ^ n - 1) (sum_of_parts n text (length text / n)))

@@ -3,7 +3,7 @@ ghost use Rattle.std.specs.Prelude.{◌≡◌, ◌↔◌, length};
 ghost use Rattle.std.specs.Str.{bytes_eq};
 
 /// Whether two texts are the same, for a checksum or a key that a sender must not find out byte by byte: texts of the
-/// same length are read to their end, wherever they differ, and there is a single test behind the last byte. What the
+/// same length are read to their end, wherever they differ, and there is a single test after the last byte. What the
 /// compiler makes of it isn't claimed, nor is anything about time.
 pub fn are_equal(one: &[u8], other: &[u8]) -> bool
     ensures value { result ≡ bytes_eq one.now other.now }

@@ -6,14 +6,12 @@ use crate::folding::nfold;
 use crate::key::Key;
 use krb_aes::{Aes, BLOCK_LEN};
 
-/// The cipher under a key.
 pub(crate) fn cipher_of(key: &Key) -> Aes
     ensures value { result ≡ bytes_of key.now }
 {
     Aes::of(key.bytes())
 }
 
-// A constant as a block.
 #[tactic(auto, unfolding(crate::specs::Keys::constant_block))]
 fn constant_block(constant: &[u8]) -> [u8; BLOCK_LEN]
     requires some { 1 ≤ length constant.now }
@@ -29,7 +27,6 @@ fn constant_block(constant: &[u8]) -> [u8; BLOCK_LEN]
     block
 }
 
-// The bytes of two blocks.
 fn two_blocks(first: &[u8; BLOCK_LEN], second: &[u8; BLOCK_LEN]) -> [u8; 32]
     ensures { result ≡ first.now ++ second.now }
 {

@@ -1,12 +1,12 @@
 //! n-fold (RFC 3961 section 5.1).
 ghost use Rattle.std.specs.Prelude.{◌≡◌, ℕ, ◌+◌, ◌-◌, ◌*◌, ◌/◌, ◌%◌, ◌^◌, ◌<◌, ◌≤◌, length, take, drop, slice_index};
-ghost use Rattle.krb_keys.specs.Nfold.{value, copy, copy_count, joined, residue, nfold};
+ghost use Rattle.krb_keys.specs.Nfold.{value, copy, copy_count, joined, ones_complement, nfold};
 
 /// The most bytes that `nfold` takes and returns.
 pub const FOLD_MAX_LEN: usize = 1024;
 
 // The bits by which each copy of the input is rotated right from the one before.
-const TURN: usize = 13;
+const ROTATION: usize = 13;
 
 // How many copies of `len` bytes make up whole parts of `part_len` bytes.
 fn copy_count(len: usize, part_len: usize) -> usize
@@ -26,7 +26,7 @@ fn copy_count(len: usize, part_len: usize) -> usize
 }
 
 // Byte `place` of copy `turns` of the input.
-fn copied_byte(input: &[u8], turns: usize, place: usize) -> u8
+fn rotated_byte(input: &[u8], turns: usize, place: usize) -> u8
     requires few { turns < FOLD_MAX_LEN * FOLD_MAX_LEN }
     requires short { length input.now ≤ FOLD_MAX_LEN }
     requires inside { place < length input.now }
@@ -34,7 +34,7 @@ fn copied_byte(input: &[u8], turns: usize, place: usize) -> u8
 {
     let len = input.len();
     // The byte's lowest bit, counted from the low end of the input written twice.
-    let low = TURN * turns % (8 * len) + 8 * (len - 1 - place);
+    let low = ROTATION * turns % (8 * len) + 8 * (len - 1 - place);
     let left = input[(2 * len - 2 - low / 8) % len];
     let right = input[(2 * len - 1 - low / 8) % len];
     let pair = u16::from(left) * 256 + u16::from(right);
@@ -53,7 +53,7 @@ fn take_part(input: &[u8], start: usize, part: &mut [u8])
     let len = input.len();
     for k in 0..part.len() {
         let place = start + k;
-        part[k] = copied_byte(input, place / len, place % len);
+        part[k] = rotated_byte(input, place / len, place % len);
     }
 }
 
@@ -91,8 +91,8 @@ fn add_carry(sum: &mut [u8], carry: u16)
 fn add_part(sum: &mut [u8], part: &[u8])
     requires some { 1 ≤ length part.now }
     requires alike { length sum.old ≡ length part.now }
-    ensures { (s : ℕ) → value sum.old ≡ residue (256 ^ length part.now - 1) s
-        → value sum.new ≡ residue (256 ^ length part.now - 1) (s + value part.now) }
+    ensures { (s : ℕ) → value sum.old ≡ ones_complement (256 ^ length part.now - 1) s
+        → value sum.new ≡ ones_complement (256 ^ length part.now - 1) (s + value part.now) }
 {
     let carry = add_bytes(sum, part);
     add_carry(sum, carry);

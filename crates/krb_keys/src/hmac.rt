@@ -12,9 +12,9 @@ pub const HMAC_LEN: usize = 20;
 // The bytes of a block of SHA-1, B in RFC 2104.
 const HASH_BLOCK_LEN: usize = 64;
 
-const INNER_PAD: u8 = 0x36;
+const IPAD: u8 = 0x36;
 
-const OUTER_PAD: u8 = 0x5c;
+const OPAD: u8 = 0x5c;
 
 // `bytes`, with zeros after them.
 fn zero_padded(bytes: &[u8]) -> [u8; HASH_BLOCK_LEN]
@@ -65,18 +65,16 @@ pub(crate) struct KeyedHmac {
 }
 
 impl KeyedHmac {
-    /// The HMAC under `key`.
     pub(crate) fn new(key: &[u8]) -> KeyedHmac
         ensures { IsKeyed result key.now }
     {
         let block = key_block(key);
         KeyedHmac {
-            inner: hash_of_pad(&block, INNER_PAD),
-            outer: hash_of_pad(&block, OUTER_PAD),
+            inner: hash_of_pad(&block, IPAD),
+            outer: hash_of_pad(&block, OPAD),
         }
     }
 
-    /// The HMAC of `text`.
     pub(crate) fn of(&self, text: &[u8]) -> [u8; HMAC_LEN]
         ensures { (key : List ℕ) → IsKeyed self.now key → result ≡ hmac key text.now }
     {

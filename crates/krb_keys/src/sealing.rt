@@ -53,7 +53,7 @@ pub enum UnsealFault {
 }
 
 // Ke or Ki, by the last byte of its constant.
-fn usage_key(key: &Key, usage: u32, purpose: u8) -> Key
+fn derived_key(key: &Key, usage: u32, purpose: u8) -> Key
     ensures { result ≡ dk key.now (to_be_bytes w32 usage ++ purpose ∷ []) }
 {
     let [a, b, c, d] = usage.to_be_bytes();
@@ -65,7 +65,7 @@ fn usage_key(key: &Key, usage: u32, purpose: u8) -> Key
 fn encryption_cipher(key: &Key, usage: u32) -> Aes
     ensures { result ≡ bytes_of (encryption_key key.now usage) }
 {
-    cipher_of(&usage_key(key, usage, ENCRYPTION))
+    cipher_of(&derived_key(key, usage, ENCRYPTION))
 }
 
 // The checksum of a text, under Ki.
@@ -73,7 +73,7 @@ fn encryption_cipher(key: &Key, usage: u32) -> Aes
 fn checksum_of(key: &Key, usage: u32, text: &[u8]) -> [u8; CHECKSUM_LEN]
     ensures { result ≡ checksum_of key.now usage text.now }
 {
-    let whole = hmac_sha1(usage_key(key, usage, INTEGRITY).bytes(), text);
+    let whole = hmac_sha1(derived_key(key, usage, INTEGRITY).bytes(), text);
     let mut checksum = [0; CHECKSUM_LEN];
     checksum.copy_from_slice(&whole[..CHECKSUM_LEN]);
     checksum
@@ -103,7 +103,6 @@ pub fn seal(
     Ok(text)
 }
 
-// Whether `checksum` is the checksum of a text.
 fn is_checksum(key: &Key, usage: u32, text: &[u8], checksum: &[u8]) -> bool
     ensures value { result ≡ bytes_eq (checksum_of key.now usage text.now) checksum.now }
     ensures bytes { AreBytes text.now }
@@ -112,7 +111,7 @@ fn is_checksum(key: &Key, usage: u32, text: &[u8], checksum: &[u8]) -> bool
 }
 
 // Deciphers a text in place, all but its checksum, and answers whether that checksum is right. Then the plain text
-// stands between confounder and checksum.
+// is between confounder and checksum.
 fn opens_in_place(key: &Key, usage: u32, cipher: &mut [u8]) -> bool
     requires { 28 < length cipher.old }
     ensures len { length cipher.new ≡ length cipher.old }
@@ -126,7 +125,7 @@ fn opens_in_place(key: &Key, usage: u32, cipher: &mut [u8]) -> bool
     is_checksum(key, usage, body, checksum)
 }
 
-// What stands between confounder and checksum.
+// What is between confounder and checksum.
 fn plain_part(mut text: Vec<u8>) -> Vec<u8>
     requires { 28 < length text.items }
     ensures { result.items ≡ plain_part text.items }

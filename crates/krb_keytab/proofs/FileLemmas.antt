@@ -12,25 +12,25 @@ use Rattle.krb_keytab.specs.declared.fault.KeytabFault.{KeytabFault}
 use Rattle.krb_keytab.specs.declared.fault.KeytabFault.TheVariants.{CutOff}
 use Rattle.krb_keytab.specs.Entries.{Entry, entry_at}
 use Rattle.krb_keytab.specs.Keytabs.{◌>>=◌, length_at, is_positive, size_of, record_at, from_place, keytab}
-use Rattle.krb_keytab.specs.Written.{Record, an_entry, a_hole, content, stated, record_bytes}
+use Rattle.krb_keytab.specs.Written.{KeytabRecord, an_entry, a_hole, content, stated, record_bytes}
 use Rattle.krb_keytab.specs.Written.{records_bytes, file_bytes, entries_of, fields, StandsAt, StandFrom}
 use Rattle.krb_keytab.specs.Laws.{WholeIsRead, EndedIsRead, CutIsTold}
 use Rattle.krb_keytab.proofs.RecordLemmas.{at_end}
 use Rattle.krb_keytab.proofs.WrittenLemmas.{entry_again}
 
-is_entry : Record → Bool
+is_entry : KeytabRecord → Bool
 is_entry (an_entry e short after_key) = true
 is_entry (a_hole bytes) = false
 
 -- what the number of a record's length says
-record IsStated (r : Record) : Type 0 where
+record IsStated (r : KeytabRecord) : Type 0 where
   small : stated r < 2 ^ 32
   some : 0 < stated r
   other : stated r ≡ 2 ^ 31 → ⊥
   size : size_of (stated r) ≡ length (content r)
   sign : is_positive (stated r) ≡ is_entry r
 
-stated_of : (place : ℕ) (r : Record) → StandsAt place r → IsStated r
+stated_of : (place : ℕ) (r : KeytabRecord) → StandsAt place r → IsStated r
 unfolding is_entry
 stated_of place (an_entry e short after_key) h =
     let fits = h.1 in
@@ -45,7 +45,7 @@ stated_of place (a_hole bytes) h =
     record { small = omega arith; some = omega arith; other = λ q. omega arith; size = rw is (omega arith); sign = is }
 
 -- a record whose length and bytes are there
-there : (place : ℕ) (bytes rest : List ℕ) (r : Record) → IsStated r → 4 ≤ length bytes → length_at bytes ≡ stated r → drop 4 bytes ≡ content r ++ rest
+there : (place : ℕ) (bytes rest : List ℕ) (r : KeytabRecord) → IsStated r → 4 ≤ length bytes → length_at bytes ≡ stated r → drop 4 bytes ≡ content r ++ rest
     → record_at place bytes ≡ Ok (Some (record { is_entry = is_entry r; bytes = content r; rest = rest }))
 unfolding record_at
 there place bytes rest r is four number behind =
@@ -68,8 +68,8 @@ there place bytes rest r is four number behind =
       drop_at (content r) rest (length (content r)) refl,
     ) refl
 
--- one that ends behind the bytes
-short_of : (place : ℕ) (bytes : List ℕ) (r : Record) → IsStated r → 4 ≤ length bytes → length_at bytes ≡ stated r → length bytes < 4 + length (content r)
+-- one that ends after the bytes
+short_of : (place : ℕ) (bytes : List ℕ) (r : KeytabRecord) → IsStated r → 4 ≤ length bytes → length_at bytes ≡ stated r → length bytes < 4 + length (content r)
     → record_at place bytes ≡ Err (CutOff place)
 unfolding record_at
 short_of place bytes r is four number short =
@@ -94,14 +94,14 @@ zero_at place bytes four number =
     let b : nat_lt (length bytes) 4 ≡ false = le-ltb _ _ four in
     rw (a, b, number) refl
 
--- a record that was written, with others behind it
-stands : (place : ℕ) (r : Record) (rest : List ℕ) → StandsAt place r → record_at place (record_bytes r ++ rest)
+-- a record that was written, with others after it
+stands : (place : ℕ) (r : KeytabRecord) (rest : List ℕ) → StandsAt place r → record_at place (record_bytes r ++ rest)
     ≡ Ok (Some (record { is_entry = is_entry r; bytes = content r; rest = rest }))
 stands place r rest h =
     let is = stated_of place r h in
     there place (record_bytes r ++ rest) rest r is (omega arith) (from_be_bytes-to_be_bytes_4 (stated r) is.small) refl
 
-record_length : (place : ℕ) (r : Record) → place + (4 + length (content r)) ≡ place + length (record_bytes r)
+record_length : (place : ℕ) (r : KeytabRecord) → place + (4 + length (content r)) ≡ place + length (record_bytes r)
 record_length place r = omega arith
 
 past_entry : (place b : ℕ) (bytes rest : List ℕ) (e : Entry) (short : ℕ) (after_key : List ℕ) → StandsAt place (an_entry e short after_key)
@@ -121,7 +121,7 @@ past_hole place b bytes rest hole next =
     let step : from_place (suc b) place bytes ≡ from_place b (place + (4 + length hole)) rest = rw next refl in
     step ∙ ap (λ (p : ℕ). from_place b p rest) (record_length place (a_hole hole))
 
--- what is read, behind entries that were
+-- what is read, after entries that were
 behind : List Entry → Result (List Entry) KeytabFault → Result (List Entry) KeytabFault
 behind front read = read >>= λ es. Ok (front ++ es)
 
@@ -135,10 +135,10 @@ unfolding behind
 after_one e front (Ok es) = refl
 after_one e front (Err fault) = refl
 
-regrouped : (r : Record) (rs : List Record) (rest : List ℕ) → records_bytes (r ∷ rs) ++ rest ≡ record_bytes r ++ (records_bytes rs ++ rest)
+regrouped : (r : KeytabRecord) (rs : List KeytabRecord) (rest : List ℕ) → records_bytes (r ∷ rs) ++ rest ≡ record_bytes r ++ (records_bytes rs ++ rest)
 regrouped r rs rest = ap (λ (x : List ℕ). x ++ rest) (flat_map-cons record_bytes r rs) ∙ append_assoc (record_bytes r) (records_bytes rs) rest
 
-records_length : (place : ℕ) (r : Record) (rs : List Record)
+records_length : (place : ℕ) (r : KeytabRecord) (rs : List KeytabRecord)
     → place + length (record_bytes r) + length (records_bytes rs) ≡ place + length (records_bytes (r ∷ rs))
 records_length place r rs =
     let e : length (records_bytes (r ∷ rs)) ≡ length (record_bytes r) + length (records_bytes rs) =
@@ -146,12 +146,12 @@ records_length place r rs =
     omega (arith, e)
 
 -- what the records and the rest of a file read as
-record ReadsOn (rs : List Record) (place budget : ℕ) (rest : List ℕ) : Type 0 where
+record ReadsOn (rs : List KeytabRecord) (place budget : ℕ) (rest : List ℕ) : Type 0 where
   left : ℕ
   enough : length rest ≤ left
   reads : from_place budget place (records_bytes rs ++ rest) ≡ behind (entries_of rs) (from_place left (place + length (records_bytes rs)) rest)
 
-reads_on : (rs : List Record) (place budget : ℕ) (rest : List ℕ)
+reads_on : (rs : List KeytabRecord) (place budget : ℕ) (rest : List ℕ)
     → StandFrom place rs → length (records_bytes rs ++ rest) ≤ budget → ReadsOn rs place budget rest
 unfolding is_entry
 reads_on [] place budget rest h enough = record {
@@ -164,7 +164,7 @@ reads_on (r ∷ rs) place zero rest h enough =
     let parts = length-append (record_bytes r) (records_bytes rs ++ rest) in
     absurd (omega (arith, size, parts, enough))
 reads_on (an_entry e short after_key ∷ rs) place (suc b) rest h enough =
-    let r : Record = an_entry e short after_key in
+    let r : KeytabRecord = an_entry e short after_key in
     let size = ap length (regrouped r rs rest) in
     let parts = length-append (record_bytes r) (records_bytes rs ++ rest) in
     let more = reads_on rs (place + length (record_bytes r)) b rest h.1 (omega (arith, size, parts, enough)) in
@@ -177,7 +177,7 @@ reads_on (an_entry e short after_key ∷ rs) place (suc b) rest h enough =
           ∙ after_one e (entries_of rs) _ ∙ ap (λ (p : ℕ). behind (e ∷ entries_of rs) (from_place more.left p rest)) (records_length place r rs);
     }
 reads_on (a_hole hole ∷ rs) place (suc b) rest h enough =
-    let r : Record = a_hole hole in
+    let r : KeytabRecord = a_hole hole in
     let size = ap length (regrouped r rs rest) in
     let parts = length-append (record_bytes r) (records_bytes rs ++ rest) in
     let more = reads_on rs (place + length (record_bytes r)) b rest h.1 (omega (arith, size, parts, enough)) in
@@ -197,7 +197,7 @@ opened bytes two number =
     let a : nat_lt (length bytes) 2 ≡ false = le-ltb _ _ two in
     rw (a, number) refl
 
-file_reads : (rs : List Record) (rest : List ℕ) → StandFrom 2 rs → (left : ℕ) × (length rest ≤ left)
+file_reads : (rs : List KeytabRecord) (rest : List ℕ) → StandFrom 2 rs → (left : ℕ) × (length rest ≤ left)
     × (keytab (file_bytes rs ++ rest) ≡ behind (entries_of rs) (from_place left (2 + length (records_bytes rs)) rest))
 file_reads rs rest h =
     let file : List ℕ = file_bytes rs ++ rest in
@@ -232,7 +232,7 @@ ended_is_read rs more h =
     f.2 ∙ well (entries_of rs) _ (ends_well f.0 _ (0 ∷ 0 ∷ 0 ∷ 0 ∷ more) (zero_at _ _ (omega arith) refl))
 
 -- the front of a record alone
-front_cut : (place : ℕ) (r : Record) (front lost : List ℕ) → IsStated r
+front_cut : (place : ℕ) (r : KeytabRecord) (front lost : List ℕ) → IsStated r
     → record_bytes r ≡ front ++ lost → 0 < length front → 0 < length lost → record_at place front ≡ Err (CutOff place)
 front_cut place r front lost is parts some gone =
     elim (cases_lt (length front) 4) [

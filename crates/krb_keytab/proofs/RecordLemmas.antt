@@ -45,7 +45,7 @@ found : (place : ℕ) (a b c d e : Bool) (p q : Piece)
 found place false false false false false p q h = (refl, refl, cc)
 found place a b c d e p q h = cc
 
--- a record and what follows it make up the bytes, behind the four of its length
+-- a record and what follows it make up the bytes, after the four of its length
 pub whole : (place : ℕ) (bytes : List ℕ) (piece : Piece) → record_at place bytes ≡ Ok (Some piece) → length bytes ≡ 4 + length piece.bytes + length piece.rest
 unfolding record_at
 whole place bytes piece h =

@@ -13,7 +13,7 @@ use Rattle.krb_keytab.specs.declared.fault.KeytabFault.{KeytabFault}
 use Rattle.krb_keytab.specs.declared.fault.KeytabFault.TheVariants.{NotKeytab, CutOff, BadLength}
 use Rattle.krb_keytab.specs.Entries.{Entry, entry_at}
 use Rattle.krb_keytab.specs.Keytabs.{Piece, ◌>>=◌, length_at, is_positive, size_of, or_bad, record_at, entries_from, from_place}
-use Rattle.krb_keytab.specs.Written.{Record, an_entry, a_hole, stated, record_bytes, records_bytes, file_bytes, entries_of, StandFrom}
+use Rattle.krb_keytab.specs.Written.{KeytabRecord, an_entry, a_hole, stated, record_bytes, records_bytes, file_bytes, entries_of, StandFrom}
 use Rattle.krb_keytab.specs.Laws.{IsEnd, ReadIsWritten}
 use Rattle.krb_keytab.proofs.SoundLemmas.{IsBytes, IsBytes-take, IsBytes-drop, sound32, IsWritten, entry_takes}
 
@@ -105,14 +105,14 @@ end_is place bytes fits h =
 
 -- the bytes are those of records from this place on, and an end
 record IsFile (place : ℕ) (bytes : List ℕ) (es : List Entry) : Type 0 where
-  written : List Record
+  written : List KeytabRecord
   rest : List ℕ
   stand : StandFrom place written
   parts : bytes ≡ records_bytes written ++ rest
   ended : IsEnd rest
   entries : es ≡ entries_of written
 
-one_more : (r : Record) (rs : List Record) (bytes behind rest : List ℕ)
+one_more : (r : KeytabRecord) (rs : List KeytabRecord) (bytes behind rest : List ℕ)
     → bytes ≡ record_bytes r ++ behind → behind ≡ records_bytes rs ++ rest → bytes ≡ records_bytes (r ∷ rs) ++ rest
 one_more r rs bytes behind rest h g = h
     ∙ ap (λ (t : List ℕ). record_bytes r ++ t) g ∙ sym (ap (λ (t : List ℕ). t ++ rest) (flat_map-cons record_bytes r rs)
@@ -126,7 +126,7 @@ with_entry place n bytes piece e es is yes' one more =
     let positive : n < 2 ^ 31 = ltb-true _ _ (is.sign ∙ yes') in
     let size : n ≡ length piece.bytes = sym (ap (λ (b : Bool). cond b n (2 ^ 32 - n)) (is.sign ∙ yes')) ∙ is.size in
     let w = entry_takes place piece.bytes e is.bytes_fit (omega arith) one in
-    let r : Record = an_entry e w.0 w.1 in
+    let r : KeytabRecord = an_entry e w.0 w.1 in
     let stated_is : n ≡ stated r = size ∙ ap length w.2 in
     let whole : bytes ≡ record_bytes r ++ piece.rest =
     is.parts ∙ ap (λ (k : ℕ). to_be_bytes w32 k ++ (piece.bytes ++ piece.rest)) stated_is
@@ -149,7 +149,7 @@ with_hole place n bytes piece es is no' more =
     let size : 2 ^ 32 - n ≡ length piece.bytes = sym (ap (λ (b : Bool). cond b n (2 ^ 32 - n)) (is.sign ∙ no')) ∙ is.size in
     let small = is.small in
     let other = is.other in
-    let r : Record = a_hole piece.bytes in
+    let r : KeytabRecord = a_hole piece.bytes in
     let stated_is : n ≡ stated r = omega arith in
     let whole : bytes ≡ record_bytes r ++ piece.rest = is.parts ∙ ap (λ (k : ℕ). to_be_bytes w32 k ++ (piece.bytes ++ piece.rest)) stated_is in
     let next : place + (4 + length piece.bytes) ≡ place + length (record_bytes r) = omega arith in

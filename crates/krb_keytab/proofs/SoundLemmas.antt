@@ -75,7 +75,7 @@ number_takes w limit sound bytes n rest fits e =
     subst (λ (p : ℕ × List ℕ). (bytes ≡ to_be_bytes w p.0 ++ p.1) × IsBytes p.1 × (p.0 < limit)) g.1
     (parts, IsBytes-drop (byte_len w) bytes fits, sound.below front (IsBytes-take (byte_len w) bytes fits))
 
--- ---- bytes behind their count, and lists of them
+-- ---- bytes after their count, and lists of them
 
 counted_takes : (bytes text rest : List ℕ) → IsBytes bytes → counted_at bytes ≡ Some (text, rest) → (bytes ≡ counted text ++ rest) × IsBytes rest × IsShort text
 unfolding counted_at
@@ -116,7 +116,7 @@ components_take (suc n) bytes x fits e =
 signed_fits : (n : ℕ) → n < 2 ^ 16 → FitsSigned w16 (cast_signed w16 n)
 signed_fits n lt = omega (arith, ints)
 
--- what entry_at does behind each of its fields
+-- what entry_at does after each of its fields
 abbrev from_key : (place : ℕ) (realm : List ℕ) (components : List (List ℕ)) (name_type timestamp short etype : ℕ) → List ℕ × List ℕ → Option Entry
 from_key place realm components name_type timestamp short etype key = Some (record {
   place = place;

@@ -1,7 +1,7 @@
 -- What the readers answer, seen as the definitions give it.
 use Rattle.std.specs.Prelude.{◌≡◌, ℕ, List, map, Option, Some, None, Result, Ok, Err}
 use Rattle.krb_keytab.specs.declared.entry.KeytabEntry.{KeytabEntry}
-use Rattle.krb_keytab.specs.declared.records.Record.{Record}
+use Rattle.krb_keytab.specs.declared.records.KeytabRecord.{KeytabRecord}
 use Rattle.krb_keytab.specs.declared.fault.KeytabFault.{KeytabFault}
 use Rattle.krb_keytab.specs.declared.fault.KeytabError.{KeytabError}
 use Rattle.krb_keytab.specs.declared.fault.KeytabError.TheVariants as error
@@ -44,10 +44,10 @@ FieldGives seen (Ok x) defined = defined ≡ Some (seen x)
 FieldGives seen (Err e) defined = FieldFails e defined
 
 -- a record that was found
-abbrev pub piece_at : Record → Piece
+abbrev pub piece_at : KeytabRecord → Piece
 piece_at r = record { is_entry = r.is_entry; bytes = r.bytes.now; rest = r.rest.now }
 
-abbrev pub piece_of : Result (Option Record) KeytabFault → Result (Option Piece) KeytabFault
+abbrev pub piece_of : Result (Option KeytabRecord) KeytabFault → Result (Option Piece) KeytabFault
 piece_of (Ok None) = Ok None
 piece_of (Ok (Some r)) = Ok (Some (piece_at r))
 piece_of (Err fault) = Err fault

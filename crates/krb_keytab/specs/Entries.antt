@@ -1,4 +1,4 @@
--- The entry of a record (MIT Kerberos, keytab file format 0x0502): its fields stand one after the
+-- The entry of a record (MIT Kerberos, keytab file format 0x0502): its fields come one after the
 -- other, each number high byte first.
 use Rattle.std.specs.Prelude.{ℕ, ℤ, zero, suc, List, [], ◌∷◌, ◌==◌, nat_lt, if◌then◌else◌, length, take, drop, Option, Some, None}
 use Rattle.std.specs.Int.{Width, w8, w16, w32, byte_len, cast_signed, from_be_bytes}

@@ -23,29 +23,29 @@ fields e short after_key =
     ++ after_key)))))))
 
 -- a record: an entry, or a hole with whatever it holds
-pub data Record : Type 0 where
-  an_entry : (e : Entry) (short : ℕ) (after_key : List ℕ) → Record
-  a_hole : (bytes : List ℕ) → Record
+pub data KeytabRecord : Type 0 where
+  an_entry : (e : Entry) (short : ℕ) (after_key : List ℕ) → KeytabRecord
+  a_hole : (bytes : List ℕ) → KeytabRecord
 
-abbrev pub content : Record → List ℕ
+abbrev pub content : KeytabRecord → List ℕ
 content (an_entry e short after_key) = fields e short after_key
 content (a_hole bytes) = bytes
 
 -- the number in the four bytes of its length: a hole's is negative
-abbrev pub stated : Record → ℕ
+abbrev pub stated : KeytabRecord → ℕ
 stated (an_entry e short after_key) = length (fields e short after_key)
 stated (a_hole bytes) = 2 ^ 32 - length bytes
 
-abbrev pub record_bytes : Record → List ℕ
+abbrev pub record_bytes : KeytabRecord → List ℕ
 record_bytes r = to_be_bytes w32 (stated r) ++ content r
 
-abbrev pub records_bytes : List Record → List ℕ
+abbrev pub records_bytes : List KeytabRecord → List ℕ
 records_bytes rs = flat_map record_bytes rs
 
-abbrev pub file_bytes : List Record → List ℕ
+abbrev pub file_bytes : List KeytabRecord → List ℕ
 file_bytes rs = 5 ∷ 2 ∷ records_bytes rs
 
-abbrev pub entries_of : List Record → List Entry
+abbrev pub entries_of : List KeytabRecord → List Entry
 entries_of [] = []
 entries_of (an_entry e short after_key ∷ rs) = e ∷ entries_of rs
 entries_of (a_hole bytes ∷ rs) = entries_of rs
@@ -67,11 +67,11 @@ pub record Fits (e : Entry) (short : ℕ) (after_key : List ℕ) : Type 0 where
   pub size : length (fields e short after_key) < 2 ^ 31
 
 -- a record that begins at this place
-abbrev pub StandsAt : ℕ → Record → Type 0
+abbrev pub StandsAt : ℕ → KeytabRecord → Type 0
 StandsAt place (an_entry e short after_key) = (e.place ≡ place) × Fits e short after_key
 StandsAt place (a_hole bytes) = (0 < length bytes) × (length bytes < 2 ^ 31)
 
 -- records that follow one another from this place on
-abbrev pub StandFrom : ℕ → List Record → Type 0
+abbrev pub StandFrom : ℕ → List KeytabRecord → Type 0
 StandFrom place [] = Unit {0}
 StandFrom place (r ∷ rs) = StandsAt place r × StandFrom (place + length (record_bytes r)) rs

@@ -7,7 +7,7 @@ use crate::fault::KeytabFault;
 
 /// A record: an entry, or a hole.
 #[derive(Clone, Copy, Drop)]
-pub(crate) struct Record<'a> {
+pub(crate) struct KeytabRecord<'a> {
     pub is_entry: bool,
     /// The bytes after its length.
     pub bytes: &'a [u8],
@@ -25,7 +25,10 @@ const LENGTH_RANGE: usize = 1 << 32;
 /// The record at the front of the bytes, which begin at this place of the file. `None` where the file ends: there are
 /// no more bytes, or the length is zero.
 #[tactic(auto, unfolding(crate::specs::Keytabs::record_at))]
-pub(crate) fn next_record(place: usize, bytes: &[u8]) -> Result<Option<Record<'_>>, KeytabFault>
+pub(crate) fn next_record(
+    place: usize,
+    bytes: &[u8],
+) -> Result<Option<KeytabRecord<'_>>, KeytabFault>
     ensures value { piece_of result ≡ record_at place bytes.now }
 {
     let [a, b, c, d, behind @ ..] = bytes else {
@@ -52,7 +55,7 @@ pub(crate) fn next_record(place: usize, bytes: &[u8]) -> Result<Option<Record<'_
         return Err(KeytabFault::CutOff { place });
     }
     let (bytes, rest) = behind.split_at(size);
-    Ok(Some(Record {
+    Ok(Some(KeytabRecord {
         is_entry,
         bytes,
         rest,

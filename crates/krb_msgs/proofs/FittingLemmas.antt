@@ -92,7 +92,7 @@ tickets_are_short realm part service confounder c16 =
     let short = texts_are_short types.ticket (ticket_value (ticket_of realm part service confounder)) in
     omega (arith, len, short)
 
--- the fields of an AP-REQ before its ticket, and that behind it
+-- the fields of an AP-REQ before its ticket, and that after it
 abbrev request_value : ℕ → Value types.ticket → Key → List ℕ → Value ap_req
 request_value options v key cipher =
     protocol.pvno & protocol.krb_ap_req & options & v & sealed_value key None cipher & tt

@@ -42,13 +42,13 @@ found_passes (of_none h e) = absurd (ok_err e)
 time_again : (bytes : List ℕ) (t : ℤ) → IsTime bytes t → is_in_range kerberos_time t ≡ true
 time_again bytes t h = ap is_some ((time_of-exact t bytes).1 h)
 
--- what stands behind an optional field
+-- what follows an optional field
 behind : {A B : Type 0} (spells : List ℕ → A → Type 0) (rest : List ℕ → B → Type 0) (bytes : List ℕ) (v : Option A) (w : B)
     → IsOptional spells rest bytes v w → (others : List ℕ) × rest others w
 behind spells rest bytes None w h = (bytes, h)
 behind spells rest bytes (Some v) w h = (h.1, h.4)
 
--- the fields behind cksum
+-- the fields after cksum
 abbrev time_fields : Shape
 time_fields =
     field (tagged 0xa4 microseconds) (field (tagged 0xa5 kerberos_time)

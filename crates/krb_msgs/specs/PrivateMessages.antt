@@ -38,7 +38,7 @@ MayFollow (Some first) (Some second) = first ≡ second
 abbrev pub has_expected_number : Option SeqNumber → Option SeqNumber → Bool
 has_expected_number first second = is_none first || is_some second
 
--- microseconds stand beside a timestamp
+-- microseconds come with a timestamp
 abbrev pub has_whole_time : EncKrbPrivPart → Bool
 has_whole_time part = is_none part.timestamp || is_some part.usec
 

@@ -35,13 +35,13 @@ pub(crate) fn address_of(alloc: Global, host: IpAddr) -> Result<HostAddress, All
     ensures short { IfOk result (λ address. length (octets_of host) ≤ 16) }
 {
     match host {
-        IpAddr::V4(ip) => made(alloc, ADDR_TYPE_IPV4, &ip.octets()),
-        IpAddr::V6(ip) => made(alloc, ADDR_TYPE_IPV6, &ip.octets()),
+        IpAddr::V4(ip) => typed_address(alloc, ADDR_TYPE_IPV4, &ip.octets()),
+        IpAddr::V6(ip) => typed_address(alloc, ADDR_TYPE_IPV6, &ip.octets()),
     }
 }
 
 // The address of this type and with these bytes.
-fn made(alloc: Global, addr_type: i32, octets: &[u8]) -> Result<HostAddress, AllocError>
+fn typed_address(alloc: Global, addr_type: i32, octets: &[u8]) -> Result<HostAddress, AllocError>
     ensures value { IfOk result (λ address. address ≡ record { addr_type = addr_type; address = octets.now }) }
 {
     Ok(HostAddress {

@@ -16,7 +16,7 @@ pub fn openings()
     ensures krb_error { ErrorsOpen }
 {}
 
-/// Two AP-REQs with the same sealed parts and service key open alike, where both open: what stands in the clear can
+/// Two AP-REQs with the same sealed parts and service key open alike, where both open: what is in the clear can
 /// turn one into a fault, but never into another request.
 pub fn sealed_parts()
     ensures ap_req { ApReqsOpenAlike }

@@ -28,7 +28,6 @@ pub enum Strictness {
 /// What a KRB-PRIV says, once it is opened.
 #[derive(Drop)]
 pub struct Private {
-    /// Its user-data.
     pub user_bytes: OctetString,
     /// Its timestamp, in seconds since 1970-01-01T00:00:00Z.
     pub stamp: Option<i64>,
@@ -77,7 +76,7 @@ fn has_expected_number(first: Option<SeqNumber>, second: Option<SeqNumber>) -> b
     first.is_none() || second.is_some()
 }
 
-// Whether microseconds stand beside a timestamp.
+// Whether microseconds come with a timestamp.
 fn has_whole_time(part: &EncKrbPrivPart) -> bool
     ensures { result ≡ specs_of.has_whole_time part.now }
 {

@@ -105,7 +105,6 @@ fn is_krb_error(message: &KrbError) -> bool
     message.pvno == PVNO && message.msg_type == KRB_ERROR
 }
 
-// The error code of a KRB-ERROR.
 fn error_code_in(message: &KrbError) -> Option<i32>
     ensures { result ≡ Some message.now.error_code }
 {

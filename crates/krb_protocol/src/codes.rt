@@ -30,7 +30,6 @@ pub const KDC_ERR_ETYPE_NOSUPP: i32 = 14;
 /// A sealed part that can't be opened.
 pub const KRB_AP_ERR_BAD_INTEGRITY: i32 = 31;
 
-/// The ticket has expired.
 pub const KRB_AP_ERR_TKT_EXPIRED: i32 = 32;
 
 /// The ticket isn't valid yet.

@@ -2,8 +2,8 @@
 use crate::reload::file::config_of;
 use crate::reload::journal::{journal_of, number};
 use chpw_journal::restore_file;
-use chpw_printing::{put_behind_space, put_name};
-use chpw_reload::{Refused, ReloadFault, Reloaded, finish, prepare, put_fault};
+use chpw_printing::{put_after_space, put_name};
+use chpw_reload::{NextTable, RefusedReload, ReloadFault, finish, prepare, put_fault};
 use chpw_rules::Name;
 use chpw_table::{KeyRow, Table};
 use std::alloc::Global;
@@ -65,7 +65,7 @@ fn show_refused(text: &mut Vec<u8>, fault: &ReloadFault, closed: &Table) -> Resu
     show_table(text, closed)
 }
 
-fn show_reloaded(text: &mut Vec<u8>, reloaded: &Reloaded) -> Result<(), Fault> {
+fn show_reloaded(text: &mut Vec<u8>, reloaded: &NextTable) -> Result<(), Fault> {
     text.extend_from_slice(b"goes on:")?;
     show_table(text, &reloaded.table)?;
     for name in reloaded.lacked.as_slice() {
@@ -84,7 +84,7 @@ fn show_table(text: &mut Vec<u8>, table: &Table) -> Result<(), Fault> {
         show_principal(text, table, name)?;
     }
     text.extend_from_slice(b" count")?;
-    put_behind_space(text, table.count())?;
+    put_after_space(text, table.count())?;
     if table.quiet_until() == 300 {
         text.extend_from_slice(b" quiet")?;
     }
@@ -102,7 +102,7 @@ fn show_principal(text: &mut Vec<u8>, table: &Table, name: &Name) -> Result<(), 
 
 fn show_keys(text: &mut Vec<u8>, keys: &[KeyRow]) -> Result<(), Fault> {
     for key in keys {
-        put_behind_space(text, key.kvno)?;
+        put_after_space(text, key.kvno)?;
     }
     Ok(())
 }

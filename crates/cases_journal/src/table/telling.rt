@@ -52,7 +52,7 @@ fn print_form<W: Write>(
 
 // What `table` prints on standard error.
 fn print_torn<W: Write>(out: &mut W, held: &HeldTable) -> Result<()> {
-    match held.torn_behind {
+    match held.torn_after {
         Some(behind) => writeln!(out, "a torn record begins after {behind} bytes"),
         None => Ok(()),
     }

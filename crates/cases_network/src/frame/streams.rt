@@ -2,7 +2,7 @@
 
 use crate::frame::framing::hex_text;
 use crate::words::bytes;
-use chpw_frame::{LONGEST_MESSAGE, Received, read_tcp, write_tcp};
+use chpw_frame::{LONGEST_MESSAGE, TcpOutcome, read_tcp, write_tcp};
 use std::alloc::Global;
 use std::io;
 use support_streams::{Course, Giver, Taker, Way};
@@ -52,16 +52,16 @@ fn read(alloc: Global, way: Way, stream: &[u8]) -> io::Result<(String, u32)> {
     ))
 }
 
-fn shown_piece(alloc: Global, received: &Received) -> io::Result<String> {
+fn shown_piece(alloc: Global, received: &TcpOutcome) -> io::Result<String> {
     let text = match received {
-        Received::Message(message) => {
+        TcpOutcome::Message(message) => {
             let message = shown_short(alloc, message)?;
             return Ok(format!(in alloc; "message {message}")?);
         }
-        Received::Ended => "ended",
-        Received::CutOff => "cut off",
-        Received::TooLong => "too long",
-        Received::ReadFault => "read fault",
+        TcpOutcome::Ended => "ended",
+        TcpOutcome::CutOff => "cut off",
+        TcpOutcome::TooLong => "too long",
+        TcpOutcome::ReadFault => "read fault",
     };
     Ok(String::from_str(alloc, text)?)
 }

@@ -6,7 +6,9 @@ ghost use Rattle.chpw_table.specs.Times.{IsMoment};
 use crate::log::making::opened_request;
 use crate::log::words::{address, error_of, kind_of, maybe_number, number, text_of, verdict_of};
 use crate::log::{events, updates};
-use chpw_log::{Asked, Held, HeldCounts, Line, LineLimits, MessageEvent, write_held, write_line};
+use chpw_log::{
+    ClientAndTarget, HeldCount, HeldCounts, Line, LineLimits, MessageEvent, write_held, write_line,
+};
 use chpw_table::{LAST_SECOND, Moment};
 use krb_protocol::Refusal;
 use std::alloc::Global;
@@ -57,7 +59,7 @@ fn decided_line(alloc: Global, place: Place, words: &[&str]) -> Result<String, F
     };
     let opened = opened_request(alloc, client, target)?;
     let news = MessageEvent::Decided {
-        asked: Asked::of(&opened),
+        asked: ClientAndTarget::of(&opened),
         verdict: verdict_of(verdict)?,
         kvno: maybe_number(kvno)?,
     };
@@ -72,7 +74,7 @@ fn full_line(alloc: Global, place: Place, words: &[&str]) -> Result<String, Faul
     let opened = opened_request(alloc, client, target)?;
     let refusal = refusal(code, error, text)?;
     let news = MessageEvent::Full {
-        asked: Asked::of(&opened),
+        asked: ClientAndTarget::of(&opened),
         refusal: &refusal,
     };
     message_line(alloc, place, news)
@@ -112,7 +114,7 @@ fn held_line(alloc: Global, words: &[&str]) -> Result<String, Fault> {
     if !is_moment(moment) || loopback > 1_000_000 || other > 1_000_000 - loopback {
         return Err(Fault::NoSuchCase);
     }
-    let held = Held {
+    let held = HeldCount {
         loopback,
         other,
         since: 0,
@@ -147,9 +149,9 @@ fn push_counts(text: &mut String, told: HeldCounts) -> Result<(), Fault> {
     push_told(text, "replayed", told.replayed)
 }
 
-fn push_told(text: &mut String, kind: &str, told: Option<Held>) -> Result<(), Fault> {
+fn push_told(text: &mut String, kind: &str, told: Option<HeldCount>) -> Result<(), Fault> {
     if let Some(
-        Held {
+        HeldCount {
             loopback,
             other,
             ..

@@ -4,7 +4,7 @@ ghost use Rattle.chpw_client.specs.Questions.{latest_second};
 ghost use Rattle.chpw_rules.specs.Names.{is_name};
 
 use crate::words::no_case;
-use chpw_client::{LAST_START, LONGEST_PASSWORD, Sent, client_request};
+use chpw_client::{LAST_START, LONGEST_PASSWORD, SentRequest, client_request};
 use chpw_rules::{Config, Name};
 use chpw_table::Moment;
 use std::alloc::Global;
@@ -53,7 +53,7 @@ impl<'a> Question<'a> {
         second: i64,
         micros: u32,
         words: &mut Counting,
-    ) -> io::Result<Sent> {
+    ) -> io::Result<SentRequest> {
         let password = self.password.as_bytes();
         if password.len() > LONGEST_PASSWORD
             || !config.fits()

@@ -4,7 +4,7 @@ use crate::client::asking::Question;
 use crate::client::reading::{read_when_changed, read_when_cut, reply_line};
 use crate::client::replying::{read_configuration, reply_of};
 use crate::words::no_case;
-use chpw_client::Sent;
+use chpw_client::SentRequest;
 use hex::{decode, encode};
 use std::alloc::{AllocError, Global};
 use std::io::{self, Error};
@@ -24,7 +24,7 @@ pub struct Cases {
     answered: i64,
     words: Counting,
     /// The requests so far.
-    sent: Vec<Sent>,
+    sent: Vec<SentRequest>,
     /// The last reply.
     reply: Vec<u8>,
 }
@@ -110,7 +110,7 @@ impl Cases {
         self.again(alloc)
     }
 
-    fn request(&mut self, alloc: Global, text: &str) -> io::Result<Sent> {
+    fn request(&mut self, alloc: Global, text: &str) -> io::Result<SentRequest> {
         let question = Question::of(alloc, text)?;
         let config = read_configuration(alloc, self.client.as_str())?;
         let micros = u32::try_from(self.sent.len()).unwrap_or(0);
@@ -165,7 +165,7 @@ impl Cases {
 }
 
 /// What the client prints for a reply in hexadecimal.
-fn reply_line_of(alloc: Global, sent: &Sent, hex: &str) -> io::Result<String> {
+fn reply_line_of(alloc: Global, sent: &SentRequest, hex: &str) -> io::Result<String> {
     match decode(alloc, hex) {
         Ok(reply) => reply_line(alloc, sent, &reply),
         Err(_) => Err(no_case()),

@@ -5,7 +5,7 @@ ghost use Rattle.chpw_rules.specs.Fitting.{config_fits};
 use crate::words::no_case;
 use chpw_config::read_config;
 use chpw_endpoints::Endpoints;
-use chpw_frame::{LONGEST_MESSAGE, Received, read_tcp, write_tcp};
+use chpw_frame::{LONGEST_MESSAGE, TcpOutcome, read_tcp, write_tcp};
 use chpw_rules::Config;
 use chpw_serve::serve_alone;
 use std::alloc::Global;
@@ -47,7 +47,7 @@ pub fn reply_of(
 /// The first of these replies.
 fn first_reply(alloc: Global, mut replies: &[u8]) -> io::Result<Vec<u8>> {
     match read_tcp(alloc, &mut replies)? {
-        Received::Message(reply) => Ok(reply),
+        TcpOutcome::Message(reply) => Ok(reply),
         _ => Err(no_case()),
     }
 }

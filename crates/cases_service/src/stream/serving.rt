@@ -5,7 +5,7 @@ use crate::stream::setting::{Holding, Setting};
 use crate::words::no_case;
 use chpw_decider::{Alone, Decider};
 use chpw_endpoints::Endpoints;
-use chpw_frame::{Received, read_tcp, write_tcp};
+use chpw_frame::{TcpOutcome, read_tcp, write_tcp};
 use chpw_journal::MemorySink;
 use chpw_serve::{Ended, Gate, Messages, Observer, serve_alone, serve_stream};
 use std::alloc::Global;
@@ -203,7 +203,7 @@ pub fn shown_replies(alloc: Global, messages: &[&Message], written: &[u8]) -> io
     let mut left = written;
     let mut shown = String::new(alloc);
     for message in messages {
-        let Received::Message(reply) = read_tcp(alloc, &mut left)? else {
+        let TcpOutcome::Message(reply) = read_tcp(alloc, &mut left)? else {
             break;
         };
         show_reply(alloc, &mut shown, message, &reply)?;

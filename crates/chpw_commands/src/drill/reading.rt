@@ -4,7 +4,7 @@ ghost use Rattle.std.specs.Io.KnownBytes.{Consumes, IsAtEnd};
 ghost use Rattle.chpw_commands.specs.declared.drill.DrillFault.TheVariants.{Memory, Read as ReadFault};
 
 use crate::drill::DrillFault;
-use chpw_read_fully::{Filled, fill};
+use chpw_read_fully::{FillOutcome, fill};
 use std::alloc::Global;
 use std::io::Read;
 
@@ -33,9 +33,9 @@ pub fn read_script<R: Read>(
     let mut chunk = [0; CHUNK];
     loop {
         let (count, ended) = match fill(reader, &mut chunk, reads) {
-            Filled::Whole => (CHUNK, false),
-            Filled::Short(count) => (count, true),
-            Filled::Fault(_) => return Err(DrillFault::Read),
+            FillOutcome::Whole => (CHUNK, false),
+            FillOutcome::Short(count) => (count, true),
+            FillOutcome::Fault(_) => return Err(DrillFault::Read),
         };
         if script.extend_from_slice(&chunk[..count]).is_err() {
             return Err(DrillFault::Memory);

@@ -127,11 +127,11 @@ fn takes_principal(config: &Config, row: &PrincipalRow) -> bool
     ensures value { result ≡ takes_principal config.now row.now }
 {
     let principals = config.principals.as_slice();
-    principals.len() < PRINCIPAL_COUNTS.high && !stands_in(principals, row)
+    principals.len() < PRINCIPAL_COUNTS.high && !is_in_list(principals, row)
 }
 
 // Whether one of these has the name.
-fn stands_in(principals: &[PrincipalRow], row: &PrincipalRow) -> bool
+fn is_in_list(principals: &[PrincipalRow], row: &PrincipalRow) -> bool
     ensures value { result ≡ list_any (is_same_principal row.now) principals.now }
 {
     principals.iter().any(|other| row.name.is_same(&other.name))

@@ -21,7 +21,7 @@ use std::alloc::{AllocError, Global};
 
 // A change with all the memory that it needs.
 #[derive(Drop)]
-pub(super) struct Change {
+pub(super) struct PreparedChange {
     // The principal's place.
     pub(super) place: usize,
     // Its keys from then on.
@@ -33,7 +33,7 @@ pub(super) struct Change {
 
 impl Table {
     // The change for a request that no row refuses.
-    pub(super) fn change(&self, opened: &Opened) -> Result<Change, AllocError>
+    pub(super) fn change(&self, opened: &Opened) -> Result<PreparedChange, AllocError>
         requires done { is_done (key_row self.now.state opened.now false) ≡ true }
         requires derived { has_count (digest_of opened.now).derived (new_count self.now.state)
             ≡ true }
@@ -59,7 +59,7 @@ impl Table {
         let alloc = *self.principals.allocator();
         let keys = with_front(alloc, key, held, kept_by(self.standing.policy()))?;
         let record = record_bytes(alloc, name, &key)?;
-        Ok(Change {
+        Ok(PreparedChange {
             place,
             keys,
             record,

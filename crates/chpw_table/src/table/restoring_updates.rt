@@ -80,7 +80,6 @@ impl Table {
         Ok(())
     }
 
-    // The place of a key that was adopted.
     fn adopted_place(&self, name: &Name, key: KeyRow) -> Result<Placement, KeyFault>
         requires name { is_name name.now ≡ true }
         requires count { is_in iteration_counts key.count ≡ true }
@@ -101,7 +100,6 @@ impl Table {
         Ok(self.place_adopted(name, key)?)
     }
 
-    // The place of a key that was lifted.
     fn lifted_place(&self, name: &Name, key: KeyRow) -> Result<Placement, KeyFault>
         requires count { is_in iteration_counts key.count ≡ true }
         ensures next { OnOk result (IsNextUpdate Lift self.now.state name.now key) }

@@ -14,7 +14,7 @@ use std::alloc::{AllocError, Global};
 
 /// What a table leaves to the one of a next run, beside its keys, which the journal has.
 #[derive(Drop)]
-pub struct Carried {
+pub struct ResumeState {
     /// The used ids; those too old to be judged may lack.
     pub ids: Items<RequestId>,
     /// Its clock, seconds since 1970: the latest moment of an event, 0 to `LAST_SECOND`.
@@ -25,11 +25,11 @@ pub struct Carried {
 
 impl Table {
     /// A copy of what it leaves.
-    pub fn carried(&self, alloc: Global) -> Result<Carried, AllocError>
+    pub fn carried(&self, alloc: Global) -> Result<ResumeState, AllocError>
         ensures value { IfOk result (λ carried. carried ≡ carried_of self.now.state) }
         ensures clock { IfOk result (λ carried. IsTime carried.clock) }
     {
-        Ok(Carried {
+        Ok(ResumeState {
             ids: copied_ids(alloc, &self.used)?,
             clock: self.clock,
             quiet_until: self.standing.quiet_until(),
@@ -39,12 +39,12 @@ impl Table {
     /// This table as the opening one of a run that takes over what a former one left: used ids, clock and quiet time are
     /// that one's, all else is this one's. Events and changes are counted from 0. Refused if there are more than 2^31
     /// ids, as the memory that they would take is.
-    pub fn resume(self, alloc: Global, carried: Carried) -> Result<Table, AllocError>
+    pub fn resume(self, alloc: Global, carried: ResumeState) -> Result<Table, AllocError>
         requires clock { IsTime carried.clock }
         ensures resumed { IfOk result (λ t. Agrees t.state (resumed carried self.state)) }
         ensures counts { IfOk result (λ t. (t.events ≡ 0) × (t.seen ≡ 0) × (t.max_entries ≡ self.max_entries)) }
     {
-        let Carried {
+        let ResumeState {
             ids,
             clock,
             quiet_until,

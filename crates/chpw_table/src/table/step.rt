@@ -14,7 +14,7 @@ ghost use Rattle.chpw_table.specs.Holding.{are_holders, id_cmp, young_ids, is_fi
 ghost use Rattle.chpw_table.specs.Preparing.{IsReady};
 ghost use Rattle.chpw_table.specs.Entering.{IsEntered, with_append, with_event, with_broken, with_keys_at, with_change_at, held_after};
 
-use super::changing::{Change, put_keys};
+use super::changing::{PreparedChange, put_keys};
 use super::{Prepared, Table};
 use crate::outcome::{Outcome, Refused};
 use crate::request::{Opened, RequestId};
@@ -120,7 +120,7 @@ impl Table {
     }
 
     // The append decides: after a failed one the journal is broken, otherwise the new keys are added.
-    fn write<S: JournalSink>(&mut self, change: Change, sink: &mut S) -> (Verdict, bool)
+    fn write<S: JournalSink>(&mut self, change: PreparedChange, sink: &mut S) -> (Verdict, bool)
         requires place { change.place < length self.old.state.principals }
         requires holders { are_holders (with_keys_at change.place change.keys self.old.state.principals) ≡ true }
         requires room { self.old.seen < self.old.events }
@@ -147,7 +147,7 @@ impl Table {
     }
 
     // Adds the new key before the principal's.
-    fn put(&mut self, change: Change)
+    fn put(&mut self, change: PreparedChange)
         requires place { change.place < length self.old.state.principals }
         requires holders { are_holders (with_keys_at change.place change.keys self.old.state.principals) ≡ true }
         requires room { self.old.seen < self.old.events }

@@ -48,7 +48,6 @@ impl PreparedUpdate {
         self.row.is_taken()
     }
 
-    /// The update.
     pub fn update(&self) -> &KdcUpdate
         ensures value { result.now ≡ self.now.update }
     {

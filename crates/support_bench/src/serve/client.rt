@@ -2,8 +2,8 @@
 ghost use Rattle.std.specs.Prelude.{◌≤◌};
 
 use crate::no_such;
-use chpw_client::{LAST_START, LONGEST_PASSWORD, Sent, client_line, client_request};
-use chpw_frame::{LONGEST_MESSAGE, Received, read_tcp, write_tcp};
+use chpw_client::{LAST_START, LONGEST_PASSWORD, SentRequest, client_line, client_request};
+use chpw_frame::{LONGEST_MESSAGE, TcpOutcome, read_tcp, write_tcp};
 use chpw_rules::Config;
 use chpw_serve::WorkerWords;
 use chpw_table::Moment;
@@ -16,13 +16,13 @@ use support_realm::{config, name};
 #[derive(Drop)]
 pub struct Client {
     stream: TcpStream,
-    requests: Vec<Sent>,
+    requests: Vec<SentRequest>,
     replies: Vec<Vec<u8>>,
 }
 
 impl Client {
     /// A client with these requests, and no reply yet.
-    pub fn new(alloc: Global, stream: TcpStream, requests: Vec<Sent>) -> io::Result<Client> {
+    pub fn new(alloc: Global, stream: TcpStream, requests: Vec<SentRequest>) -> io::Result<Client> {
         let replies = Vec::with_capacity(alloc, requests.len())?;
         Ok(Client {
             stream,
@@ -52,7 +52,7 @@ impl Client {
     }
 }
 
-fn is_changed(alloc: Global, request: &Sent, reply: &[u8]) -> bool {
+fn is_changed(alloc: Global, request: &SentRequest, reply: &[u8]) -> bool {
     matches!(client_line(alloc, request, reply), Ok(Some((_, 0))))
 }
 
@@ -62,14 +62,19 @@ fn ask(alloc: Global, stream: &TcpStream, request: &[u8]) -> Option<Vec<u8>> {
         return None;
     }
     match read_tcp(alloc, &mut &*stream) {
-        Ok(Received::Message(reply)) => Some(reply),
+        Ok(TcpOutcome::Message(reply)) => Some(reply),
         _ => None,
     }
 }
 
 /// Requests of the client of this number at a second, with the microseconds 0, 1 and so on, each for a
 /// password of its own.
-pub fn requests(alloc: Global, number: u8, seconds: i64, count: u32) -> io::Result<Vec<Sent>> {
+pub fn requests(
+    alloc: Global,
+    number: u8,
+    seconds: i64,
+    count: u32,
+) -> io::Result<Vec<SentRequest>> {
     let client = format!(in alloc; "c{number}")?;
     let config = config(alloc, Vec::new(alloc), 1, 1)?;
     let mut words = WorkerWords::new([number; 32], 0);
@@ -83,7 +88,7 @@ fn requests_of(
     seconds: i64,
     count: u32,
     words: &mut WorkerWords,
-) -> io::Result<Vec<Sent>> {
+) -> io::Result<Vec<SentRequest>> {
     let mut requests = Vec::new(alloc);
     for micros in 0..count {
         let now = Moment { seconds, micros };
@@ -98,7 +103,7 @@ fn request(
     client: &str,
     now: Moment,
     words: &mut WorkerWords,
-) -> io::Result<Sent> {
+) -> io::Result<SentRequest> {
     let client = name(alloc, client)?;
     let password = format!(in alloc; "New-pass{}", now.micros)?;
     let is_in_time = 0 <= now.seconds && now.seconds <= LAST_START && now.micros < 1_000_000;

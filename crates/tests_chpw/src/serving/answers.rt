@@ -5,7 +5,7 @@ ghost use Rattle.chpw_book.specs.Starting.{IsNamed, workers_of};
 use crate::serving::gates::Together;
 use crate::serving::realm::{CHANGED, name_of, opening, reply_line, request};
 use chpw_book::{AtDesk, CloseRefused, Closed, Desk, DeskName, Pass, UnnamedDesk};
-use chpw_client::Sent;
+use chpw_client::SentRequest;
 use chpw_decider::Decider;
 use chpw_endpoints::Endpoints;
 use chpw_journal::MemorySink;
@@ -35,7 +35,7 @@ pub fn printed_answer<D: DeskName, G: Gate + Observer, R: Wait + Abort>(
     desk: &Desk<D, MemorySink>,
     pass: &mut Pass<D>,
     gate: &mut G,
-    sent: &Sent,
+    sent: &SentRequest,
 ) -> Vec<u8> {
     let mut place = AtDesk { rt, desk, pass };
     printed_answer_at(rt, alloc, service, &mut place, gate, sent)
@@ -48,7 +48,7 @@ pub fn printed_answer_at<P: Decider, G: Gate + Observer, R: Abort>(
     service: &Service,
     place: &mut P,
     gate: &mut G,
-    sent: &Sent,
+    sent: &SentRequest,
 ) -> Vec<u8> {
     let reply = answer(
         alloc,
@@ -159,7 +159,7 @@ fn two_at<D: DeskName + Send + Sync, R: Threads + Wait + Abort + Sync>(
     alloc: Global,
     unnamed: UnnamedDesk,
     service: &Service,
-    sent: &Sent,
+    sent: &SentRequest,
 )
     requires name { IsNamed unnamed D.name D.parts D.book D.root D.workers }
     requires prior { D.prior ≡ [] }
@@ -177,7 +177,7 @@ fn ask_both<D: DeskName + Send + Sync, R: Threads + Wait + Abort + Sync>(
     service: &Service,
     desk: &Desk<D, MemorySink>,
     passes: &mut [Pass<D>],
-    sent: &Sent,
+    sent: &SentRequest,
 ) {
     let [first, second] = passes else {
         panic!(rt; "not two passes")
@@ -197,7 +197,7 @@ fn both_answers<D: DeskName + Send + Sync, R: Threads + Wait + Abort + Sync>(
     barrier: &Barrier,
     first: &mut Pass<D>,
     second: &mut Pass<D>,
-    sent: &Sent,
+    sent: &SentRequest,
 ) -> (Vec<u8>, Vec<u8>) {
     join(
         rt,
@@ -285,7 +285,7 @@ fn break_second<D: DeskName, R: Wait + Abort>(
     alloc: Global,
     unnamed: UnnamedDesk,
     service: &Service,
-    requests: [&Sent; 2],
+    requests: [&SentRequest; 2],
 )
     requires name { IsNamed unnamed D.name D.parts D.book D.root D.workers }
     requires prior { D.prior ≡ [] }
@@ -302,7 +302,7 @@ fn expect_broken<D: DeskName, R: Wait + Abort>(
     service: &Service,
     desk: &Desk<D, MemorySink>,
     passes: &mut [Pass<D>],
-    [alice, bob]: [&Sent; 2],
+    [alice, bob]: [&SentRequest; 2],
 ) {
     let pass = passes.first_mut().expect(rt, "a pass");
     expect_answer(rt, alloc, service, desk, pass, alice, CHANGED);
@@ -318,7 +318,7 @@ pub fn expect_answer<D: DeskName, R: Wait + Abort>(
     service: &Service,
     desk: &Desk<D, MemorySink>,
     pass: &mut Pass<D>,
-    sent: &Sent,
+    sent: &SentRequest,
     line: &[u8],
 ) {
     let told = printed_answer(rt, alloc, service, desk, pass, &mut NoGate, sent);
@@ -345,7 +345,7 @@ fn fill<D: DeskName, R: Wait + Abort>(
     alloc: Global,
     unnamed: UnnamedDesk,
     service: &Service,
-    requests: [&Sent; 2],
+    requests: [&SentRequest; 2],
 )
     requires name { IsNamed unnamed D.name D.parts D.book D.root D.workers }
     requires prior { D.prior ≡ [] }
@@ -363,7 +363,7 @@ fn expect_full<D: DeskName, R: Wait + Abort>(
     service: &Service,
     desk: &Desk<D, MemorySink>,
     passes: &mut [Pass<D>],
-    [first, second]: [&Sent; 2],
+    [first, second]: [&SentRequest; 2],
 ) {
     let pass = passes.first_mut().expect(rt, "a pass");
     expect_answer(rt, alloc, service, desk, pass, first, CHANGED);

@@ -9,7 +9,7 @@ use crate::serving::answers::{
 use crate::serving::overtaken::Overtaken;
 use crate::serving::realm::{CHANGED, name_of, opening, request};
 use chpw_book::{AtDesk, Desk, DeskName, Pass, UnnamedDesk};
-use chpw_client::Sent;
+use chpw_client::SentRequest;
 use chpw_journal::{MemorySink, Restored, restore};
 use chpw_messages::Service;
 use chpw_serve::{Gate, NoGate, Observer, Spot};
@@ -76,7 +76,7 @@ fn raised_at<D: DeskName, R: Wait + Abort>(
     alloc: Global,
     unnamed: UnnamedDesk,
     service: &Service,
-    sent: &Sent,
+    sent: &SentRequest,
 )
     requires name { IsNamed unnamed D.name D.parts D.book D.root D.workers }
     requires prior { D.prior ≡ [] }
@@ -96,7 +96,7 @@ fn change_raised<D: DeskName, R: Wait + Abort>(
     service: &Service,
     desk: &Desk<D, MemorySink>,
     passes: &mut [Pass<D>],
-    sent: &Sent,
+    sent: &SentRequest,
 ) {
     let [first, second] = passes else {
         panic!(rt; "not two passes")
@@ -259,7 +259,7 @@ fn overtaken_at<D: DeskName, R: Wait + Abort>(
     alloc: Global,
     unnamed: UnnamedDesk,
     service: &Service,
-    sent: &Sent,
+    sent: &SentRequest,
     tried: Tried,
 )
     requires name { IsNamed unnamed D.name D.parts D.book D.root D.workers }
@@ -279,7 +279,7 @@ fn change_overtaken<D: DeskName, R: Wait + Abort>(
     service: &Service,
     desk: &Desk<D, MemorySink>,
     passes: &mut [Pass<D>],
-    sent: &Sent,
+    sent: &SentRequest,
     tried: Tried,
 ) {
     let [first, second] = passes else {
@@ -324,7 +324,7 @@ fn broken_at<D: DeskName, R: Wait + Abort>(
     alloc: Global,
     unnamed: UnnamedDesk,
     service: &Service,
-    sent: &Sent,
+    sent: &SentRequest,
     taken: usize,
 )
     requires name { IsNamed unnamed D.name D.parts D.book D.root D.workers }
@@ -343,7 +343,7 @@ fn raise_in_vain<D: DeskName, R: Wait + Abort>(
     service: &Service,
     desk: &Desk<D, MemorySink>,
     passes: &mut [Pass<D>],
-    sent: &Sent,
+    sent: &SentRequest,
 ) {
     let pass = passes.first_mut().expect(rt, "a pass");
     expect_broken(rt, alloc, desk, pass);

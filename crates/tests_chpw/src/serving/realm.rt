@@ -3,7 +3,7 @@ ghost use Rattle.std.specs.Prelude.{◌≡◌, true};
 ghost use Rattle.chpw_rules.specs.Fitting.{config_fits};
 ghost use Rattle.chpw_rules.specs.Names.{is_name};
 
-use chpw_client::{LAST_START, LONGEST_PASSWORD, Sent, client_line, client_request};
+use chpw_client::{LAST_START, LONGEST_PASSWORD, SentRequest, client_line, client_request};
 use chpw_messages::Service;
 use chpw_rules::{Config, Name};
 use chpw_serve::WorkerWords;
@@ -40,7 +40,13 @@ pub fn name_of<R: Abort>(rt: &R, alloc: Global, text: &str) -> Name
 }
 
 /// The request of a client at a moment for a new password of its own.
-pub fn request<R: Abort>(rt: &R, alloc: Global, client: &str, now: Moment, password: &str) -> Sent {
+pub fn request<R: Abort>(
+    rt: &R,
+    alloc: Global,
+    client: &str,
+    now: Moment,
+    password: &str,
+) -> SentRequest {
     let client = name_of(rt, alloc, client);
     let config = config(alloc, Vec::new(alloc), 4, 1);
     let config = config.ok().expect(rt, "a configuration");
@@ -54,7 +60,7 @@ fn request_with<R: Abort>(
     client: &Name,
     now: Moment,
     password: &[u8],
-) -> Sent
+) -> SentRequest
     requires fits { config_fits config.now ≡ true }
     requires client { is_name client.now ≡ true }
 {
@@ -69,7 +75,7 @@ fn request_with<R: Abort>(
 }
 
 /// What the client prints for the reply to its request.
-pub fn reply_line<R: Abort>(rt: &R, alloc: Global, sent: &Sent, reply: &[u8]) -> Vec<u8> {
+pub fn reply_line<R: Abort>(rt: &R, alloc: Global, sent: &SentRequest, reply: &[u8]) -> Vec<u8> {
     let line = client_line(alloc, sent, reply).ok().expect(rt, "memory");
     let (line, _) = line.expect(rt, "a reply to the request");
     line

@@ -6,7 +6,7 @@ use crate::serving::answers::{NOW, REPLAYED, expect_closed, printed_answer, star
 use crate::serving::gates::Together;
 use crate::serving::realm::{CHANGED, opening, request};
 use chpw_book::{Desk, DeskName, Pass, UnnamedDesk};
-use chpw_client::Sent;
+use chpw_client::SentRequest;
 use chpw_journal::MemorySink;
 use chpw_messages::Service;
 use std::alloc::Global;
@@ -30,7 +30,7 @@ fn all_at<D: DeskName + Send + Sync, R: Threads + Wait + Abort + Sync>(
     alloc: Global,
     unnamed: UnnamedDesk,
     service: &Service,
-    sent: &Sent,
+    sent: &SentRequest,
 )
     requires name { IsNamed unnamed D.name D.parts D.book D.root D.workers }
     requires prior { D.prior ≡ [] }
@@ -51,7 +51,7 @@ fn ask_all<D: DeskName + Send + Sync, R: Threads + Wait + Abort + Sync>(
     desk: &Desk<D, MemorySink>,
     passes: &mut [Pass<D>],
     told: &Told,
-    sent: &Sent,
+    sent: &SentRequest,
 ) {
     let barrier = Barrier::new(16);
     let barrier = &barrier;

@@ -1,6 +1,6 @@
 ghost use Rattle.std.specs.Prelude.{◌≡◌, [], ◌∷◌};
 
-use chpw_table::{Counts, Derived, Digest};
+use chpw_table::{Counts, DerivedKeys, Digest};
 use krb_keys::Key;
 use std::alloc::Global;
 use std::process::Abort;
@@ -60,7 +60,7 @@ fn list_of(rt: &impl Abort, alloc: Global, rows: &[(u32, Key, Key)]) -> Vec<(u32
 
 // How many a copy of these derivations has.
 fn copied_count(rt: &impl Abort, rows: Vec<(u32, Key, Key)>) -> usize {
-    let derived = Derived::of(rows).expect(rt, "each count once");
+    let derived = DerivedKeys::of(rows).expect(rt, "each count once");
     let copy = derived.clone().ok().expect(rt, "memory");
     copy.into_vec().len()
 }
@@ -77,7 +77,7 @@ fn refused_derivations(rt: HostRuntime) {
     ];
     for (rows, fit) in cases {
         assert!(rt; Digest::of(8, 3, list_of(&rt, alloc, rows)).is_some() == fit);
-        assert!(rt; Derived::of(list_of(&rt, alloc, rows)).is_some() == fit);
+        assert!(rt; DerivedKeys::of(list_of(&rt, alloc, rows)).is_some() == fit);
     }
     assert!(rt; copied_count(&rt, list_of(&rt, alloc, cases[0].0)) == 2);
 }

@@ -6,7 +6,7 @@ use Rattle.chpw_client.proofs.drawing.join_halves.Goals as goal
 abbrev zeros : List ℕ
 zeros = 0 ∷ 0 ∷ 0 ∷ 0 ∷ 0 ∷ 0 ∷ 0 ∷ 0 ∷ 0 ∷ 0 ∷ 0 ∷ 0 ∷ 0 ∷ 0 ∷ 0 ∷ 0 ∷ []
 
--- b in the place of what lies behind a
+-- b in the place of what lies after a
 halves : (a b zeros : List ℕ) → length a ≡ 16 → drop 16 zeros ≡ []
     → put_mid 16 16 (a ++ zeros) b ≡ a ++ b
 halves a b zeros n none =

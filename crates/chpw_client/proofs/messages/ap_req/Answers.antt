@@ -8,20 +8,20 @@ use Rattle.krb_der.specs.declared.ticket.Ticket.{Ticket}
 use Rattle.krb_msgs.specs.Making.{SpellsTicket, ap_req_of}
 use Rattle.chpw_client.specs.Questions.{Question, question_of}
 use Rattle.chpw_client.specs.Requests.{ap_req_text, bit, longest_ap_req, ticket, ticket_text}
-use Rattle.chpw_client.specs.declared.drawing.Drawing.{Drawing}
+use Rattle.chpw_client.specs.declared.drawing.RequestWords.{RequestWords}
 use Rattle.chpw_client.proofs.FittingLemmas.{HasSizes, ap_req_fits, ap_req_short, ap_req_some, authenticator_fits, ticket_fits, ticket_part_fits}
 use Rattle.chpw_client.proofs.RequestLemmas.{same_request, same_ticket, ticket_taken}
 use Rattle.chpw_client.proofs.messages.ap_req.Goals as goal
 
 pub make_ticket-requires-clause-part : goal.make_ticket-requires-clause-part
 make_ticket-requires-clause-part c =
-    let w : Drawing = c.args.words.now in
+    let w : RequestWords = c.args.words.now in
     let sizes : HasSizes w = search rules in
     rw c.in_ok-part.ensures.value (ticket_part_fits (question_of c.args.asked.now) w c.requires.askable sizes)
 
 pub make_ticket-requires-clause-message : goal.make_ticket-requires-clause-message
 make_ticket-requires-clause-message c =
-    let w : Drawing = c.args.words.now in
+    let w : RequestWords = c.args.words.now in
     let sizes : HasSizes w = search rules in
     rw (c.in_ok-part.ensures.value, c.word_bytes.ensures.value)
     (ticket_fits (question_of c.args.asked.now) w c.requires.askable sizes)
@@ -29,7 +29,7 @@ make_ticket-requires-clause-message c =
 pub make_ap_req-requires-clause-ticket : goal.make_ap_req-requires-clause-ticket
 make_ap_req-requires-clause-ticket c =
     let q : Question = question_of c.args.asked.now in
-    let w : Drawing = c.args.words.now in
+    let w : RequestWords = c.args.words.now in
     let sizes : HasSizes w = search rules in
     let is = same_ticket q w c.in_ok-part.part c.word_bytes.result c.deref.result.now c.in_ok-part.ensures.value c.word_bytes.ensures.value
     (c.deref.ensures.value ∙ c.in_ok-ticket.ensures.text) in
@@ -37,14 +37,14 @@ make_ap_req-requires-clause-ticket c =
 
 pub make_ap_req-requires-clause-part : goal.make_ap_req-requires-clause-part
 make_ap_req-requires-clause-part c =
-    let w : Drawing = c.args.words.now in
+    let w : RequestWords = c.args.words.now in
     let sizes : HasSizes w = search rules in
     rw c.in_ok-authenticator.ensures.value (authenticator_fits (question_of c.args.asked.now) w c.requires.askable sizes)
 
 pub make_ap_req-requires-clause-message : goal.make_ap_req-requires-clause-message
 make_ap_req-requires-clause-message c = λ t spelled.
     let q : Question = question_of c.args.asked.now in
-    let w : Drawing = c.args.words.now in
+    let w : RequestWords = c.args.words.now in
     let sizes : HasSizes w = search rules in
     let is = same_ticket q w c.in_ok-part.part c.word_bytes.result c.deref.result.now c.in_ok-part.ensures.value c.word_bytes.ensures.value
     (c.deref.ensures.value ∙ c.in_ok-ticket.ensures.text) in
@@ -54,7 +54,7 @@ make_ap_req-requires-clause-message c = λ t spelled.
 pub returns : goal.returns
 returns c =
     let q : Question = question_of c.args.asked.now in
-    let w : Drawing = c.args.words.now in
+    let w : RequestWords = c.args.words.now in
     let sizes : HasSizes w = search rules in
     let is : c.deref.result.now ≡ ticket_text q w =
     same_ticket q w c.in_ok-part.part c.word_bytes.result c.deref.result.now c.in_ok-part.ensures.value c.word_bytes.ensures.value

@@ -5,7 +5,7 @@ use Rattle.chpw_rules.specs.declared.name.Name.{Name}
 use Rattle.chpw_client.specs.Configured.{IsFirstKey}
 use Rattle.chpw_client.specs.Questions.{Question}
 use Rattle.chpw_client.specs.Requests.{IsRequest}
-use Rattle.chpw_client.specs.declared.request.Sent.{Sent}
+use Rattle.chpw_client.specs.declared.request.SentRequest.{SentRequest}
 use Rattle.chpw_client.proofs.request.client_request.Goals as goal
 
 pub returns : goal.returns
@@ -23,11 +23,11 @@ returns g c =
       old = c.args.old;
     } in
     record {
-      sent = IfOk-weaker c.request_of.result _ _ (λ (sent : Sent) h. (
+      sent = IfOk-weaker c.request_of.result _ _ (λ (sent : SentRequest) h. (
         c.first_key-service.result,
-        c.draw-drawn.result,
+        c.draw_words-drawn.result,
         first,
-        c.draw-drawn.ensures.words,
-        subst (λ (realm : List ℕ). IsRequest (asked realm) c.draw-drawn.result sent) c.as_slice-realm.ensures.value h,
+        c.draw_words-drawn.ensures.words,
+        subst (λ (realm : List ℕ). IsRequest (asked realm) c.draw_words-drawn.result sent) c.as_slice-realm.ensures.value h,
       )) c.request_of.ensures.request;
     }

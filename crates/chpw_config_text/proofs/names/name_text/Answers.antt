@@ -1,4 +1,4 @@
--- One more part behind those written.
+-- One more part after those written.
 use Rattle.std.proofs.Common.{◌≡◌, ◌<◌, ◌∙◌, sym, ap, get_or, take, length, arith, true, string_bytes, [], ◌++◌}
 use Rattle.std.specs.List.{join_with_byte}
 use Rattle.std.proofs.lemmas.List.Folds.{list_all_more}

@@ -4,15 +4,15 @@ use Rattle.chpw_resume.specs.declared.mark.JournalMark.{JournalMark}
 use Rattle.chpw_resume.specs.declared.resume.Resume.{Resume}
 use Rattle.chpw_table.specs.State.{State}
 use Rattle.chpw_table.specs.Resuming.{carried_of}
-use Rattle.chpw_table.specs.declared.table.resuming.Carried.{Carried}
+use Rattle.chpw_table.specs.declared.table.resuming.ResumeState.{ResumeState}
 use Rattle.chpw_desks.specs.Keeping.{left_of}
 use Rattle.chpw_desks.proofs.keeping.text_left.Goals as goal
 
-left_by : (s : State) (journal : JournalMark) (realm : List ℕ) (carried : Carried) → realm ≡ s.fixed.realm → carried ≡ carried_of s
+left_by : (s : State) (journal : JournalMark) (realm : List ℕ) (carried : ResumeState) → realm ≡ s.fixed.realm → carried ≡ carried_of s
     → record { realm = realm; journal = journal; carried = carried } ≡ left_of s journal
 left_by s journal realm carried same left =
     ap (λ (r : List ℕ). record { realm = r; journal = journal; carried = carried }) same
-    ∙ ap (λ (c : Carried). record { realm = s.fixed.realm; journal = journal; carried = c }) left
+    ∙ ap (λ (c : ResumeState). record { realm = s.fixed.realm; journal = journal; carried = c }) left
 
 pub returns-clause-value : goal.returns-clause-value
 returns-clause-value c =

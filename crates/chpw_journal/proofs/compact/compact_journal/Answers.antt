@@ -19,5 +19,5 @@ returns c =
           begun c.in_ok-put_present.ensures.value c.in_ok-put_joined.ensures.value;
       whole = whole_joined raise (own ++ joined) (raise_whole opening held)
           (whole_joined own joined c.in_ok-put_present.ensures.whole c.in_ok-put_joined.ensures.whole);
-      order = (c.tell_order.ensures.order, c.tell_order-2.ensures.order);
+      order = (c.know_order.ensures.order, c.know_order-2.ensures.order);
     }

@@ -23,7 +23,7 @@ returns-in-Ok c = record {
 pub returns-in-Err-Fault : goal.returns-in-Err-Fault
 returns-in-Err-Fault c =
     let opens = rw c.in-Err-Fault.field-0-is at c.in-Err-Fault.ensures.opens in
-    let is = c.bare.ensures.value in
+    let is = c.without_password.ensures.value in
     let body : (client : Target) → c.body_despite.result ≡ body_under [] client (content_despite c.in-Err-Fault.fault) =
     subst (λ (f : PrivFault). (client : Target) → c.body_despite.result
     ≡ body_under [] client (content_despite f)) c.in-Err-Fault.fault-is c.body_despite.ensures.value in

@@ -20,7 +20,7 @@ returns-in-Ok c =
 pub returns-in-Err-NotChangeData : goal.returns-in-Err-NotChangeData
 returns-in-Err-NotChangeData c =
     let none = rw c.in-Err-NotChangeData.field-0-is at c.in-Err-NotChangeData.ensures.complete in
-    let is = c.bare.ensures.value in
+    let is = c.without_password.ensures.value in
     record {
       content = (
         bad_data,
@@ -32,7 +32,7 @@ returns-in-Err-NotChangeData c =
 pub returns-in-Err-RealmWithoutName : goal.returns-in-Err-RealmWithoutName
 returns-in-Err-RealmWithoutName c =
     let none = rw c.in-Err-RealmWithoutName.field-0-is at c.in-Err-RealmWithoutName.ensures.complete in
-    let is = c.bare-in-Err-RealmWithoutName.ensures.value in
+    let is = c.without_password-in-Err-RealmWithoutName.ensures.value in
     record {
       content = (
         bad_data,

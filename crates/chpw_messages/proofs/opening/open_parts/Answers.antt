@@ -19,8 +19,8 @@ returns-in-Err-Fault-clause-opening c =
           c.in-Err-Fault.fault-is (ap (λ (r : Refusal). by_error r.code r.error r.text) (sym c.refusal.ensures.value)),
     )
 
-pub returns-in_ok-incoming_of-in-Ok-clause-opening : goal.returns-in_ok-incoming_of-in-Ok-clause-opening
-returns-in_ok-incoming_of-in-Ok-clause-opening c =
+pub returns-in_ok-open_request-in-Ok-clause-opening : goal.returns-in_ok-open_request-in-Ok-clause-opening
+returns-in_ok-open_request-in-Ok-clause-opening c =
     let a = c.in-Ok.opened in
     let h = c.in_ok-content-in-Ok.ensures.content in
     let content = h.2.0 in (
@@ -30,11 +30,11 @@ returns-in_ok-incoming_of-in-Ok-clause-opening c =
         c.in-Ok.ensures.opens,
         (h.0, h.1, (content, h.2.1, refl)),
       ),
-      c.in_ok-incoming_of-in-Ok.ensures.value content (stamp_in h.0) h.2.2,
+      c.in_ok-open_request-in-Ok.ensures.value content (stamp_in h.0) h.2.2,
     )
 
-pub returns-in_ok-incoming_of-in-Ok-clause-times : goal.returns-in_ok-incoming_of-in-Ok-clause-times
-returns-in_ok-incoming_of-in-Ok-clause-times c =
+pub returns-in_ok-open_request-in-Ok-clause-times : goal.returns-in_ok-open_request-in-Ok-clause-times
+returns-in_ok-open_request-in-Ok-clause-times c =
     let h = c.in_ok-content-in-Ok.ensures.content in
-    subst (λ (seal : Seal). IsReplyTime seal) (sym (c.in_ok-incoming_of-in-Ok.ensures.value h.2.0 (stamp_in h.0) h.2.2).2)
+    subst (λ (seal : Seal). IsReplyTime seal) (sym (c.in_ok-open_request-in-Ok.ensures.value h.2.0 (stamp_in h.0) h.2.2).2)
     (reply_times c.args.ends.local c.args.realm.now c.args.keys.now c.args.parts.ap.now c.args.ends.peer c.in-Ok.opened c.in-Ok.ensures.opens)

@@ -11,4 +11,4 @@ returns-clause-once c =
     let renewed = c.args.renewed.now.state in
     let rows : c.of.result ≡ (next_config c.args.settings closed renewed).principals = search rules in
     subst (λ (rows : List PrincipalRow). are_distinct is_same_principal rows ≡ true)
-    (sym rows) (next_once c.args.settings closed renewed c.tell_order.ensures.order c.tell_order-2.ensures.order)
+    (sym rows) (next_once c.args.settings closed renewed c.know_order.ensures.order c.know_order-2.ensures.order)

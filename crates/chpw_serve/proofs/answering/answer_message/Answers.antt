@@ -19,7 +19,7 @@ returns-in_err-bytes-in-Refused-clause-refused g c = on_err c.from_residual-in_e
     let t = calls_refused g.G.Gate.passes g.G.Observer.hears c.args.ends.peer c.args.drawn.now
     (g.D.Decider.made c.args.decider.now) (g.D.Decider.gathered c.args.decider.now)
     (g.D.Decider.gathered c.args.decider.now) c.args.gate.now c.refused.new.self
-    _ c.in_ok-incoming.field-0 c.in-Refused.refusal c.in-Refused.is c.in_ok-incoming.ensures.opening refl c.refused.ensures.heard in
+    _ c.in_ok-request.field-0 c.in-Refused.refusal c.in-Refused.is c.in_ok-request.ensures.opening refl c.refused.ensures.heard in
     record { goes_on = g.met.D.Decider.stays c.args.decider.now; calls = t.2.0; calls_are = inr (t.0, t.1, t.2.1); in_turn = t.2.2 }
     )
 
@@ -28,8 +28,8 @@ returns-in-Refused-clause-answers g c =
     let t = answered_refused g.G.Gate.passes g.G.Observer.hears c.args.ends.peer c.args.drawn.now
     (g.D.Decider.made c.args.decider.now) (g.D.Decider.gathered c.args.decider.now)
     (g.D.Decider.gathered c.args.decider.now) c.args.gate.now c.refused.new.self
-    _ _ _ _ _ c.in_ok-bytes-in-Refused.bytes.items c.in_ok-incoming.field-0 c.in-Refused.refusal c.in-Refused.is
-    c.in_ok-incoming.ensures.opening refl c.in_ok-bytes-in-Refused.ensures.frame c.refused.ensures.heard in
+    _ _ _ _ _ c.in_ok-bytes-in-Refused.bytes.items c.in_ok-request.field-0 c.in-Refused.refusal c.in-Refused.is
+    c.in_ok-request.ensures.opening refl c.in_ok-bytes-in-Refused.ensures.frame c.refused.ensures.heard in
     record {
       reply = t.reply;
       fits = c.in_ok-bytes-in-Refused.ensures.fits;
@@ -54,12 +54,12 @@ returns-in_err-bytes-in-None-clause-refused g c =
     let t = calls_opened g.G.Gate.passes g.G.Observer.hears c.args.ends.peer c.args.drawn.now
     (g.D.Decider.made c.decide_heard.new.decider) (g.D.Decider.gathered c.args.decider.now)
     (g.D.Decider.gathered c.decide_heard.new.decider) c.args.gate.now c.decide_heard.new.observer
-    _ c.in_ok-incoming.field-0 c.in-Opened.incoming c.in-Opened.is c.in_ok-incoming.ensures.opening
+    _ c.in_ok-request.field-0 c.in-Opened.request c.in-Opened.is c.in_ok-request.ensures.opening
     (λ q i. calls_request g.G.Gate.passes g.G.Observer.hears c.args.ends.peer c.args.drawn.now
     (g.D.Decider.made c.decide_heard.new.decider) (g.D.Decider.gathered c.args.decider.now)
     (g.D.Decider.gathered c.decide_heard.new.decider) c.args.gate.now c.decide_heard.new.observer
-    _ c.in-Opened.incoming c.as_slice-2.result.now c.in_ok-ready.ready _ c.in_ok-verdict.verdict q c.at.new.self i c.as_slice-2.ensures.value
-    (subst (λ (p : List ℕ). IsCompletedFrom p c.in-Opened.incoming.opened c.in_ok-ready.ready)
+    _ c.in-Opened.request c.as_slice-2.result.now c.in_ok-ready.ready _ c.in_ok-verdict.verdict q c.at.new.self i c.as_slice-2.ensures.value
+    (subst (λ (p : List ℕ). IsCompletedFrom p c.in-Opened.request.opened c.in_ok-ready.ready)
     (c.as_slice.ensures.value ∙ sym c.as_slice-2.ensures.value) c.in_ok-ready.ensures.derived)
     c.in_ok-ready.ensures.receipts c.in_ok-verdict.ensures.verdict c.at.ensures.passed c.in_ok-verdict.ensures.heard) in
     on_err c.from_residual-in_err-bytes-in-None.result (record {
@@ -75,12 +75,12 @@ returns-in_err-bytes-in-Some-clause-refused g c =
     let t = calls_opened g.G.Gate.passes g.G.Observer.hears c.args.ends.peer c.args.drawn.now
     (g.D.Decider.made c.decide_heard.new.decider) (g.D.Decider.gathered c.args.decider.now)
     (g.D.Decider.gathered c.decide_heard.new.decider) c.args.gate.now c.decide_heard.new.observer
-    _ c.in_ok-incoming.field-0 c.in-Opened.incoming c.in-Opened.is c.in_ok-incoming.ensures.opening
+    _ c.in_ok-request.field-0 c.in-Opened.request c.in-Opened.is c.in_ok-request.ensures.opening
     (λ q i. calls_request g.G.Gate.passes g.G.Observer.hears c.args.ends.peer c.args.drawn.now
     (g.D.Decider.made c.decide_heard.new.decider) (g.D.Decider.gathered c.args.decider.now)
     (g.D.Decider.gathered c.decide_heard.new.decider) c.args.gate.now c.decide_heard.new.observer
-    _ c.in-Opened.incoming c.as_slice-2.result.now c.in_ok-ready.ready _ c.in_ok-verdict.verdict q c.at.new.self i c.as_slice-2.ensures.value
-    (subst (λ (p : List ℕ). IsCompletedFrom p c.in-Opened.incoming.opened c.in_ok-ready.ready)
+    _ c.in-Opened.request c.as_slice-2.result.now c.in_ok-ready.ready _ c.in_ok-verdict.verdict q c.at.new.self i c.as_slice-2.ensures.value
+    (subst (λ (p : List ℕ). IsCompletedFrom p c.in-Opened.request.opened c.in_ok-ready.ready)
     (c.as_slice.ensures.value ∙ sym c.as_slice-2.ensures.value) c.in_ok-ready.ensures.derived)
     c.in_ok-ready.ensures.receipts c.in_ok-verdict.ensures.verdict c.at.ensures.passed c.in_ok-verdict.ensures.heard) in
     on_err c.from_residual-in_err-bytes-in-Some.result (record {
@@ -100,7 +100,7 @@ returns-clause-answers g c =
     (g.D.Decider.may_be_full c.decide_heard.new.decider (g.D.Decider.gathered c.decide_heard.new.decider))
     (g.M.Messages.opens c.args.service.now c.args.ends c.args.message.now)
     c.args.drawn.words c.match-verdict.bytes.items
-    c.in_ok-incoming.field-0 c.in-Opened.incoming c.in-Opened.is c.in_ok-incoming.ensures.opening
+    c.in_ok-request.field-0 c.in-Opened.request c.in-Opened.is c.in_ok-request.ensures.opening
     (λ q i. (
       elim c.match-verdict.branch [
         | in-None+in_ok-bytes-in-None w ↦ answers_full _ _ _ _ _ _ _ c.as_slice-2.result.now c.in_ok-ready.ready _
@@ -108,9 +108,9 @@ returns-clause-answers g c =
             c.in_ok-ready.ensures.receipts w.in-None.is c.in_ok-verdict.ensures.verdict w.history_full.ensures.value
             (items_of c.match-verdict.bytes w.in_ok-bytes-in-None.bytes w.bytes-is ∙ w.in_ok-bytes-in-None.ensures.frame)
         | in-Some+in_ok-bytes-in-Some w ↦
-            answers_verdict _ _ _ _ _ _ _ c.in-Opened.incoming c.as_slice-2.result.now c.in_ok-ready.ready _
+            answers_verdict _ _ _ _ _ _ _ c.in-Opened.request c.as_slice-2.result.now c.in_ok-ready.ready _
             c.in_ok-verdict.verdict w.in-Some.verdict q c.match-verdict.bytes.items i c.as_slice-2.ensures.value
-            (subst (λ (p : List ℕ). IsCompletedFrom p c.in-Opened.incoming.opened c.in_ok-ready.ready)
+            (subst (λ (p : List ℕ). IsCompletedFrom p c.in-Opened.request.opened c.in_ok-ready.ready)
             (c.as_slice.ensures.value ∙ sym c.as_slice-2.ensures.value) c.in_ok-ready.ensures.derived)
             c.in_ok-ready.ensures.receipts w.in-Some.is c.in_ok-verdict.ensures.verdict
             (items_of c.match-verdict.bytes w.in_ok-bytes-in-Some.bytes w.bytes-is ∙ w.in_ok-bytes-in-Some.ensures.reply)
@@ -118,8 +118,8 @@ returns-clause-answers g c =
       calls_request g.G.Gate.passes g.G.Observer.hears c.args.ends.peer c.args.drawn.now
           (g.D.Decider.made c.decide_heard.new.decider) (g.D.Decider.gathered c.args.decider.now)
           (g.D.Decider.gathered c.decide_heard.new.decider) c.args.gate.now c.decide_heard.new.observer
-          _ c.in-Opened.incoming c.as_slice-2.result.now c.in_ok-ready.ready _ c.in_ok-verdict.verdict q c.at.new.self i c.as_slice-2.ensures.value
-          (subst (λ (p : List ℕ). IsCompletedFrom p c.in-Opened.incoming.opened c.in_ok-ready.ready)
+          _ c.in-Opened.request c.as_slice-2.result.now c.in_ok-ready.ready _ c.in_ok-verdict.verdict q c.at.new.self i c.as_slice-2.ensures.value
+          (subst (λ (p : List ℕ). IsCompletedFrom p c.in-Opened.request.opened c.in_ok-ready.ready)
           (c.as_slice.ensures.value ∙ sym c.as_slice-2.ensures.value) c.in_ok-ready.ensures.derived)
           c.in_ok-ready.ensures.receipts c.in_ok-verdict.ensures.verdict c.at.ensures.passed c.in_ok-verdict.ensures.heard,
     )) in

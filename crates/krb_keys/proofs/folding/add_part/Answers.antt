@@ -1,5 +1,5 @@
 use Rattle.std.proofs.Common.{rules, ◌≡◌, ℕ, ◌+◌, ◌<◌, ◌≤◌, ◌-◌, ◌*◌, ◌^◌, length, arith, ◌∙◌, ap}
-use Rattle.krb_keys.specs.Nfold.{value, residue}
+use Rattle.krb_keys.specs.Nfold.{value, ones_complement}
 use Rattle.krb_keys.proofs.NumberLemmas.{value_below, carry_fits, two_five_six_le, ones_complement_sum}
 use Rattle.krb_keys.proofs.folding.add_part.Goals as goal
 
@@ -24,7 +24,7 @@ returns c = λ s was.
     let now : value c.add_bytes-carry.new.sum < w = rw same at (value_below c.add_bytes-carry.new.sum (λ k. search rules)) in
     let more : 256 ≤ w = two_five_six_le n c.requires.some in
     let back : w - 1 + 1 ≡ w = omega arith in
-    let total : value c.add_bytes-carry.new.sum + c.add_bytes-carry.result * (w - 1 + 1) ≡ residue (w - 1) s + value c.args.part.now =
+    let total : value c.add_bytes-carry.new.sum + c.add_bytes-carry.result * (w - 1 + 1) ≡ ones_complement (w - 1) s + value c.args.part.now =
     ap (λ (x : ℕ). value c.add_bytes-carry.new.sum + c.add_bytes-carry.result * x) back ∙ c.add_bytes-carry.ensures.total
     ∙ ap (λ (x : ℕ). x + value c.args.part.now) was in
     c.add_carry.ensures

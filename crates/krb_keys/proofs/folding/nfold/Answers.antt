@@ -1,13 +1,13 @@
 use Rattle.std.proofs.Common.{rules, ◌≡◌, ℕ, ◌+◌, ◌-◌, ◌*◌, ◌/◌, ◌^◌, List, length, sym, ap, ◌∙◌, arith}
 use Rattle.std.proofs.Math.Nat.{mul_comm}
 use Rattle.std.proofs.lemmas.Nat.{mul-le}
-use Rattle.krb_keys.specs.Nfold.{value, residue, number_bytes, joined, copy_count, sum_of_parts, nfold}
+use Rattle.krb_keys.specs.Nfold.{value, ones_complement, number_bytes, joined, copy_count, sum_of_parts, nfold}
 use Rattle.krb_keys.proofs.NumberLemmas.{number_bytes-value, value_zeros}
 use Rattle.krb_keys.proofs.CopyLemmas.{length-joined, sum_more, parts_fit}
 use Rattle.krb_keys.proofs.folding.nfold.Goals as goal
 
 pub loop-p-init : goal.loop-p-init
-unfolding sum_of_parts residue
+unfolding sum_of_parts ones_complement
 loop-p-init c = (search rules, λ k. search rules, ap value (c.fill.ensures.after (λ y h. h)) ∙ value_zeros (length c.args.out.now))
 
 pub take_part-requires-clause-short_text : goal.take_part-requires-clause-short_text
@@ -24,9 +24,9 @@ take_part-requires-clause-inside c =
     let m : ℕ = length c.args.input.now in
     let same : length c.loop-p.part ≡ n = c.loop-p.invariant.0 in
     let copies = c.copy_count.ensures.value in
-    let turned : c.copy_count.result * m ≡ m * c.copy_count.result = mul_comm c.copy_count.result m in
+    let rotated : c.copy_count.result * m ≡ m * c.copy_count.result = mul_comm c.copy_count.result m in
     rw (same, length-joined c.args.input.now n, ← copies)
-    (parts_fit n (m * c.copy_count.result) c.loop-p.p (omega arith) (rw turned at c.loop-p-test.true))
+    (parts_fit n (m * c.copy_count.result) c.loop-p.p (omega arith) (rw rotated at c.loop-p-test.true))
 
 pub loop-p-preserved : goal.loop-p-preserved
 loop-p-preserved c =
@@ -39,8 +39,8 @@ loop-p-preserved c =
     let next = rw long at (c.add_part.ensures (sum_of_parts n text p)) in (
       long,
       λ k. search rules,
-      next c.loop-p.invariant.2 ∙ ap (λ (x : List ℕ). residue (256 ^ n - 1) (sum_of_parts n text p + value x)) part
-          ∙ ap (residue (256 ^ n - 1)) (sym (sum_more n text p)),
+      next c.loop-p.invariant.2 ∙ ap (λ (x : List ℕ). ones_complement (256 ^ n - 1) (sum_of_parts n text p + value x)) part
+          ∙ ap (ones_complement (256 ^ n - 1)) (sym (sum_more n text p)),
     )
 
 pub returns : goal.returns
@@ -56,5 +56,5 @@ returns c =
       value =
           sym (number_bytes-value c.loop-p.out n (omega arith) c.loop-p.invariant.1)
           ∙ ap (number_bytes n) (c.loop-p.invariant.2
-          ∙ ap (λ (k : ℕ). residue (256 ^ n - 1) (sum_of_parts n text k)) (end ∙ ap (λ (k : ℕ). k / n) (sym long)));
+          ∙ ap (λ (k : ℕ). ones_complement (256 ^ n - 1) (sum_of_parts n text k)) (end ∙ ap (λ (k : ℕ). k / n) (sym long)));
     }

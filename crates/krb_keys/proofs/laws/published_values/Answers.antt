@@ -2,11 +2,11 @@
 use Rattle.std.proofs.Common.{refl}
 use Rattle.sha1.specs.Sha1.{sha1, digest_bytes, hash_after, compress, rounds, schedule, first_words}
 use Rattle.krb_aes.specs.Bytes.{xor_bytes}
-use Rattle.krb_aes.specs.Field.{times_x, times_low, times, inverse, from_bits, affine, sub_byte}
+use Rattle.krb_aes.specs.Field.{xtime, times_low, times, inverse, from_bits, affine, sub_byte}
 use Rattle.krb_aes.specs.KeyExpansion.{power_of_x, key_step, expanded}
 use Rattle.krb_aes.specs.Aes as cipher
 use Rattle.krb_keys.specs.Hmac.{hmac, padded_key, key_block}
-use Rattle.krb_keys.specs.Nfold.{nfold, residue, sum_of_parts, joined, copy_count, copy, turned, number_bytes, value}
+use Rattle.krb_keys.specs.Nfold.{nfold, ones_complement, sum_of_parts, joined, copy_count, copy, rotated, number_bytes, value}
 use Rattle.krb_keys.specs.Pbkdf2.{pbkdf2, blocks, xored, repeated}
 use Rattle.krb_keys.specs.Keys.{constant_block, dr, dk, s2k}
 use Rattle.krb_keys.specs.Vectors.{HmacValue, Pbkdf2Value, Fold64Value, Fold56Value, Fold168Value, Fold128Value, Aes128KeyValue, Aes256KeyValue}
@@ -21,35 +21,35 @@ unfolding pbkdf2 blocks xored repeated xor_bytes hmac padded_key key_block sha1 
 pbkdf2_value = refl
 
 fold_64_value : Fold64Value
-unfolding nfold residue sum_of_parts joined copy_count copy turned number_bytes value
+unfolding nfold ones_complement sum_of_parts joined copy_count copy rotated number_bytes value
 fold_64_value = refl
 
 fold_56_value : Fold56Value
-unfolding nfold residue sum_of_parts joined copy_count copy turned number_bytes value
+unfolding nfold ones_complement sum_of_parts joined copy_count copy rotated number_bytes value
 fold_56_value = refl
 
 fold_168_value : Fold168Value
-unfolding nfold residue sum_of_parts joined copy_count copy turned number_bytes value
+unfolding nfold ones_complement sum_of_parts joined copy_count copy rotated number_bytes value
 fold_168_value = refl
 
 fold_128_value : Fold128Value
-unfolding nfold residue sum_of_parts joined copy_count copy turned number_bytes value
+unfolding nfold ones_complement sum_of_parts joined copy_count copy rotated number_bytes value
 fold_128_value = refl
 
 aes_128_key_value : Aes128KeyValue
 unfolding s2k dk dr constant_block
     pbkdf2 blocks xored repeated xor_bytes hmac padded_key key_block sha1 digest_bytes hash_after
-    compress rounds schedule first_words nfold residue sum_of_parts joined copy_count copy turned number_bytes
+    compress rounds schedule first_words nfold ones_complement sum_of_parts joined copy_count copy rotated number_bytes
     value cipher.aes cipher.cipher cipher.add_round_key cipher.times_matrix cipher.shift_rows cipher.sub_bytes expanded
-    key_step power_of_x sub_byte affine from_bits inverse times times_low times_x cipher.rounds
+    key_step power_of_x sub_byte affine from_bits inverse times times_low xtime cipher.rounds
 aes_128_key_value = refl
 
 aes_256_key_value : Aes256KeyValue
 unfolding s2k dk dr constant_block
     pbkdf2 blocks xored repeated xor_bytes hmac padded_key key_block sha1 digest_bytes hash_after
-    compress rounds schedule first_words nfold residue sum_of_parts joined copy_count copy turned number_bytes
+    compress rounds schedule first_words nfold ones_complement sum_of_parts joined copy_count copy rotated number_bytes
     value cipher.aes cipher.cipher cipher.add_round_key cipher.times_matrix cipher.shift_rows cipher.sub_bytes expanded
-    key_step power_of_x sub_byte affine from_bits inverse times times_low times_x cipher.rounds
+    key_step power_of_x sub_byte affine from_bits inverse times times_low xtime cipher.rounds
 aes_256_key_value = refl
 
 pub returns : goal.returns

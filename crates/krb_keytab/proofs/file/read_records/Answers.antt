@@ -1,7 +1,7 @@
 use Rattle.std.proofs.Common.{◌≡◌, ℕ, ◌+◌, ◌-◌, ◌<◌, ◌≤◌, ◌++◌, ◌∷◌, [], List, length, Option, Some, Ok, Err, sym, ap, subst, ◌∙◌, arith}
 use Rattle.std.proofs.lemmas.Result.{err_from_is_err_and}
 use Rattle.std.proofs.lemmas.List.{map_push}
-use Rattle.krb_keytab.specs.declared.records.Record.{Record}
+use Rattle.krb_keytab.specs.declared.records.KeytabRecord.{KeytabRecord}
 use Rattle.krb_keytab.specs.Keytabs.{Piece, record_at, from_place}
 use Rattle.krb_keytab.specs.Answers.{view, views, piece_of, piece_at}
 use Rattle.krb_keytab.proofs.RecordLemmas.{IsBegun, begins, whole, past_entry, past_hole, record_fails, entry_fails}
@@ -30,7 +30,7 @@ returns-in_err-entry_in c =
     let place : ℕ = length c.args.file.now - length c.loop-entries.rest.now in
     let total = from_place (length c.args.file.now) (length c.args.file.now - length c.args.records.now) c.args.records.now in
     let next : record_at place c.loop-entries.rest.now ≡ Ok (Some piece) =
-    sym c.in_ok-record.ensures.value ∙ ap (λ (o : Option Record). piece_of (Ok o)) c.in-Some.is in
+    sym c.in_ok-record.ensures.value ∙ ap (λ (o : Option KeytabRecord). piece_of (Ok o)) c.in-Some.is in
     rw (p.1, p.2) (record {
       value =
           entry_fails c.in_err-entry_in.field-0.0 (views c.loop-entries.entries.items) place c.loop-entries.rest.now total
@@ -42,7 +42,7 @@ loop-entries-smaller c =
     let piece : Piece = piece_at c.in-Some.record in
     let place : ℕ = length c.args.file.now - length c.loop-entries.rest.now in
     let next : record_at place c.loop-entries.rest.now ≡ Ok (Some piece) =
-    sym c.in_ok-record.ensures.value ∙ ap (λ (o : Option Record). piece_of (Ok o)) c.in-Some.is in
+    sym c.in_ok-record.ensures.value ∙ ap (λ (o : Option KeytabRecord). piece_of (Ok o)) c.in-Some.is in
     let parts = whole place c.loop-entries.rest.now piece next in
     let less : length c.in-Some.record.rest.now < length c.loop-entries.rest.now = omega (arith, parts) in
     less
@@ -53,7 +53,7 @@ loop-entries-preserved c =
     let rest : List ℕ = c.loop-entries.rest.now in
     let place : ℕ = length c.args.file.now - length rest in
     let total = from_place (length c.args.file.now) (length c.args.file.now - length c.args.records.now) c.args.records.now in
-    let next : record_at place rest ≡ Ok (Some piece) = sym c.in_ok-record.ensures.value ∙ ap (λ (o : Option Record). piece_of (Ok o)) c.in-Some.is in
+    let next : record_at place rest ≡ Ok (Some piece) = sym c.in_ok-record.ensures.value ∙ ap (λ (o : Option KeytabRecord). piece_of (Ok o)) c.in-Some.is in
     let parts = whole place rest piece next in
     let within : length rest ≤ length c.args.file.now = c.loop-entries.invariant.within in
     let behind : place + (4 + length piece.bytes) ≡ length c.args.file.now - length c.in-Some.record.rest.now = omega (arith, parts, within) in

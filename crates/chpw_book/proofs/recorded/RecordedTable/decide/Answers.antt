@@ -95,7 +95,7 @@ invariant_of-self-2 g c =
     let pushed : c.add.new.self.entries.items ≡ b.history ++ next_entry b.history w c.args.now made.io_failed (Ask c.args.opened made.verdict) ∷ [] =
     rw (← c.in-Ok.ensures.same.0, ← steps.opened) c.add.ensures.entry in
     let newest : is_done made.verdict ≡ true → NewestIsWhole (keys_held c.finish-verdict.new.self.state (target_of c.args.opened).name) =
-    rw (← steps.opened) c.read_newest.ensures.whole in (
+    rw (← steps.opened) c.know_accepted_key.ensures.whole in (
       kept_step opening g.D.DeskName.workers g.D.DeskName.prior b w c.args.now c.args.opened made c.finish-verdict.new.self
           c.add.new.self.entries.items c.add.new.self.counts.items c.add.new.self.changes c.add.new.self.totals.total
           (g.S.JournalSink.told c.finish-verdict.new.sink) kept steps writes.tells newest

@@ -1,6 +1,6 @@
 use Rattle.std.proofs.Common.{arith, ap, sym, refl, subst, ℕ, ◌∙◌, ◌≡◌, ◌+◌, ◌≤◌, ◌<◌, ◌++◌, ◌∷◌, [], length, slice_index, slice_set}
 use mathlib.Core.List.{IsPrefix}
-use Rattle.chpw_table.specs.declared.change.Accepted.TheVariants.{Count}
+use Rattle.chpw_table.specs.declared.change.AcceptedChange.TheVariants.{Count}
 use Rattle.chpw_table.specs.declared.history.Event.TheVariants.{Raise}
 use Rattle.chpw_table.specs.declared.history.Entry.{Entry}
 use Rattle.chpw_table.specs.State.{State}

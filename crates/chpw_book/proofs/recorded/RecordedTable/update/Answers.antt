@@ -99,7 +99,7 @@ invariant_of-self-2 g c =
     let pushed : c.add.new.self.entries.items ≡ b.history ++ next_entry b.history w c.args.now made.io_failed event ∷ [] =
     rw (← c.make_room.ensures.same.0, ← given) c.add.ensures.entry in
     let newest : NewestIsWhole (keys_held t.state (name_in c.args.update)) =
-    subst (λ (n : Name). NewestIsWhole (keys_held t.state n)) (c.name.ensures.value ∙ ap name_in given) c.read_newest_of.ensures.whole in (
+    subst (λ (n : Name). NewestIsWhole (keys_held t.state n)) (c.name.ensures.value ∙ ap name_in given) c.know_newest_key.ensures.whole in (
       kept_update opening g.D.DeskName.workers g.D.DeskName.prior b w c.args.now made.io_failed c.args.update made.verdict t
           c.add.new.self.entries.items c.add.new.self.counts.items c.add.new.self.changes c.add.new.self.totals.total
           (g.S.JournalSink.told c.finish_update-verdict.new.sink) kept steps writes.tells c.requires.fits newest

@@ -2,7 +2,7 @@ use Rattle.std.proofs.Common.{◌≡◌, ◌++◌}
 use Rattle.chpw_kdc.specs.Answering.{lacked_in}
 use Rattle.chpw_kdc.proofs.dialog.KdcDialog.lacked.Given as goal
 
--- what the rest lacks comes behind the names so far
+-- what the rest lacks comes after the names so far
 abbrev pub invariant-loop-name : goal.invariant-loop-name
 invariant-loop-name l =
     (goal.iterator-loop-name).can_next l.name-iterator ×

@@ -2,7 +2,7 @@ use Rattle.std.proofs.Common.{◌≡◌, ◌∙◌, refl, [], ◌∷◌, ◌++�
 use Rattle.std.specs.Prelude.{option_map}
 use mathlib.Core.List.{IsPrefix}
 use Rattle.left_right.specs.Sides.{view}
-use Rattle.chpw_table.specs.declared.change.Accepted.{Accepted}
+use Rattle.chpw_table.specs.declared.change.AcceptedChange.{AcceptedChange}
 use Rattle.chpw_snapshots.specs.Known.{Known}
 use Rattle.chpw_snapshots.specs.declared.snapshot.Snapshot.{Snapshot}
 use Rattle.chpw_changelog.specs.Changes.{named}
@@ -43,7 +43,7 @@ invariant_of-self-in-Ok g c =
       (
         ap (λ m. m.book) (c.shown_prefix-shown.ensures.parts.1 ∙ ap (λ (z : Snapshot). z.seen) c.get-version.ensures) ∙ shows.seen_book,
         c.shown_prefix-shown.ensures.parts.0
-            ∙ (ap (λ (z : Snapshot). z.len) c.get-version.ensures ∙ (shows.len_is ∙ ap (λ (l : List Accepted). length l) list)),
+            ∙ (ap (λ (z : Snapshot). z.len) c.get-version.ensures ∙ (shows.len_is ∙ ap (λ (l : List AcceptedChange). length l) list)),
       ),
     )
 
@@ -66,7 +66,7 @@ returns-else-not-begins-clause-found g c =
     let before : IsPrefix (list_of r c.self.inside.shown) v.front =
     subst (λ o. IsPrefix (list_of r c.self.inside.shown) (front_by o (λ q. view q.place))) is c.self.invariant.1 in
     let later : IsPrefix (list_of r c.self.inside.shown) (list_of r c.shown_prefix-shown.result) =
-    subst (λ (l : List Accepted). IsPrefix (list_of r c.self.inside.shown) l) list
+    subst (λ (l : List AcceptedChange). IsPrefix (list_of r c.self.inside.shown) l) list
     (prefix_trans (list_of r c.self.inside.shown) v.front w.front before looked.1) in
     let told = ap (λ (k : Known). k.told) c.self.view_is in
     let some : x.len ≡ length (changes_in r x.seen.log ++ named (opening_state r) x.last ∷ [])
@@ -77,17 +77,17 @@ returns-else-not-begins-clause-found g c =
     let none : x.len ≡ 0 → c.self.inside.told ≡ [] =
     subst (λ (z : Snapshot). z.len ≡ 0 → c.self.inside.told ≡ []) c.get-version.ensures (c.if-not-begins.ensures.none refl) in
     let begins : IsPrefix c.args.self.now.told (list_shown r x) =
-    subst (λ (l : List Accepted). IsPrefix l (list_shown r x)) told (begins_shown b r w.front c.self.inside.told x shows some none) in
+    subst (λ (l : List AcceptedChange). IsPrefix l (list_shown r x)) told (begins_shown b r w.front c.self.inside.told x shows some none) in
     let read = c.lookup-found.ensures.value ∙ ap (λ (z : Snapshot). option_map (lookup_with z.rows.policy z.rows.seen)
     (shown_in (all_rows z.rows) name)) c.get-version.ensures in
     let found : c.lookup-found.result ≡ lookup_after (opening_table r) (list_of r c.shown_prefix-shown.result) name =
-    read ∙ shown_by b r w.front x name shows ∙ ap (λ (l : List Accepted). lookup_after (opening_table r) l name) (sym shown_is) in
+    read ∙ shown_by b r w.front x name shows ∙ ap (λ (l : List AcceptedChange). lookup_after (opening_table r) l name) (sym shown_is) in
     let rise : AreNextVersions (opening_state r) [] (list_of r c.shown_prefix-shown.result) =
-    subst (λ (l : List Accepted). AreNextVersions (opening_state r) [] l) list shows.rise in
+    subst (λ (l : List AcceptedChange). AreNextVersions (opening_state r) [] l) list shows.rise in
     record {
-      later = subst (λ (l : List Accepted). IsPrefix l (list_of r c.shown_prefix-shown.result)) (ap (λ (k : Known). k.seen) c.self.view_is) later;
-      after = subst (λ (l : List Accepted). IsPrefix c.args.self.now.told l) (sym shown_is) begins;
-      accepted = subst (λ (l : List Accepted). AreAccepted (opening_state r) l) list shows.accepted;
+      later = subst (λ (l : List AcceptedChange). IsPrefix l (list_of r c.shown_prefix-shown.result)) (ap (λ (k : Known). k.seen) c.self.view_is) later;
+      after = subst (λ (l : List AcceptedChange). IsPrefix c.args.self.now.told l) (sym shown_is) begins;
+      accepted = subst (λ (l : List AcceptedChange). AreAccepted (opening_state r) l) list shows.accepted;
       shown = found;
       rises = lookup_rises (opening_table r) (list_of r c.shown_prefix-shown.result) name c.lookup-found.result rise found;
       positive = c.lookup-found.ensures.positive (subst (λ (z : Snapshot). IsPositive z.rows) (sym c.get-version.ensures) shows.positive);

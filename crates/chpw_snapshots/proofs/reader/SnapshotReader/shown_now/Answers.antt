@@ -1,7 +1,7 @@
 use Rattle.std.proofs.Common.{◌≡◌, ◌∙◌, List, sym, ap, subst}
 use mathlib.Core.List.{IsPrefix}
 use Rattle.left_right.specs.Sides.{view}
-use Rattle.chpw_table.specs.declared.change.Accepted.{Accepted}
+use Rattle.chpw_table.specs.declared.change.AcceptedChange.{AcceptedChange}
 use Rattle.chpw_snapshots.specs.Known.{Known}
 use Rattle.chpw_snapshots.specs.declared.snapshot.Snapshot.{Snapshot}
 use Rattle.chpw_snapshots.specs.Following.{IsOf, ShowsList, log_of, list_of, list_shown, front_by}
@@ -30,6 +30,6 @@ returns-in-Ok-clause-later g c =
     let before : IsPrefix (list_of r c.self.inside.shown) v.front =
     subst (λ o. IsPrefix (list_of r c.self.inside.shown) (front_by o (λ q. view q.place))) is c.self.invariant.1 in
     let later : IsPrefix (list_of r c.self.inside.shown) (list_of r c.shown_prefix-shown.result) =
-    subst (λ (l : List Accepted). IsPrefix (list_of r c.self.inside.shown) l) list
+    subst (λ (l : List AcceptedChange). IsPrefix (list_of r c.self.inside.shown) l) list
     (prefix_trans (list_of r c.self.inside.shown) v.front w.front before looked.1) in
-    subst (λ (l : List Accepted). IsPrefix l (list_of r c.shown_prefix-shown.result)) (ap (λ (k : Known). k.seen) c.self.view_is) later
+    subst (λ (l : List AcceptedChange). IsPrefix l (list_of r c.shown_prefix-shown.result)) (ap (λ (k : Known). k.seen) c.self.view_is) later

@@ -2,7 +2,7 @@ use Rattle.std.proofs.Common.{◌≡◌, ◌∙◌, ◌+◌, ◌<◌, ◌++◌, 
 use Rattle.std.specs.Prelude.{IfSome, option_map}
 use Rattle.left_right.specs.Sides.{view}
 use Rattle.crossbeam_utils.specs.Register.{TurnsAt}
-use Rattle.chpw_table.specs.declared.change.Accepted.{Accepted}
+use Rattle.chpw_table.specs.declared.change.AcceptedChange.{AcceptedChange}
 use Rattle.chpw_changelog.specs.declared.change.NumberedChange.{NumberedChange}
 use Rattle.chpw_changelog.specs.Changes.{named}
 use Rattle.chpw_changelog.specs.Pens.{opening_state}
@@ -23,7 +23,7 @@ publish_as-writer-requires g c next is =
     × IsWaiting b r list (drop w.behind w.log.items) c.self.inside.waiting)
     (sym c.take.ensures.value ∙ c.in-Some-take.is) c.self.invariant in
     let waits = subst (λ (o : Option NumberedChange). IsWaiting b r list (drop w.behind w.log.items) o) c.in-Some.is inv.1 in
-    let room : length list + 1 < 2147483648 = subst (λ (l : List Accepted). length l + 1 < 2147483648)
+    let room : length list + 1 < 2147483648 = subst (λ (l : List AcceptedChange). length l + 1 < 2147483648)
     (sym (ap (λ (s : PublishedList). s.list) c.self.view_is)) c.requires.room in
     let accepts = subst (λ (s : PublishedList). IfSome s.waiting (λ change. AreAccepted (opening_state r) (s.list ++ change ∷ [])))
     (sym c.self.view_is) c.requires.accepted in
@@ -46,7 +46,7 @@ invariant_of-self g c =
     × IsWaiting b r list (drop w.behind w.log.items) c.self.inside.waiting)
     (sym c.take.ensures.value ∙ c.in-Some-take.is) c.self.invariant in
     let waits = subst (λ (o : Option NumberedChange). IsWaiting b r list (drop w.behind w.log.items) o) c.in-Some.is inv.1 in
-    let room : length list + 1 < 2147483648 = subst (λ (l : List Accepted). length l + 1 < 2147483648)
+    let room : length list + 1 < 2147483648 = subst (λ (l : List AcceptedChange). length l + 1 < 2147483648)
     (sym (ap (λ (s : PublishedList). s.list) c.self.view_is)) c.requires.room in
     let accepts = subst (λ (s : PublishedList). IfSome s.waiting (λ change. AreAccepted (opening_state r) (s.list ++ change ∷ [])))
     (sym c.self.view_is) c.requires.accepted in
@@ -64,7 +64,7 @@ invariant_of-self g c =
     x y list waits.0 inv.0 waits.3 waits.4 waits.5 done room after rule.1 in
     let longer : list ++ named (opening_state r) waits.0.change ∷ [] ≡ c.append.new.self =
     ap (λ (n : NumberedChange). list ++ named (opening_state r) n ∷ []) waits.2 ∙ sym c.append.ensures.value in
-    let all' = subst (λ (l : List Accepted). Publishes b r (view c.publish_as-writer.result.0.desk.place) y l) longer all in
+    let all' = subst (λ (l : List AcceptedChange). Publishes b r (view c.publish_as-writer.result.0.desk.place) y l) longer all in
     put_some c.put_back.new.place c.publish_as-writer.result.0 (λ w.
     Publishes b r (view w.desk.place) w.desk.shown.value c.append.new.self
     × IsWaiting b r c.append.new.self (drop w.behind w.log.items) None)

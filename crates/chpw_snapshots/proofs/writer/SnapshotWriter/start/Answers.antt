@@ -1,6 +1,6 @@
 use Rattle.std.proofs.Common.{◌∙◌, List, [], sym, ap, subst}
 use Rattle.left_right.specs.Sides.{view}
-use Rattle.chpw_table.specs.declared.change.Accepted.{Accepted}
+use Rattle.chpw_table.specs.declared.change.AcceptedChange.{AcceptedChange}
 use Rattle.chpw_snapshots.specs.Following.{Publishes, ShowsList}
 use Rattle.chpw_snapshots.proofs.MoveLemmas.{opens, settles, opening_version, published_first, ok_case}
 use Rattle.chpw_snapshots.proofs.writer.SnapshotWriter.start.Goals as goal
@@ -32,7 +32,7 @@ invariant_of-result g c =
     let all = published_first b r (view w.desk.place) (view c.publish_as-writer.result.0.desk.place)
     x c.publish_as-writer.result.0.desk.shown.value (same ∙ c.in_ok-writer.ensures.0)
     (ap (λ m. m.book) v.3 ∙ c.requires.root.0) (ap (λ m. m.log) v.3 ∙ c.requires.root.1) shows rule.1 in (
-      subst (λ (l : List Accepted). Publishes b r (view c.publish_as-writer.result.0.desk.place)
+      subst (λ (l : List AcceptedChange). Publishes b r (view c.publish_as-writer.result.0.desk.place)
           c.publish_as-writer.result.0.desk.shown.value l) (sym c.requires.keeper) all,
       values.1.1,
     )

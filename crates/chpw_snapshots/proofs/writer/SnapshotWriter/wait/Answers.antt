@@ -1,6 +1,6 @@
 use Rattle.std.proofs.Common.{◌≡◌, ◌∙◌, ◌++◌, ◌∷◌, [], List, drop, sym, ap, subst, Option, Some, None, refl}
 use Rattle.left_right.specs.Sides.{view}
-use Rattle.chpw_table.specs.declared.change.Accepted.{Accepted}
+use Rattle.chpw_table.specs.declared.change.AcceptedChange.{AcceptedChange}
 use Rattle.chpw_changelog.specs.declared.change.NumberedChange.{NumberedChange}
 use Rattle.chpw_changelog.specs.Changes.{named}
 use Rattle.chpw_changelog.specs.Pens.{opening_state}
@@ -28,7 +28,7 @@ invariant_of-self-in-Ok g c =
     let published : Publishes b r (view c.append.new.self.desk.place) c.append.new.self.desk.shown.value list =
     subst (λ d. Publishes b r (view d.place) d.shown.value list) (sym c.append.ensures.desk) inv.0 in
     let shown : CanBeShown (opening_state r) list c.args.change =
-    subst (λ (l : List Accepted). CanBeShown (opening_state r) l c.args.change)
+    subst (λ (l : List AcceptedChange). CanBeShown (opening_state r) l c.args.change)
     (sym (ap (λ (s : PublishedList). s.list) c.self.view_is)) c.requires.shown in
     put_some c.put_back-in-Ok.new.place c.append.new.self (λ w.
     Publishes b r (view w.desk.place) w.desk.shown.value list

@@ -1,7 +1,7 @@
 use Rattle.std.proofs.Common.{◌≡◌, ◌∙◌, List, drop, ap, subst, true, false}
 use Rattle.std.specs.Prelude.{IfSome, IfNone}
 use Rattle.left_right.specs.Sides.{view}
-use Rattle.chpw_table.specs.declared.change.Accepted.{Accepted}
+use Rattle.chpw_table.specs.declared.change.AcceptedChange.{AcceptedChange}
 use Rattle.chpw_table.specs.Versions.{shown}
 use Rattle.chpw_changelog.specs.declared.change.Whose.{Whose}
 use Rattle.chpw_changelog.specs.Pens.{opening_state}
@@ -26,10 +26,10 @@ returns g c =
     let same : list ≡ c.args.self.now.list = ap (λ (s : PublishedList). s.list) c.self.view_is in
     let all = is_any_place (opening_state r) list w.desk.shown.value.rows c.args.name.now c.whose.result inv.0.2.names inv.0.2.added is in
     record {
-      some = subst (λ (l : List Accepted). IfSome c.whose.result (λ (whose : Whose).
+      some = subst (λ (l : List AcceptedChange). IfSome c.whose.result (λ (whose : Whose).
           IsPlaceOf (opening_state r) l c.args.name.now whose × (has_row (opening_state r) l c.args.name.now ≡ true))) same all.0;
       shown = λ row e. shown_found (opening_state r) list w.desk.shown.value.rows c.args.name.now c.whose.result row
           inv.0.2.names inv.0.2.added is (inv.0.2.shows c.args.name.now
-          ∙ (ap (λ (l : List Accepted). shown (opening_state r) l c.args.name.now) same ∙ e));
-      none = subst (λ (l : List Accepted). IfNone c.whose.result (has_row (opening_state r) l c.args.name.now ≡ false)) same all.1;
+          ∙ (ap (λ (l : List AcceptedChange). shown (opening_state r) l c.args.name.now) same ∙ e));
+      none = subst (λ (l : List AcceptedChange). IfNone c.whose.result (has_row (opening_state r) l c.args.name.now ≡ false)) same all.1;
     }

@@ -13,8 +13,8 @@ use Rattle.chpw_journal.specs.contracts.memory_sink.MemorySinkJournalSink.TheImp
 use Rattle.chpw_journal.proofs.memory_sink.MemorySink.TheSendSync as memory
 use Rattle.chpw_messages.specs.contracts.service.Service as Service
 use Rattle.chpw_messages.proofs.service.Service.TheSendSync as service
-use Rattle.chpw_client.specs.contracts.request.Sent as Sent
-use Rattle.chpw_client.proofs.request.Sent.TheSendSync as sent
+use Rattle.chpw_client.specs.contracts.request.SentRequest as SentRequest
+use Rattle.chpw_client.proofs.request.SentRequest.TheSendSync as sent
 use Rattle.tests_chpw.proofs.SendLemmas.{seven_send}
 use Rattle.tests_chpw.proofs.serving.answers.both_answers.Goals as goal
 
@@ -25,4 +25,4 @@ join-requires-send-F g c κs within =
     seven_send _ _ _ _ _ _ _ _ _ _ (shr_send _ _ (param 1 g.row.R) (search sendable)) (shr_send _ _ Barrier.the_row (search (barrier.the_sync, sendable)))
     (shr_send _ _ Global.the_row (search (global.the_sync, sendable))) (shr_send _ _ Service.the_row (search (service.the_sync, sendable)))
     (shr_send _ _ desk (search (desk_sync, memory.the_send, sendable))) (mut_send _ _ passes (search (pass.the_send, sendable)))
-    (shr_send _ _ Sent.the_row (search (sent.the_sync, sendable)))
+    (shr_send _ _ SentRequest.the_row (search (sent.the_sync, sendable)))

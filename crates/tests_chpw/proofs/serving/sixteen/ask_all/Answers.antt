@@ -11,8 +11,8 @@ use Rattle.chpw_journal.specs.contracts.memory_sink.MemorySinkJournalSink.TheImp
 use Rattle.chpw_journal.proofs.memory_sink.MemorySink.TheSendSync as memory
 use Rattle.chpw_messages.specs.contracts.service.Service as Service
 use Rattle.chpw_messages.proofs.service.Service.TheSendSync as service
-use Rattle.chpw_client.specs.contracts.request.Sent as Sent
-use Rattle.chpw_client.proofs.request.Sent.TheSendSync as sent
+use Rattle.chpw_client.specs.contracts.request.SentRequest as SentRequest
+use Rattle.chpw_client.proofs.request.SentRequest.TheSendSync as sent
 use Rattle.tests_chpw.specs.contracts.serving.sixteen.Told as Told
 use Rattle.tests_chpw.proofs.serving.sixteen.Told.TheSendSync as told
 use Rattle.tests_chpw.proofs.SendLemmas.{seven_sync}
@@ -24,4 +24,4 @@ for_each_mut-requires-sync-F g c κs within =
     seven_sync _ _ _ _ _ _ _ _ _ _ (shr_sync _ _ (param 1 g.row.R) (search sendable)) (shr_sync _ _ Barrier.the_row (search (barrier.the_sync, sendable)))
     (shr_sync _ _ Told.the_row (search (told.the_sync, sendable))) (shr_sync _ _ Global.the_row (search (global.the_sync, sendable)))
     (shr_sync _ _ Service.the_row (search (service.the_sync, sendable))) (shr_sync _ _ desk (search (desk_sync, memory.the_send, sendable)))
-    (shr_sync _ _ Sent.the_row (search (sent.the_sync, sendable)))
+    (shr_sync _ _ SentRequest.the_row (search (sent.the_sync, sendable)))
