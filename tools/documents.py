@@ -13,6 +13,7 @@ checks:
     made      what other scripts of tools/ write into the documents is as they would write it now
     reading   how many lines there are to read for a contract is what tools.believe prints
     lines     each line that the program prints on standard error stands in docs/ADMIN.md
+    commands  the program's commands and options, and those for a running service, are the same wherever they are written
     pages     the manual pages in packaging/man have the options and defaults of each command's help, and no others
     rooted    no command that is printed for root meets a name that the service's user could have made
     tasks     the blocks of docs/ADMIN.md that can be copied whole are those that tests.packages runs
@@ -28,7 +29,7 @@ A line is printed for each fault, `PLACE: what is wrong`. tools.check shows that
 import sys
 
 from harness.command import Parser
-from tools.doccheck import counts, dates, lines, links, made, names, pages, papers, prose, reading, rooted, samples, tables, tasks, versions, widths
+from tools.doccheck import commands, counts, dates, lines, links, made, names, pages, papers, prose, reading, rooted, samples, tables, tasks, versions, widths
 from tools.doccheck.tree import Faults, Tree
 
 CHECKS = {
@@ -40,6 +41,7 @@ CHECKS = {
     "made": made.check,
     "reading": reading.check,
     "lines": lines.check,
+    "commands": commands.check,
     "pages": pages.check,
     "rooted": rooted.check,
     "tasks": tasks.check,

@@ -12,7 +12,7 @@ import subprocess
 
 from .tree import TOP
 
-HELP = TOP / "crates/chpw_invocation/src/program.rt"
+HELP = TOP / "crates/chpw_invocation/src/option_lists.rt"
 AGENT = TOP / "agent/main.c"
 SETTINGS = TOP / "crates/chpw_config/src/explanation.rt"
 LIMITS = TOP / "crates/chpw_rules/src/limits.rt"
@@ -40,24 +40,32 @@ def of_text(value, is_needed, text):
 
 # ---- what the programs have
 
+def rows_of(source):
+    """The options that a part of the source has: kind, greatest number, name, value and help of each."""
+    row = r'OptionLine \{\s*name: "([\w-]+)",\s*kind: OptionKind::(\w+)(?:\((\w+)(?: as u32)?\))?,\s*value: "(\w*)",\s*help: "((?:[^"\\]|\\.)*)"'
+    return [(kind, limit, name, value, help_) for name, kind, limit, value, help_ in re.findall(row, source)]
+
+
+def lists_of_source():
+    """Of each command the rows of its options, from the source."""
+    source = HELP.read_text()
+    shared = {name: rows_of(body)[0] for name, body in re.findall(r"\nconst (\w+): OptionLine = (.*?);\n", source, re.DOTALL)}
+    lists = {"drill": []}
+    for name, body in re.findall(r"const (\w+)_OPTIONS: \[OptionLine; \d+\] = \[(.*?)\];", source, re.DOTALL):
+        parts = re.findall(r"OptionLine \{.*?\n?\s*\}|\b[A-Z_]+\b(?=[,\]]|$)", body, re.DOTALL)
+        lists[name.lower().replace("_", "-")] = [shared[it] if it in shared else rows_of(it)[0] for it in parts]
+    return lists
+
+
 def of_source():
     """The commands of chpw_server with their options, from the source."""
-    source = HELP.read_text()
-    texts = {name: re.sub(r"\\\n", "", text) for name, text in re.findall(r'const (\w+): &str =\s*"((?:[^"\\]|\\.|\\\n)*)";', source)}
-    kinds = {"required_option": True, "number": True, "word": True, "optional": False, "optional_number": False,
-             "optional_word": False, "repeated": False, "flag": False}
-    line = re.compile(rf'\b({"|".join(kinds)})\(\s*"([\w-]+)",\s*([^()]*?),?\s*\)')
+    needed = {"Required", "Number", "Word"}
     commands = {}
-    for body in re.split(r"\nfn ", source)[1:]:
-        found = re.search(r'command_with\(\s*alloc,\s*"([\w-]+)"', body)
-        if found:
-            options = {}
-            for kind, name, words in line.findall(body):
-                value = re.match(r'"(\w+)"', words)
-                text = texts[re.findall(r"\w+", words)[-1]]
-                name = value[1] if kind.endswith("word") else f"--{name}"
-                options[name] = of_text("" if name == (value and value[1]) or not value else value[1], kinds[kind], text)
-            commands[found[1]] = options
+    for command, rows in lists_of_source().items():
+        options = commands[command] = {}
+        for kind, _, name, value, help_ in rows:
+            is_word = kind.endswith("Word")
+            options[value if is_word else f"--{name}"] = of_text("" if is_word else value, kind in needed, help_)
     return commands
 
 

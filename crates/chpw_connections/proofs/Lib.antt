@@ -1,8 +1,12 @@
+pub mod AnswerLemmas
 pub mod ComesLemmas
 pub mod ConfirmLemmas
 pub mod EndsLemmas
 pub mod ExpiryLemmas
+pub mod KeptLemmas
 pub mod NeedLemmas
 pub mod NoteLemmas
 pub mod PassLemmas
+pub mod PresentLemmas
 pub mod RoomLemmas
+pub mod WithinLemmas

@@ -1,8 +1,12 @@
+pub mod Answers
 pub mod Confirming
 pub mod Expiry
+pub mod Fields
 pub mod Held
+pub mod Laws
 pub mod Noting
 pub mod Queues
 pub mod Rest
 pub mod Room
+pub mod Senders
 pub mod Turns

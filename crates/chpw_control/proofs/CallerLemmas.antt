@@ -3,10 +3,9 @@ use Rattle.std.proofs.Common.{◌≡◌, ℕ, List, [], ◌∷◌, ◌++◌, tak
 use Rattle.std.proofs.Common.{inl, inr, Bool, true, false, not, cond, ◌&&◌, Option, Some}
 use Rattle.std.proofs.Common.{None, Result, Ok, Err, refl, sym, ◌∙◌, ap, subst, append_assoc}
 use Rattle.std.proofs.lemmas.List.{append-nil, take-append-drop}
-use Rattle.chpw_control.specs.declared.command.Command.{Command}
 use Rattle.chpw_control.specs.declared.fault.ControlFault.{ControlFault}
 use Rattle.chpw_control.specs.declared.fault.ControlFault.TheVariants.{LineTooLong, NoWholeLine, Late, Memory}
-use Rattle.chpw_control.specs.Commands.{command_of}
+use Rattle.chpw_control.specs.Commands.{Command, command_of}
 use Rattle.chpw_control.specs.Dialogs.{State, is_short, is_whole, line_in, goes_on, told_of, after_bytes, told_by}
 use Rattle.chpw_control.specs.Callers.{Stage, asking, waiting, served, answered, deserted, over}
 use Rattle.chpw_control.specs.Callers.{Event, came, lacked, closed, expired, taken, told, wrote}

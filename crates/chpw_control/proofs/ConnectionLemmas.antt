@@ -5,10 +5,9 @@ use Rattle.std.specs.List.{concat}
 use Rattle.std.specs.Option.{option_to_list}
 use Rattle.std.proofs.lemmas.Bool.{leb-true}
 use Rattle.std.proofs.lemmas.List.{append-nil}
-use Rattle.chpw_control.specs.declared.command.Command.{Command}
 use Rattle.chpw_control.specs.declared.fault.ControlFault.{ControlFault}
 use Rattle.chpw_control.specs.declared.fault.ControlFault.TheVariants.{LineTooLong}
-use Rattle.chpw_control.specs.Commands.{command_of}
+use Rattle.chpw_control.specs.Commands.{Command, command_of}
 use Rattle.chpw_control.specs.Dialogs.{State, line_in, is_short, is_whole, goes_on, told_of}
 use Rattle.chpw_control.specs.Connections.{Event, says, ends, expires, told_from, Once, Piecewise, OnlyItsLine}
 use Rattle.chpw_control.proofs.LineLemmas.{line_split, settled, told_none}

@@ -8,10 +8,9 @@ use Rattle.std.specs.Str.{IsUtf8, is_utf8}
 use Rattle.std.proofs.lemmas.Str.{IsUtf8-from_is_utf8, is_utf8-from_IsUtf8}
 use Rattle.std.proofs.lemmas.List.Sums.{take_while-cons}
 use Rattle.std.proofs.lemmas.Bool.{and_from, and_parts, le-leb, leb-true, leb-false, lt-leb, eqb-true, not-true}
-use Rattle.chpw_control.specs.declared.command.Command.{Command}
 use Rattle.chpw_control.specs.declared.fault.ControlFault.{ControlFault}
 use Rattle.chpw_control.specs.declared.fault.ControlFault.TheVariants.{LineTooLong}
-use Rattle.chpw_control.specs.Commands.{command_of}
+use Rattle.chpw_control.specs.Commands.{Command, command_of}
 use Rattle.chpw_control.specs.FileNames.{is_file_name}
 use Rattle.chpw_control.specs.Dialogs.{is_newline, line_in, is_short, is_whole, goes_on, told_of, State, told_by}
 use Rattle.chpw_control.specs.Faults.{UnlessMemory, ToldUnlessMemory}

@@ -7,7 +7,7 @@ use Rattle.std.proofs.lemmas.List.{get_or_past}
 use Rattle.slab.specs.Slab.{Slab, get}
 use Rattle.chpw_control.specs.Seats.{is_order, waiting_by, waiting_at, number_at, number_in, earlier, IsFirst, NobodyWaits}
 use Rattle.chpw_control.specs.Callers.{Stage, asking, waiting, served, answered, deserted, over}
-use Rattle.chpw_control.specs.declared.command.Command.{Command}
+use Rattle.chpw_control.specs.Commands.{Command}
 use Rattle.chpw_control.specs.declared.command.Command.TheVariants.{Status, Reload, ReopenLog, Stop, Compact}
 use Rattle.chpw_control.specs.declared.callers.Seat.{Seat}
 

@@ -1,7 +1,7 @@
 -- The whole life of a caller at the control socket: what came of its line, the commands that were carried out for it,
 -- its answers, and what was written of them.
 use Rattle.std.specs.Prelude.{◌≡◌, ℕ, List, [], ◌∷◌, ◌++◌, take, ◌⊎◌, Option, Some, None, Result, Ok}
-use Rattle.chpw_control.specs.declared.command.Command.{Command}
+use Rattle.chpw_control.specs.Commands.{Command}
 use Rattle.chpw_control.specs.declared.fault.ControlFault.{ControlFault}
 use Rattle.chpw_control.specs.Dialogs.{at_start, told_of}
 use Rattle.chpw_control.specs.Callers.{Stage, asking, waiting, answered, Event, came, taken, wrote, after, error_line}

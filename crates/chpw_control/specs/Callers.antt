@@ -1,6 +1,6 @@
 -- The stage of a caller at the control socket, and what happens to it.
 use Rattle.std.specs.Prelude.{◌≡◌, ◌⊎◌, ℕ, ◌==◌, Bool, true, false, List, [], ◌++◌, length, drop, codes, Option, Some, None, Result, Ok, Err, if◌then◌else◌}
-use Rattle.chpw_control.specs.declared.command.Command.{Command}
+use Rattle.chpw_control.specs.Commands.{Command}
 use Rattle.chpw_control.specs.declared.fault.ControlFault.{ControlFault}
 use Rattle.chpw_control.specs.declared.fault.ControlFault.TheVariants.{NoWholeLine, Late, Memory}
 use Rattle.chpw_control.specs.Dialogs.{State, at_start, after_bytes, told_by, told_at_end}

@@ -1,10 +1,9 @@
 -- What holds of all that can happen on a connection.
 use Rattle.std.specs.Prelude.{◌≡◌, ℕ, ◌≤◌, false, List, [], ◌∷◌, ◌++◌, map, length, codes, Option, None, option_map, option_to_list, Result, Ok, Err}
 use Rattle.std.specs.List.{concat}
-use Rattle.chpw_control.specs.declared.command.Command.{Command}
 use Rattle.chpw_control.specs.declared.fault.ControlFault.{ControlFault}
 use Rattle.chpw_control.specs.declared.fault.ControlFault.TheVariants.{NoWholeLine, Late}
-use Rattle.chpw_control.specs.Commands.{command_of}
+use Rattle.chpw_control.specs.Commands.{Command, command_of}
 use Rattle.chpw_control.specs.Dialogs.{State, at_start, after_bytes, told_by, told_at_end, told_of, is_whole}
 
 -- the other side sends bytes, it ends, its time is up

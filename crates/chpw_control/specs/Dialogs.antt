@@ -1,10 +1,9 @@
 -- What a connection's bytes give: the command of their first line or its fault, once.
 use Rattle.std.specs.Prelude.{ℕ, Bool, true, not, ◌==◌, ◌&&◌, nat_le, if◌then◌else◌, List, [], ◌++◌, length, Option, Some, None, Result, Err}
 use Rattle.std.specs.List.{before_first, list_any}
-use Rattle.chpw_control.specs.declared.command.Command.{Command}
 use Rattle.chpw_control.specs.declared.fault.ControlFault.{ControlFault}
 use Rattle.chpw_control.specs.declared.fault.ControlFault.TheVariants.{LineTooLong}
-use Rattle.chpw_control.specs.Commands.{command_of}
+use Rattle.chpw_control.specs.Commands.{Command, command_of}
 
 abbrev pub is_newline : ℕ → Bool
 is_newline byte = byte == 10

@@ -1,7 +1,7 @@
 -- The callers at the control socket, each in a slot of its own. Moments are milliseconds.
 use Rattle.std.specs.Prelude.{◌≡◌, ◌≢◌, ℕ, ◌≤◌, ◌+◌, ◌-◌, List, [], Bool, true, false, nat_le, ◌&&◌, Option, Some, None, MatchOption, if◌then◌else◌}
 use Rattle.slab.specs.Slab.{Slab, get}
-use Rattle.chpw_control.specs.declared.command.Command.{Command}
+use Rattle.chpw_control.specs.Commands.{Command}
 use Rattle.chpw_control.specs.declared.command.Command.TheVariants.{Status, Reload, ReopenLog, Stop, Compact}
 use Rattle.chpw_control.specs.Callers.{Stage, asking, waiting, answered, Event, after, waiting_in, left_of, Hears, is_over}
 use Rattle.chpw_control.specs.declared.callers.Seat.{Seat}

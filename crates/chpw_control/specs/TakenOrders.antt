@@ -5,7 +5,7 @@ use Rattle.std.specs.List.{list_all}
 use Rattle.chpw_control.specs.Callers.{Stage, served, Event, told, after, is_over}
 use Rattle.chpw_control.specs.declared.callers.Seat.{Seat}
 use Rattle.chpw_control.specs.declared.callers.TakenOrder.{TakenOrder}
-use Rattle.chpw_control.specs.declared.command.Command.{Command}
+use Rattle.chpw_control.specs.Commands.{Command}
 
 abbrev pub command_in : TakenOrder → Command
 command_in o = o.command

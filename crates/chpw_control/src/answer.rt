@@ -7,11 +7,11 @@ use chpw_printing::put_words;
 use std::alloc::AllocError;
 
 /// Adds a line. A byte that isn't printable ASCII is written as `\x` and two hexadecimal digits, and so is a `\`.
-pub fn put_line(text: &mut Vec<u8>, words: &str) -> Result<(), AllocError>
+pub fn put_line(text: &mut Vec<u8>, words: &[u8]) -> Result<(), AllocError>
     ensures value { OnOk result (text.new.items
         ≡ text.old.items ++ lines_text (words_text words.now ∷ [])) }
 {
-    put_words(text, words.as_bytes())?;
+    put_words(text, words)?;
     text.push(b'\n')?;
     Ok(())
 }
@@ -24,7 +24,7 @@ pub fn put_ok(text: &mut Vec<u8>) -> Result<(), AllocError>
 }
 
 /// Adds the last line of an answer to a command that wasn't: the reason. The words are printed as in `put_line`.
-pub fn put_error(text: &mut Vec<u8>, words: &str) -> Result<(), AllocError>
+pub fn put_error(text: &mut Vec<u8>, words: &[u8]) -> Result<(), AllocError>
     ensures value { OnOk result (text.new.items
         ≡ text.old.items ++ lines_text (error_line words.now ∷ [])) }
 {

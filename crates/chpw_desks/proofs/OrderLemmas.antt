@@ -1,6 +1,6 @@
 -- What is due after a desk.
 use Rattle.std.proofs.Common.{◌≡◌, ℕ, List, refl, ap, sym}
-use Rattle.chpw_control.specs.declared.command.Command.{Command}
+use Rattle.chpw_control.specs.Commands.{Command}
 use Rattle.chpw_control.specs.declared.command.Command.TheVariants as command
 use Rattle.chpw_invocation.specs.declared.invocation.ServeOptions.{ServeOptions}
 use Rattle.chpw_control.specs.TakenOrders.{command_in}

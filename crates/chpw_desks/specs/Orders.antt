@@ -3,7 +3,7 @@
 use Rattle.std.specs.Prelude.{◌≡◌, ◌⊎◌, ℕ, List, [], Option, Some, None, true}
 use Rattle.std.specs.Borrow.{Bor}
 use Rattle.chpw_control.specs.Answers.{lines_text}
-use Rattle.chpw_control.specs.declared.command.Command.{Command}
+use Rattle.chpw_control.specs.Commands.{Command}
 use Rattle.chpw_control.specs.declared.command.Command.TheVariants as command
 use Rattle.chpw_control.specs.TakenOrders.{command_in}
 use Rattle.chpw_invocation.specs.declared.invocation.ServeOptions.{ServeOptions}

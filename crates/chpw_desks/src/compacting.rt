@@ -10,16 +10,15 @@ ghost use Rattle.chpw_start.specs.declared.fault.ServeFault.TheVariants.{Memory}
 
 use crate::context::ServiceContext;
 use crate::openings::{Opening, next_opening};
+use crate::tallies::tell_rollover;
 use chpw_control::TakenOrder;
 use chpw_journal::FileSink;
 use chpw_orders::{
     Compaction, JournalAt, JournalPlace, NotReplaced, answer_or_empty, compact_answer, go_on_in,
     text_to_write,
 };
-use chpw_serve::Clock as _;
 use chpw_start::ServeFault;
 use chpw_table::{JournalSink, Table};
-use chpw_workers::MachineClock;
 use std::alloc::Global;
 use std::fs::{self, File, Files};
 use std::sync::Wait;
@@ -33,9 +32,7 @@ pub(crate) fn compact<
     R: Files<File = File> + Wait + Clock + Eprint + AllocGlobal,
     T: Clock,
 >(
-    rt: &R,
-    time: &T,
-    hall: &ServiceContext<'l, R>,
+    context: &ServiceContext<'l, R, T>,
     order: TakenOrder,
     compaction: Compaction,
     table: Table,
@@ -44,22 +41,22 @@ pub(crate) fn compact<
     requires room { table.state.broken ≡ false
         → ⟦<FileSink<File> as JournalSink>⟧.failed sink < 2 ^ 64 - 1 }
     ensures table { IfOk result (λ next. table_of next.unnamed ≡ reopened table) }
-    ensures workers { IfOk result (λ next. workers_of next.unnamed ≡ hall.now.workers) }
+    ensures workers { IfOk result (λ next. workers_of next.unnamed ≡ context.now.workers) }
     ensures fault { IfErr result (λ fault. fault ≡ Memory) }
 {
-    hall.log
-        .tell_rollover(MachineClock::new(time).now(), &table);
+    tell_rollover(context, &table);
+    let rt = context.rt;
     let mut place = JournalAt {
         rt,
-        path: hall.options.journal,
+        path: context.options.journal,
     };
-    let replaced = replace(rt, hall, &mut place, &compaction, &table, &mut sink);
+    let replaced = replace(context, &mut place, &compaction, &table, &mut sink);
     if !matches!(replaced, Ok(()) | Err(NotReplaced::Unsafe)) {
         let _ = fs::remove_file(rt, compaction.copy.as_str());
     }
-    let answer = replaced_answer(rt.alloc(), hall.options.journal, replaced);
-    hall.engine.answer_order(rt, order, answer);
-    next_opening(table, sink, hall.workers)
+    let answer = replaced_answer(rt.alloc(), context.options.journal, replaced);
+    context.engine.answer_order(rt, order, answer);
+    next_opening(table, sink, context.workers)
 }
 
 // The answer to the order: whether a compact journal has replaced the one at this path.
@@ -70,9 +67,8 @@ fn replaced_answer(alloc: Global, path: &str, replaced: Result<(), NotReplaced>)
 }
 
 // Replaces the present journal by a compact one.
-fn replace<'l, R: Wait + Clock + Eprint + AllocGlobal, P: JournalPlace>(
-    rt: &R,
-    hall: &ServiceContext<'l, R>,
+fn replace<'l, R: Wait + Clock + Eprint + AllocGlobal, T, P: JournalPlace>(
+    context: &ServiceContext<'l, R, T>,
     place: &mut P,
     compaction: &Compaction,
     held: &Table,
@@ -84,11 +80,11 @@ fn replace<'l, R: Wait + Clock + Eprint + AllocGlobal, P: JournalPlace>(
     ensures unchanged { IfErr result (λ why. why ≢ Unsafe → sink.new ≡ sink.old) }
     ensures failed { ⟦<FileSink<File> as JournalSink>⟧.failed sink.new ≡ ⟦<FileSink<File> as JournalSink>⟧.failed sink.old }
 {
-    let present = hall.journal.bytes();
+    let present = context.journal.bytes();
     let Compaction { base, heading, .. } = compaction;
     let text = match text_to_write(
-        rt.alloc(),
-        hall.log.has_failed(),
+        context.rt.alloc(),
+        context.log.has_failed(),
         present,
         heading,
         base,

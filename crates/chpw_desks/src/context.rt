@@ -4,16 +4,21 @@ ghost use Rattle.chpw_reactor.specs.Engines.{workers_at};
 
 use crate::journals::JournalLength;
 use chpw_invocation::ServeOptions;
-use chpw_logging::Log;
+use chpw_logging::{Counters, Log};
 use chpw_reactor::Engine;
-use std::sync::Wait;
+use std::sync::{Mutex, Wait};
 
 /// What all desks are served with.
 #[derive(Drop)]
-pub struct ServiceContext<'l, R: Wait + Eprint> {
+pub struct ServiceContext<'l, R: Wait + Eprint, T> {
+    /// The machine that the service runs on.
+    pub rt: &'l R,
+    /// The clock that its moments come from.
+    pub time: &'l T,
     pub engine: Engine,
     pub workers: u8,
     pub log: &'l Log<'l, R>,
+    pub counters: &'l Mutex<Counters>,
     /// How long the journal is.
     pub journal: JournalLength,
     pub kdc: KdcPlace<'l>,

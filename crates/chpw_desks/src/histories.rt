@@ -16,16 +16,17 @@ use crate::closing::{Left, abandon_refused, left_by};
 use crate::compacting::compact;
 use crate::context::ServiceContext;
 use crate::keeping::keep_where_asked;
+use crate::machine::Machine;
 use crate::openings::{Opened, Opening, next_opening, start_desk};
 use crate::orders::{AfterClose, Orders};
 use crate::reloading::reload;
 use crate::staff::ServiceWorker;
-use crate::tallies::{report_expired, tell_tally};
+use crate::tallies::{report_expired, tell_rollover, tell_tally};
 use chpw_book::{DeskName, Pass};
 use chpw_journal::FileSink;
 use chpw_logging::{LogLines, Logging};
 use chpw_reactor::{Engine, EngineCrew, Seat};
-use chpw_serve::{Clock as _, WorkerWords};
+use chpw_serve::WorkerWords;
 use chpw_start::{Rules, ServeFault};
 use chpw_table::{JournalSink, Table};
 use chpw_workers::{
@@ -33,9 +34,7 @@ use chpw_workers::{
 };
 use std::fs::{File, Files};
 use std::marker::Brand;
-use std::net::Net;
 use std::sync::Wait;
-use std::thread::Threads;
 use std::time::Clock;
 
 /// Answers the messages of the engine's connections at this desk, and then at one after the other, until none will come
@@ -43,29 +42,20 @@ use std::time::Clock;
 /// configuration was reloaded, with the reload of it. The workers go from each desk to the next. The table of the last desk is
 /// returned; before that it is left to the next start, in the resume file, if there is to be one.
 #[tactic(auto, using(crate::proofs::ServiceRunLemmas::run_begins, crate::proofs::ServiceRunLemmas::run_leads))]
-pub fn serve_histories<
-    'a,
-    'h,
-    'l,
-    't,
-    D: DeskName + Send + Sync,
-    R: Files<File = File> + Net + Threads + Wait + Clock + Print + Eprint + AllocGlobal + Sync,
-    T: Clock + Sync,
->(
-    rt: &'h R,
-    time: &'t T,
-    hall: &'h ServiceContext<'l, R>,
+pub fn serve_histories<'a, 'h, 'l, D: DeskName + Send + Sync, R: Machine, T: Clock + Sync>(
+    context: &'h ServiceContext<'l, R, T>,
     mut rules: Rules,
-    workers: Vec<ServiceWorker<'h, 'l, 't, R, T>>,
+    workers: Vec<ServiceWorker<'h, 'l, R, T>>,
     first: Opened<D>,
 ) -> Result<Table, ServeFault<'a>>
-    requires passes { length first.passes.items ≡ hall.now.workers }
-    requires workers { length workers.items ≡ hall.now.workers }
-    ensures served { IfOk result (RunsTo (is_some hall.now.kdc.socket) hall.now.options.now (opening_table D.root) first.passes.items rules
+    requires passes { length first.passes.items ≡ context.now.workers }
+    requires workers { length workers.items ≡ context.now.workers }
+    ensures served { IfOk result (RunsTo (is_some context.now.kdc.socket) context.now.options.now (opening_table D.root) first.passes.items rules
         workers.entry.items) }
     ensures histories { IfOk result (λ table. IsServiceRun (opening_state D.root) table) }
     ensures fault { IfErr result IsLate }
 {
+    let rt = context.rt;
     let mut reported = Reported {
         is_lost: false,
         expired: 0,
@@ -73,22 +63,14 @@ pub fn serve_histories<
     let Attended {
         mut served,
         workers: mut staff,
-    } = serve_desk(rt, time, hall, &rules, workers, first, &mut reported)?;
+    } = serve_desk(context, &rules, workers, first, &mut reported)?;
     for _ in rt.forever() {
         if served.is_over {
-            keep_where_asked(rt, hall, &served.table, &served.sink);
-            return Ok(served.into_table(rt, &hall.engine));
+            keep_where_asked(context, &served.table, &served.sink);
+            return Ok(served.into_table(rt, &context.engine));
         }
-        let opening = further_opening(rt, time, hall, &mut rules, served)?;
-        let next = serve_history::<Brand, R, T>(
-            rt,
-            time,
-            hall,
-            &rules,
-            staff,
-            opening,
-            &mut reported,
-        )?;
+        let opening = further_opening(context, &mut rules, served)?;
+        let next = serve_history::<Brand, R, T>(context, &rules, staff, opening, &mut reported)?;
         let Attended {
             served: left,
             workers,
@@ -96,23 +78,21 @@ pub fn serve_histories<
         served = left;
         staff = workers;
     }
-    Ok(served.into_table(rt, &hall.engine))
+    Ok(served.into_table(rt, &context.engine))
 }
 
 // What the next desk opens with: the closed table, or a reload of it when the configuration was reloaded.
 #[tactic(auto, using(crate::proofs::ServiceRunLemmas::goes_on_itself, crate::proofs::ServiceRunLemmas::goes_on_by))]
 fn further_opening<'a, 'l, R: Files<File = File> + Wait + Clock + Eprint + AllocGlobal, T: Clock>(
-    rt: &R,
-    time: &T,
-    hall: &ServiceContext<'l, R>,
+    context: &ServiceContext<'l, R, T>,
     rules: &mut Rules,
     served: Served,
 ) -> Result<Opening, ServeFault<'a>>
     ensures goes_on { IfOk result (λ next. GoesOn served.table.state (table_of next.unnamed).state) }
     ensures due { IfOk result (λ next. DoesWhatIsDue served.due served.table rules.old rules.new (table_of next.unnamed)) }
-    ensures goes_on_by { IfSome served.due (IsDueBy hall.now.options.now rules.old.text.items)
-        → IfOk result (λ next. GoesOnBy hall.now.options.now served.table rules.old (table_of next.unnamed) rules.new) }
-    ensures workers { IfOk result (λ next. workers_of next.unnamed ≡ hall.now.workers) }
+    ensures goes_on_by { IfSome served.due (IsDueBy context.now.options.now rules.old.text.items)
+        → IfOk result (λ next. GoesOnBy context.now.options.now served.table rules.old (table_of next.unnamed) rules.new) }
+    ensures workers { IfOk result (λ next. workers_of next.unnamed ≡ context.now.workers) }
     ensures fault { IfErr result (λ fault. fault ≡ Memory) }
 {
     let Served {
@@ -123,15 +103,14 @@ fn further_opening<'a, 'l, R: Files<File = File> + Wait + Clock + Eprint + Alloc
     } = served;
     match due {
         None => {
-            hall.log
-                .tell_rollover(MachineClock::new(time).now(), &table);
-            next_opening(table, sink, hall.workers)
+            tell_rollover(context, &table);
+            next_opening(table, sink, context.workers)
         }
         Some(AfterClose::Reload(order, anew)) => {
-            reload(rt, time, hall, rules, order, anew, table, sink)
+            reload(context, rules, order, anew, table, sink)
         }
         Some(AfterClose::Compact(order, compaction)) => {
-            compact(rt, time, hall, order, compaction, table, sink)
+            compact(context, order, compaction, table, sink)
         }
     }
 }
@@ -181,97 +160,76 @@ struct Reported {
 }
 
 /// What is left of a service's desk.
-type ServedDesk<'h, 'l, 't, D, R, T> = AfterDesk<
+type ServedDesk<'h, 'l, D, R, T> = AfterDesk<
     D,
     FileSink<File>,
     Seat<'h, R>,
     Logging<LogLines<'l, R>>,
-    MachineClock<'t, T>,
+    MachineClock<'l, T>,
     WorkerWords,
 >;
 
 // What a closed desk left, and the workers that were there.
-struct Attended<'h, 'l, 't, R: Wait + Eprint, T: Clock> {
+struct Attended<'h, 'l, R: Wait + Eprint, T: Clock> {
     served: Served,
-    workers: Vec<ServiceWorker<'h, 'l, 't, R, T>>,
+    workers: Vec<ServiceWorker<'h, 'l, R, T>>,
 }
 
 // Serves at a desk of this name, with what it opens with.
-fn serve_history<
-    'a,
-    'h,
-    'l,
-    't,
-    D: DeskName + Send + Sync,
-    R: Files<File = File> + Net + Threads + Wait + Clock + Print + Eprint + AllocGlobal + Sync,
-    T: Clock + Sync,
->(
-    rt: &'h R,
-    time: &'t T,
-    hall: &'h ServiceContext<'l, R>,
+fn serve_history<'a, 'h, 'l, D: DeskName + Send + Sync, R: Machine, T: Clock + Sync>(
+    context: &'h ServiceContext<'l, R, T>,
     rules: &Rules,
-    workers: Vec<ServiceWorker<'h, 'l, 't, R, T>>,
+    workers: Vec<ServiceWorker<'h, 'l, R, T>>,
     opening: Opening,
     reported: &mut Reported,
-) -> Result<Attended<'h, 'l, 't, R, T>, ServeFault<'a>>
+) -> Result<Attended<'h, 'l, R, T>, ServeFault<'a>>
     requires name { IsNamed opening.unnamed D.name D.parts D.book D.root D.workers }
-    requires opening { workers_of opening.unnamed ≡ hall.now.workers }
-    requires workers { length workers.items ≡ hall.now.workers }
-    ensures served { IfOk result (λ left. (history : List Entry) × IsServed (is_some hall.now.kdc.socket) rules.now (table_of opening.unnamed)
+    requires opening { workers_of opening.unnamed ≡ context.now.workers }
+    requires workers { length workers.items ≡ context.now.workers }
+    ensures served { IfOk result (λ left. (history : List Entry) × IsServed (is_some context.now.kdc.socket) rules.now (table_of opening.unnamed)
         (new_passes (length workers.entry.items)) workers.entry.items left.workers.items history left.served.table) }
-    ensures due { IfOk result (λ left. IfSome left.served.due (IsDueBy hall.now.options.now rules.now.text.items)) }
-    ensures workers { IfOk result (λ left. length left.workers.items ≡ hall.now.workers) }
+    ensures due { IfOk result (λ left. IfSome left.served.due (IsDueBy context.now.options.now rules.now.text.items)) }
+    ensures workers { IfOk result (λ left. length left.workers.items ≡ context.now.workers) }
     ensures fault { IfErr result IsLate }
 {
-    match start_desk::<D, R>(rt, opening) {
+    match start_desk::<D, R>(context.rt, opening) {
         Err(_) => Err(ServeFault::Memory),
-        Ok(opened) => serve_desk(rt, time, hall, rules, workers, opened, reported),
+        Ok(opened) => serve_desk(context, rules, workers, opened, reported),
     }
 }
 
 // Serves at a desk, closes it and prints what it did.
-fn serve_desk<
-    'a,
-    'h,
-    'l,
-    't,
-    D: DeskName + Send + Sync,
-    R: Files<File = File> + Net + Threads + Wait + Clock + Print + Eprint + AllocGlobal + Sync,
-    T: Clock + Sync,
->(
-    rt: &'h R,
-    time: &'t T,
-    hall: &'h ServiceContext<'l, R>,
+fn serve_desk<'a, 'h, 'l, D: DeskName + Send + Sync, R: Machine, T: Clock + Sync>(
+    context: &'h ServiceContext<'l, R, T>,
     rules: &Rules,
-    workers: Vec<ServiceWorker<'h, 'l, 't, R, T>>,
+    workers: Vec<ServiceWorker<'h, 'l, R, T>>,
     opened: Opened<D>,
     reported: &mut Reported,
-) -> Result<Attended<'h, 'l, 't, R, T>, ServeFault<'a>>
-    requires passes { length opened.passes.items ≡ hall.now.workers }
-    requires workers { length workers.items ≡ hall.now.workers }
-    ensures served { IfOk result (λ left. (history : List Entry) × IsServed (is_some hall.now.kdc.socket) rules.now (opening_table D.root)
+) -> Result<Attended<'h, 'l, R, T>, ServeFault<'a>>
+    requires passes { length opened.passes.items ≡ context.now.workers }
+    requires workers { length workers.items ≡ context.now.workers }
+    ensures served { IfOk result (λ left. (history : List Entry) × IsServed (is_some context.now.kdc.socket) rules.now (opening_table D.root)
         opened.passes.items workers.entry.items left.workers.items history left.served.table) }
-    ensures due { IfOk result (λ left. IfSome left.served.due (IsDueBy hall.now.options.now rules.now.text.items)) }
-    ensures workers { IfOk result (λ left. length left.workers.items ≡ hall.now.workers) }
+    ensures due { IfOk result (λ left. IfSome left.served.due (IsDueBy context.now.options.now rules.now.text.items)) }
+    ensures workers { IfOk result (λ left. length left.workers.items ≡ context.now.workers) }
     ensures fault { IfErr result IsLate }
 {
-    let (AfterDesk { closed, workers }, done) = serve_shift(rt, time, hall, rules, workers, opened);
+    let (AfterDesk { closed, workers }, done) = serve_shift(context, rules, workers, opened);
     match closed {
         Err(refused) => {
-            give_up(rt, &hall.engine, done);
-            Err(abandon_refused(rt, refused))
+            give_up(context.rt, &context.engine, done);
+            Err(abandon_refused(context.rt, refused))
         }
         Ok(closed) => {
-            let served = after_close(rt, hall, left_by(closed), done, reported)?;
+            let served = after_close(context, left_by(closed), done, reported)?;
             Ok(Attended { served, workers })
         }
     }
 }
 
 // Reports what was done at a desk that is closed, and passes on what is due then.
-fn after_close<'a, 'l, R: Wait + Print + Eprint + AllocGlobal>(
-    rt: &R,
-    hall: &ServiceContext<'l, R>,
+fn after_close<'a, 'l, R: Wait + Print + Eprint + AllocGlobal, T>(
+    context: &ServiceContext<'l, R, T>,
     left: Left<FileSink<File>>,
     served: Result<Option<AfterClose>, NotStarted>,
     reported: &mut Reported,
@@ -282,15 +240,16 @@ fn after_close<'a, 'l, R: Wait + Print + Eprint + AllocGlobal>(
     ensures fault { IfErr result IsLate }
 {
     let Left { tally, table, sink } = left;
-    let over = hall.engine.is_over(rt);
+    let rt = context.rt;
+    let over = context.engine.is_over(rt);
     report_expired(
-        hall.log,
-        hall.engine.expired_count(rt),
+        context.log,
+        context.engine.expired_count(rt),
         &mut reported.expired,
     );
     let last = over || served.is_err();
-    if let Err(fault) = tell_tally(rt, hall.log, tally, last, &mut reported.is_lost) {
-        give_up(rt, &hall.engine, served);
+    if let Err(fault) = tell_tally(rt, context.log, tally, last, &mut reported.is_lost) {
+        give_up(rt, &context.engine, served);
         return Err(fault);
     }
     match served {
@@ -306,54 +265,44 @@ fn after_close<'a, 'l, R: Wait + Print + Eprint + AllocGlobal>(
 
 // Answers messages at a desk, unless a raise has taken the only entry that its history has room for, carries out orders
 // meanwhile, and closes the desk. Returns also what is due then.
-fn serve_shift<
-    'h,
-    'l,
-    't,
-    D: DeskName + Send + Sync,
-    R: Files<File = File> + Net + Threads + Wait + Clock + Print + Eprint + AllocGlobal + Sync,
-    T: Clock + Sync,
->(
-    rt: &'h R,
-    time: &'t T,
-    hall: &'h ServiceContext<'l, R>,
+fn serve_shift<'h, 'l, D: DeskName + Send + Sync, R: Machine, T: Clock + Sync>(
+    context: &'h ServiceContext<'l, R, T>,
     rules: &Rules,
-    workers: Vec<ServiceWorker<'h, 'l, 't, R, T>>,
+    workers: Vec<ServiceWorker<'h, 'l, R, T>>,
     opened: Opened<D>,
 ) -> (
-    ServedDesk<'h, 'l, 't, D, R, T>,
+    ServedDesk<'h, 'l, D, R, T>,
     Result<Option<AfterClose>, NotStarted>,
 )
     requires paired { vec_len opened.passes ≡ vec_len workers }
-    ensures served { IfOk result.0.closed (λ c. IsServed (is_some hall.now.kdc.socket) rules.now (opening_table D.root)
+    ensures served { IfOk result.0.closed (λ c. IsServed (is_some context.now.kdc.socket) rules.now (opening_table D.root)
         opened.passes.items workers.entry.items result.0.workers.items c.history.items c.table) }
     ensures refused { IfErr result.0.closed (λ r. IsMismatch (opening_state D.root) D.workers r.passes.items) }
-    ensures due { IfOk result.1 (λ due. IfSome due (IsDueBy hall.now.options.now rules.now.text.items)) }
+    ensures due { IfOk result.1 (λ due. IfSome due (IsDueBy context.now.options.now rules.now.text.items)) }
 {
     let Opened { desk, passes } = opened;
+    let rt = context.rt;
     let crew = EngineCrew {
         rt,
-        engine: &hall.engine,
+        engine: &context.engine,
     };
-    let context = Context {
+    let desk_context = Context {
         alloc: rt.alloc(),
         service: &rules.service,
-        has_kdc: hall.kdc.socket.is_some(),
+        has_kdc: context.kdc.socket.is_some(),
         crew: &crew,
         room: Some(rules.max_entries),
     };
     if is_full(&passes, rules.max_entries) {
-        let left = close_desk(rt, &context, desk, Staff { passes, workers });
+        let left = close_desk(rt, &desk_context, desk, Staff { passes, workers });
         return (left, Ok(None));
     }
-    hall.engine.start(rt);
+    context.engine.start(rt);
     let orders = Orders {
-        rt,
-        time,
-        hall,
+        context,
         in_force: &rules.text,
     };
-    run_desk(rt, &context, desk, Staff { passes, workers }, orders)
+    run_desk(rt, &desk_context, desk, Staff { passes, workers }, orders)
 }
 
 // Whether the first pass has as many receipts as a history may have entries.

@@ -16,15 +16,14 @@ use std::sync::Wait;
 
 /// Leaves what the next start takes over of this table in the resume file, if one was asked for, while the journal is still locked.
 /// Nothing is left if an append to the journal failed. A file that can't be written is reported.
-pub(crate) fn keep_where_asked<'l, R: Files<File = File> + Wait + Eprint + AllocGlobal>(
-    rt: &R,
-    hall: &ServiceContext<'l, R>,
+pub(crate) fn keep_where_asked<'l, R: Files<File = File> + Wait + Eprint + AllocGlobal, T>(
+    context: &ServiceContext<'l, R, T>,
     table: &Table,
     journal: &FileSink<File>,
 ) {
-    if let Some(path) = hall.options.resume {
-        if journal.failures() > 0 || keep(rt, path, table, journal.file()).is_err() {
-            hall.log.tell(Notice::NotKept(path));
+    if let Some(path) = context.options.resume {
+        if journal.failures() > 0 || keep(context.rt, path, table, journal.file()).is_err() {
+            context.log.tell(Notice::NotKept(path));
         }
     }
 }

@@ -38,9 +38,7 @@ impl AfterClose {
 /// Carries out the orders of callers at the control socket, while the workers of a desk answer messages.
 #[derive(Drop)]
 pub(crate) struct Orders<'s, 'l, R: Wait + Eprint, T> {
-    pub rt: &'s R,
-    pub time: &'s T,
-    pub hall: &'s ServiceContext<'l, R>,
+    pub context: &'s ServiceContext<'l, R, T>,
     /// The text of the configuration in force: the one that was read last, by the start or a reload.
     pub in_force: &'s [u8],
 }
@@ -50,7 +48,7 @@ impl<R: Files<File = File> + Net + Wait + Clock + Eprint + AllocGlobal, T: Clock
     ghost use Rattle.std.specs.Prelude.{IfSome};
     ghost use Rattle.chpw_desks.specs.Orders.{IsDueBy};
 
-    ghost gives = { λ orders due. IfSome due (IsDueBy orders.hall.now.options.now orders.in_force.now) };
+    ghost gives = { λ orders due. IfSome due (IsDueBy orders.context.now.options.now orders.in_force.now) };
 
     /// What is due once the desk is closed.
     type Done = Option<AfterClose>;
@@ -58,17 +56,17 @@ impl<R: Files<File = File> + Net + Wait + Clock + Eprint + AllocGlobal, T: Clock
     /// Carries out one order after the other, until the workers are to take no more messages. If something is due after
     /// the desk, that is at once; the thread that opens the next desk then answers the caller.
     fn run(self) -> Option<AfterClose> {
-        let engine = &self.hall.engine;
-        for _ in self.rt.forever() {
-            let order = engine.next_order(self.rt)?;
+        let engine = &self.context.engine;
+        for _ in self.context.rt.forever() {
+            let order = engine.next_order(self.context.rt)?;
             match self.carry_out(order.command()) {
-                Carried::Answered(answer) => engine.answer_order(self.rt, order, answer),
+                Carried::Answered(answer) => engine.answer_order(self.context.rt, order, answer),
                 Carried::Reload(anew) => {
-                    engine.stop(self.rt);
+                    engine.stop(self.context.rt);
                     return Some(AfterClose::Reload(order, anew));
                 }
                 Carried::Compact(compaction) => {
-                    engine.stop(self.rt);
+                    engine.stop(self.context.rt);
                     return Some(AfterClose::Compact(order, compaction));
                 }
             }
@@ -95,54 +93,57 @@ impl<R: Files<File = File> + Net + Wait + Clock + Eprint + AllocGlobal, T: Clock
     T,
 > {
     fn carry_out(&self, command: &Command) -> Carried
-        ensures carried { IsCarriedOut self.now.hall.now.options.now self.now.in_force.now command.now result }
+        ensures carried { IsCarriedOut self.now.context.now.options.now self.now.in_force.now command.now result }
     {
         match command {
             Command::Reload => self.begin_reload(),
             Command::ReopenLog => self.reopen_log(),
             Command::Compact(copy) => self.begin_compaction(copy),
-            Command::Status | Command::Stop => not_an_order(self.rt.alloc()),
+            Command::Status | Command::Stop => not_an_order(self.context.rt.alloc()),
         }
     }
 
     fn begin_reload(&self) -> Carried
-        ensures begins { BeginsReload self.now.hall.now.options.now result }
+        ensures begins { BeginsReload self.now.context.now.options.now result }
     {
-        let options = self.hall.options;
-        if let Some(why) = exposure_at(self.rt, options, options.config) {
-            return exposed_answer(self.rt.alloc(), options.config, why);
+        let rt = self.context.rt;
+        let options = self.context.options;
+        if let Some(why) = exposure_at(rt, options, options.config) {
+            return exposed_answer(rt.alloc(), options.config, why);
         }
-        match read_anew(self.rt, options) {
+        match read_anew(rt, options) {
             Ok(anew) => Carried::Reload(anew),
             Err(fault) => {
-                let answer = prepare_refusal(self.rt.alloc(), &fault);
-                Carried::Answered(answer_or_empty(self.rt.alloc(), answer))
+                let answer = prepare_refusal(rt.alloc(), &fault);
+                Carried::Answered(answer_or_empty(rt.alloc(), answer))
             }
         }
     }
 
     fn reopen_log(&self) -> Carried
-        ensures reopens { ReopensLog self.now.hall.now.options.now result }
+        ensures reopens { ReopensLog self.now.context.now.options.now result }
     {
-        let options = self.hall.options;
+        let rt = self.context.rt;
+        let options = self.context.options;
         if let Some(log) = options.log {
-            if let Some(why) = exposure_at(self.rt, options, log) {
-                return exposed_answer(self.rt.alloc(), log, why);
+            if let Some(why) = exposure_at(rt, options, log) {
+                return exposed_answer(rt.alloc(), log, why);
             }
         }
-        let now = MachineClock::new(self.time).now();
-        let answer = reopen_answer(self.rt.alloc(), self.hall.log.reopen(options, now));
-        Carried::Answered(answer_or_empty(self.rt.alloc(), answer))
+        let now = MachineClock::new(self.context.time).now();
+        let answer = reopen_answer(rt.alloc(), self.context.log.reopen(options, now));
+        Carried::Answered(answer_or_empty(rt.alloc(), answer))
     }
 
     fn begin_compaction(&self, copy: &FileName) -> Carried
-        ensures begins { BeginsCompaction self.now.hall.now.options.now self.now.in_force.now copy.now result }
+        ensures begins { BeginsCompaction self.now.context.now.options.now self.now.in_force.now copy.now result }
     {
-        match begin_compaction(self.rt, self.hall.options, self.in_force, copy) {
+        let rt = self.context.rt;
+        match begin_compaction(rt, self.context.options, self.in_force, copy) {
             Ok(compaction) => Carried::Compact(compaction),
             Err(fault) => {
-                let answer = compact_refusal(self.rt.alloc(), &fault);
-                Carried::Answered(answer_or_empty(self.rt.alloc(), answer))
+                let answer = compact_refusal(rt.alloc(), &fault);
+                Carried::Answered(answer_or_empty(rt.alloc(), answer))
             }
         }
     }

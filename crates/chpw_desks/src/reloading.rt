@@ -10,6 +10,7 @@ ghost use Rattle.chpw_start.specs.declared.fault.ServeFault.TheVariants.{Memory}
 
 use crate::context::ServiceContext;
 use crate::openings::{Opening, next_opening};
+use crate::tallies::tell_rollover;
 use chpw_book::UnnamedDesk;
 use chpw_control::TakenOrder;
 use chpw_journal::FileSink;
@@ -32,9 +33,7 @@ use std::time::Clock;
 /// order is answered.
 #[tactic(auto, using(crate::proofs::ServiceRunLemmas::takes_new))]
 pub(crate) fn reload<'a, 'l, R: Wait + Clock + Eprint + AllocGlobal, T: Clock>(
-    rt: &R,
-    time: &T,
-    hall: &ServiceContext<'l, R>,
+    context: &ServiceContext<'l, R, T>,
     rules: &mut Rules,
     order: TakenOrder,
     anew: PendingReload,
@@ -45,7 +44,7 @@ pub(crate) fn reload<'a, 'l, R: Wait + Clock + Eprint + AllocGlobal, T: Clock>(
         → ⟦<FileSink<File> as JournalSink>⟧.failed sink < 2 ^ 64 - 1 }
     ensures goes_on { IfOk result (λ next. GoesOn table.state (table_of next.unnamed).state) }
     ensures rules { IfOk result (λ next. TakesRules anew table rules.old rules.new (table_of next.unnamed)) }
-    ensures workers { IfOk result (λ next. workers_of next.unnamed ≡ hall.now.workers) }
+    ensures workers { IfOk result (λ next. workers_of next.unnamed ≡ context.now.workers) }
     ensures fault { IfErr result (λ fault. fault ≡ Memory) }
 {
     let PendingReload {
@@ -55,24 +54,24 @@ pub(crate) fn reload<'a, 'l, R: Wait + Clock + Eprint + AllocGlobal, T: Clock>(
         names,
         warnings,
     } = anew;
+    let rt = context.rt;
     match made_anew(rt.alloc(), renewed, rest, table) {
         Ok(NextTable { table, lacked }) => {
             *rules = next_rules;
-            tell_reloaded(rt, time, hall, &table, &lacked);
+            tell_reloaded(context, &table, &lacked);
             let answer = reloaded_answer(rt.alloc(), &warnings, &lacked);
-            hall.engine.hold_table(rt, &table, names);
-            hall.engine.answer_order(rt, order, answer);
+            context.engine.hold_table(rt, &table, names);
+            context.engine.answer_order(rt, order, answer);
             Ok(Opening {
-                unnamed: UnnamedDesk::of(table, hall.workers),
+                unnamed: UnnamedDesk::of(table, context.workers),
                 sink,
             })
         }
         Err(RefusedReload { fault, closed }) => {
-            hall.log
-                .tell_rollover(MachineClock::new(time).now(), &closed);
+            tell_rollover(context, &closed);
             let answer = refused_answer(rt.alloc(), &fault);
-            hall.engine.answer_order(rt, order, answer);
-            next_opening(closed, sink, hall.workers)
+            context.engine.answer_order(rt, order, answer);
+            next_opening(closed, sink, context.workers)
         }
     }
 }
@@ -108,15 +107,14 @@ fn refused_answer(alloc: Global, fault: &ReloadFault) -> Vec<u8>
 
 // Reports the reload in the log, and on standard error if the configuration lacks principals.
 fn tell_reloaded<'l, R: Wait + Eprint, T: Clock>(
-    rt: &R,
-    time: &T,
-    hall: &ServiceContext<'l, R>,
+    context: &ServiceContext<'l, R, T>,
     table: &Table,
     lacked: &[Name],
 ) {
-    let now = MachineClock::new(time).now();
-    hall.log.tell_reload(now, table);
+    let now = MachineClock::new(context.time).now();
+    let event = context.counters.lock(context.rt).reload(table);
+    context.log.put_event(now, &event);
     if !lacked.is_empty() {
-        hall.log.tell(Notice::Lacked(lacked.len() as u64));
+        context.log.tell(Notice::Lacked(lacked.len() as u64));
     }
 }

@@ -4,9 +4,24 @@ ghost use Rattle.chpw_desks.specs.Tallies.{after_print};
 ghost use Rattle.chpw_start.specs.declared.fault.ServeFault.TheVariants.{CannotPrint};
 
 use crate::closing::Tally;
+use crate::context::ServiceContext;
 use chpw_logging::{Log, Notice, is_first, take_unreported};
+use chpw_serve::Clock as _;
 use chpw_start::ServeFault;
+use chpw_table::Table;
+use chpw_workers::MachineClock;
 use std::sync::Wait;
+use std::time::Clock;
+
+/// Appends the line of a history that opens with the table that the last one left: it has the counts of the last one.
+pub(crate) fn tell_rollover<R: Wait + Eprint, T: Clock>(
+    context: &ServiceContext<'_, R, T>,
+    table: &Table,
+) {
+    let now = MachineClock::new(context.time).now();
+    let event = context.counters.lock(context.rt).roll_over(table);
+    context.log.put_event(now, &event);
+}
 
 /// Reports how many more messages had waited too long for their worker.
 pub(crate) fn report_expired<R: Wait + Eprint>(log: &Log<'_, R>, expired: u32, reported: &mut u32)

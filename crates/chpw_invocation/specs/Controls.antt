@@ -1,28 +1,21 @@
--- The commands that a running service accepts at its control socket.
-use Rattle.std.specs.Prelude.{Bool, true, false, Option, Some, None, codes, bytes_eq, if◌then◌else◌}
+-- A command for a running service, as the command line gives it: its file is a text.
+use Rattle.std.specs.Prelude.{Bool, List, ℕ, Option, option_map}
+use Rattle.std.specs.Borrow.{Bor}
 use Rattle.clap.specs.Walk.{Text}
-use Rattle.chpw_invocation.specs.declared.invocation.ControlCommand.{ControlCommand}
-use Rattle.chpw_invocation.specs.declared.invocation.ControlCommand.TheVariants.{Status, Reload, ReopenLog, Stop, Compact}
+use Rattle.chpw_control.specs.Commands as commands
+use Rattle.chpw_control.specs.declared.command.Command.{Command}
 
--- the word that names a command
+abbrev pub ControlCommand : Type 0
+ControlCommand = Command (Bor (List ℕ))
+
+-- the word that names it
 abbrev pub word_of : ControlCommand → Text
-word_of Status = codes "status"
-word_of Reload = codes "reload"
-word_of ReopenLog = codes "reopen-log"
-word_of Stop = codes "stop"
-word_of (Compact file) = codes "compact"
+word_of command = commands.word_of command
 
 -- the file that it takes
 abbrev pub file_of : ControlCommand → Option Text
-file_of (Compact file) = Some file.now
-file_of _ = None
+file_of command = option_map (λ file. file.now) (commands.file_of command)
 
 -- whether the command that a word names takes a file; none if it names no command
 abbrev pub takes_file : Text → Option Bool
-takes_file word =
-    if bytes_eq word (codes "status") then Some false
-    else if bytes_eq word (codes "reload") then Some false
-    else if bytes_eq word (codes "reopen-log") then Some false
-    else if bytes_eq word (codes "stop") then Some false
-    else if bytes_eq word (codes "compact") then Some true
-    else None
+takes_file word = option_map (λ command. commands.takes_file command) (commands.named word)

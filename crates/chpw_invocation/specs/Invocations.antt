@@ -15,7 +15,7 @@ use Rattle.chpw_invocation.specs.Addresses.{HasWildcard, IsListening, IsNoList}
 use Rattle.chpw_invocation.specs.Listening.{listened}
 use Rattle.chpw_invocation.specs.Controls.{file_of, takes_file, word_of}
 use Rattle.chpw_invocation.specs.Refusals.{kind_for}
-use Rattle.chpw_invocation.specs.Sharing.{usual_per_peer}
+use Rattle.chpw_invocation.specs.Sharing.{default_per_peer}
 use Rattle.chpw_invocation.specs.declared.refusing.Refusal.{Refusal}
 use Rattle.chpw_invocation.specs.declared.refusing.Refusal.TheVariants.{OldTarget, TwoPasswords, NoPassword, NoCommand, NoKdc, AnyDatagrams}
 use Rattle.chpw_invocation.specs.declared.refusing.Refusal.TheVariants.{NoFile, SpareFile, NoForm, NoLimit, NoRealm, SpareSource, NoSource, SpareConfig}
@@ -52,8 +52,8 @@ MayHaveNumber low high options name (Some number) = HasNumber low high options n
 
 -- an option with a default has this number, within these limits, or is left out and this is its default
 abbrev pub HasNumberOr : ℕ → ℕ → ℕ → List Row → Text → ℕ → Type 0
-HasNumberOr usual low high options name number =
-    ((first_of name options ≡ None) × (number ≡ usual)) ⊎ HasNumber low high options name number
+HasNumberOr default low high options name number =
+    ((first_of name options ≡ None) × (number ≡ default)) ⊎ HasNumber low high options name number
 
 -- no number within these limits, as numbers are printed, is its value
 abbrev pub LacksNumber : ℕ → ℕ → List Row → Text → Type 0
@@ -155,7 +155,7 @@ pub record AsksServe (options : List Row) (asked : ServeOptions) : Type 0 where
   pub connections : HasLimit options asked.connections
   pub idle : HasNumberOr 30 1 3600 options (codes "idle") asked.idle
   pub clients : HasNumberOr 1024 1 65536 options (codes "clients") asked.clients
-  pub clients_per_peer : HasNumberOr (usual_per_peer asked.clients) 1 65536 options (codes "clients-per-peer") asked.clients_per_peer
+  pub clients_per_peer : HasNumberOr (default_per_peer asked.clients) 1 65536 options (codes "clients-per-peer") asked.clients_per_peer
   pub buffers : HasNumberOr 32 1 1024 options (codes "buffers") asked.buffers
   pub raise : MayHaveNumber 1 16777216 options (codes "raise") asked.raise
   pub log : option_map (λ file. file.now) asked.log ≡ first_of (codes "log") options

@@ -55,10 +55,6 @@ rule_by OptionalWord name = optional_word name
 abbrev pub rule_for : OptionLine → Rule
 rule_for line = rule_by line.kind line.name.now
 
--- what the help calls its value, and what it says of it
-abbrev pub texts_of : OptionLine → Text × Text
-texts_of line = (line.value.now, line.help.now)
-
 -- what the help says of clap's argument
 abbrev pub help_of : Arg → Option Text
 help_of arg = option_map (λ text. text.now) arg.help

@@ -2,5 +2,5 @@
 use Rattle.std.specs.Prelude.{ℕ, ◌/◌, max}
 
 -- how many one peer may have if nothing is said: a quarter, and at least 1
-abbrev pub usual_per_peer : ℕ → ℕ
-usual_per_peer clients = max 1 (clients / 4)
+abbrev pub default_per_peer : ℕ → ℕ
+default_per_peer clients = max 1 (clients / 4)

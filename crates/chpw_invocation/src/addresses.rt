@@ -4,7 +4,7 @@ ghost use Rattle.clap.specs.Walk.{Text};
 ghost use Rattle.chpw_invocation.specs.Addresses.{AreListed, HasAddress, IsListening, IsNoList, IsOneMore, NamesNoAddress, RefusesText};
 ghost use Rattle.chpw_invocation.specs.Listening.{listened};
 
-use crate::listening::{ListenAddresses, USUAL_ADDRESS};
+use crate::listening::{DEFAULT_ADDRESS, ListenAddresses};
 use crate::refusing::Refusal;
 use std::net::IpAddr;
 
@@ -14,7 +14,7 @@ pub(crate) fn addresses_of(texts: &[&str]) -> Result<ListenAddresses, Refusal>
     ensures refused { IfErr result (IsNoList (map (λ t. t.now) texts.now)) }
 {
     match texts {
-        [] => Ok(ListenAddresses::of(USUAL_ADDRESS)),
+        [] => Ok(ListenAddresses::of(DEFAULT_ADDRESS)),
         [first, others @ ..] => match address_of(first) {
             Ok(address) => addresses_from(address, others),
             Err(refusal) => Err(refusal),

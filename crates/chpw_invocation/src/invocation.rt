@@ -1,9 +1,9 @@
 //! What a user asks the program for.
-ghost use Rattle.std.specs.Prelude.{◌≡◌, ◌≤◌, ℕ, Some, true, None, length, option_map};
-ghost use Rattle.chpw_invocation.specs.Controls.{file_of, word_of};
-ghost use Rattle.chpw_invocation.specs.Sharing.{usual_per_peer};
+ghost use Rattle.std.specs.Prelude.{◌≡◌, ◌≤◌, ℕ, Some, true, None, length};
+ghost use Rattle.chpw_invocation.specs.Sharing.{default_per_peer};
 
 use crate::listening::ListenAddresses;
+use chpw_control::Command;
 
 /// The greatest `--port`.
 pub const GREATEST_PORT: u16 = 65_535;
@@ -15,20 +15,20 @@ pub const MOST_WORKERS: u8 = 16;
 pub const LONGEST_IDLE: u16 = 3600;
 
 /// The default of `--idle`: the seconds of waiting for its client after which a connection is ended.
-pub const USUAL_IDLE: u16 = 30;
+pub const DEFAULT_IDLE: u16 = 30;
 
 /// The greatest `--clients`.
 pub const MOST_CLIENTS: u32 = 65_536;
 
 /// The default of `--clients`: how many connections may be open at a time.
-pub const USUAL_CLIENTS: u32 = 1_024;
+pub const DEFAULT_CLIENTS: u32 = 1_024;
 
 /// The greatest `--clients-per-peer`.
 pub const MOST_CLIENTS_PER_PEER: u32 = 65_536;
 
 /// The default of `--clients-per-peer`: a quarter of `--clients`, and at least 1.
-pub fn usual_clients_per_peer(clients: u32) -> u32
-    ensures value { result ≡ usual_per_peer clients }
+pub fn default_clients_per_peer(clients: u32) -> u32
+    ensures value { result ≡ default_per_peer clients }
 {
     if clients < 4 { 1 } else { clients / 4 }
 }
@@ -37,25 +37,25 @@ pub fn usual_clients_per_peer(clients: u32) -> u32
 pub const MOST_BUFFERS: u16 = 1_024;
 
 /// The default of `--buffers`: the MiB that the messages and replies of all connections may hold together.
-pub const USUAL_BUFFERS: u16 = 32;
+pub const DEFAULT_BUFFERS: u16 = 32;
 
 /// The greatest `--kdc-wait`, in milliseconds: a minute.
 pub const LONGEST_KDC_WAIT: u32 = 60_000;
 
 /// The default of `--kdc-wait`: the milliseconds that the reply to a change waits for the KDC.
-pub const USUAL_KDC_WAIT: u32 = 2_000;
+pub const DEFAULT_KDC_WAIT: u32 = 2_000;
 
 /// The greatest iteration count.
 pub const GREATEST_COUNT: u32 = 16_777_216;
 
 /// The default iteration count of keys (RFC 3962 section 4).
-pub const USUAL_COUNT: u32 = 4096;
+pub const DEFAULT_COUNT: u32 = 4096;
 
 /// The greatest key version.
 pub const GREATEST_KVNO: u32 = 4_294_967_295;
 
 /// The default key version.
-pub const USUAL_KVNO: u32 = 1;
+pub const DEFAULT_KVNO: u32 = 1;
 
 /// The most bytes in a realm.
 pub const LONGEST_REALM: usize = 255;
@@ -113,21 +113,21 @@ pub struct ServeOptions<'a> {
     pub seed: &'a str,
     /// 1 to 65535.
     pub port: u16,
-    /// The addresses at which it listens; default [`USUAL_ADDRESS`](crate::USUAL_ADDRESS).
+    /// The addresses at which it listens; default [`DEFAULT_ADDRESS`](crate::DEFAULT_ADDRESS).
     pub listen: ListenAddresses,
     /// 1 to 16.
     pub workers: u8,
     /// After how many connections it ends.
     pub connections: ConnectionLimit,
     /// After how many seconds of waiting for its client a connection is ended, 1 to [`LONGEST_IDLE`]; default
-    /// [`USUAL_IDLE`].
+    /// [`DEFAULT_IDLE`].
     pub idle: u16,
-    /// How many connections may be open at a time, 1 to 65,536; default [`USUAL_CLIENTS`].
+    /// How many connections may be open at a time, 1 to 65,536; default [`DEFAULT_CLIENTS`].
     pub clients: u32,
-    /// How many of them one peer may have at a time, 1 to 65,536; default [`usual_clients_per_peer`] of `clients`.
+    /// How many of them one peer may have at a time, 1 to 65,536; default [`default_clients_per_peer`] of `clients`.
     pub clients_per_peer: u32,
     /// How many MiB the messages and replies of all connections may hold together, 1 to 1,024; default
-    /// [`USUAL_BUFFERS`].
+    /// [`DEFAULT_BUFFERS`].
     pub buffers: u16,
     /// The iteration count that new keys are raised to before the service listens, 1 to 16,777,216; none to leave it.
     pub raise: Option<u32>,
@@ -138,7 +138,7 @@ pub struct ServeOptions<'a> {
     /// The socket of the agent at the KDC's database; without one keys go nowhere else, and no reply waits.
     pub kdc: Option<&'a str>,
     /// How many milliseconds the reply to a change waits for the KDC, 1 to [`LONGEST_KDC_WAIT`]; default
-    /// [`USUAL_KDC_WAIT`].
+    /// [`DEFAULT_KDC_WAIT`].
     pub kdc_wait: u32,
     /// Whether requests are decided only while the KDC gets each change within that time.
     pub require_kdc: bool,
@@ -163,53 +163,13 @@ pub struct ServeOptions<'a> {
     ghost some_count: { (count : ℕ) → raise ≡ Some count → (1 ≤ count) × (count ≤ 16777216) },
 }
 
-/// Send a command to a running service.
-#[derive(Clone, Copy, Drop)]
-pub enum ControlCommand<'a> {
-    /// Report its state.
-    Status,
-    /// Reload its configuration.
-    Reload,
-    /// Reopen its log file.
-    ReopenLog,
-    /// Stop.
-    Stop,
-    /// Write a compact journal to this file.
-    Compact { file: &'a str },
-}
-
-impl<'a> ControlCommand<'a> {
-    /// The word that names it.
-    pub fn word(&self) -> &'static str
-        ensures value { result.now ≡ word_of self.now }
-    {
-        match self {
-            ControlCommand::Status => "status",
-            ControlCommand::Reload => "reload",
-            ControlCommand::ReopenLog => "reopen-log",
-            ControlCommand::Stop => "stop",
-            ControlCommand::Compact { .. } => "compact",
-        }
-    }
-
-    /// The file that it takes.
-    pub fn file(&self) -> Option<&'a str>
-        ensures value { option_map (λ file. file.now) result ≡ file_of self.now }
-    {
-        match self {
-            ControlCommand::Compact { file } => Some(file),
-            _ => None,
-        }
-    }
-}
-
 /// A command for a running service, and where to send it.
 #[derive(Clone, Copy, Drop)]
 pub struct ControlOptions<'a> {
     /// The service's control socket.
     pub socket: &'a str,
     /// The command.
-    pub command: ControlCommand<'a>,
+    pub command: Command<&'a str>,
 }
 
 /// The output forms of `table`.
@@ -252,7 +212,7 @@ pub struct ImportOptions<'a> {
     pub keytab: &'a str,
     /// 1 to [`LONGEST_REALM`] bytes.
     pub realm: &'a str,
-    /// The iteration count that the principals' keys were made with, 1 to 16,777,216; default [`USUAL_COUNT`].
+    /// The iteration count that the principals' keys were made with, 1 to 16,777,216; default [`DEFAULT_COUNT`].
     pub iterations: u32,
     ghost some_realm: { (1 ≤ length realm.now) × (length realm.now ≤ 255) },
     ghost some_count: { (1 ≤ iterations) × (iterations ≤ 16777216) },
@@ -265,7 +225,7 @@ pub struct KdcOptions<'a> {
     pub socket: &'a str,
     /// The configuration's file whose table `kdc` says who is the service's, if there is one.
     pub config: Option<&'a str>,
-    /// The iteration count that the KDC makes keys with, 1 to 16,777,216; default [`USUAL_COUNT`].
+    /// The iteration count that the KDC makes keys with, 1 to 16,777,216; default [`DEFAULT_COUNT`].
     pub iterations: u32,
     ghost some_count: { (1 ≤ iterations) × (iterations ≤ 16777216) },
 }
@@ -279,7 +239,7 @@ pub struct KeyOptions<'a> {
     pub name: &'a str,
     /// The password's file.
     pub password_file: &'a str,
-    /// 1 to 16,777,216; default [`USUAL_COUNT`].
+    /// 1 to 16,777,216; default [`DEFAULT_COUNT`].
     pub iterations: u32,
     /// 1 to 4,294,967,295; default 1.
     pub kvno: u32,

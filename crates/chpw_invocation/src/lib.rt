@@ -5,18 +5,20 @@ mod addresses;
 mod invocation;
 mod listening;
 mod matching;
+mod option_lists;
 mod options;
 mod program;
 mod refusing;
+mod texts;
 
 pub use invocation::{
-    ClientOptions, ConnectionLimit, ControlCommand, ControlOptions, GREATEST_COUNT, GREATEST_KVNO,
+    ClientOptions, ConnectionLimit, ControlOptions, DEFAULT_BUFFERS, DEFAULT_CLIENTS,
+    DEFAULT_COUNT, DEFAULT_IDLE, DEFAULT_KDC_WAIT, DEFAULT_KVNO, GREATEST_COUNT, GREATEST_KVNO,
     GREATEST_PORT, ImportOptions, Invocation, KdcOptions, KeyOptions, LONGEST_IDLE,
     LONGEST_KDC_WAIT, LONGEST_REALM, MOST_BUFFERS, MOST_CLIENTS, MOST_CLIENTS_PER_PEER,
     MOST_WORKERS, NewJournalOptions, PasswordSource, ServeOptions, TableForm, TableOptions,
-    USUAL_BUFFERS, USUAL_CLIENTS, USUAL_COUNT, USUAL_IDLE, USUAL_KDC_WAIT, USUAL_KVNO,
-    usual_clients_per_peer,
+    default_clients_per_peer,
 };
-pub use listening::{ListenAddresses, MOST_ADDRESSES, USUAL_ADDRESS};
+pub use listening::{DEFAULT_ADDRESS, ListenAddresses, MOST_ADDRESSES};
 pub use matching::command_of;
 pub use program::VERSION;

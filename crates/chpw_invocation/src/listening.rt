@@ -8,7 +8,7 @@ use std::net::{IpAddr, Ipv4Addr};
 pub const MOST_ADDRESSES: usize = 64;
 
 /// The address at which a service listens that is told none.
-pub const USUAL_ADDRESS: IpAddr = IpAddr::V4(Ipv4Addr::LOCALHOST);
+pub const DEFAULT_ADDRESS: IpAddr = IpAddr::V4(Ipv4Addr::LOCALHOST);
 
 /// The addresses at which a service listens, 1 to 64, in the order in which they are given.
 #[derive(Clone, Copy, Drop)]

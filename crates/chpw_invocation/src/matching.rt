@@ -18,20 +18,21 @@ ghost use Rattle.chpw_invocation.specs.Controls as controls;
 ghost use Rattle.chpw_invocation.specs.Controls.{file_of, word_of};
 ghost use Rattle.chpw_invocation.specs.Addresses.{IsListening, IsNoList};
 ghost use Rattle.chpw_invocation.specs.Listening.{listened};
-ghost use Rattle.chpw_invocation.specs.Sharing.{usual_per_peer};
+ghost use Rattle.chpw_invocation.specs.Sharing.{default_per_peer};
 
 use crate::addresses::addresses_of;
 use crate::invocation::{
-    ClientOptions, ConnectionLimit, ControlCommand, ControlOptions, GREATEST_COUNT, GREATEST_KVNO,
+    ClientOptions, ConnectionLimit, ControlOptions, DEFAULT_BUFFERS, DEFAULT_CLIENTS,
+    DEFAULT_COUNT, DEFAULT_IDLE, DEFAULT_KDC_WAIT, DEFAULT_KVNO, GREATEST_COUNT, GREATEST_KVNO,
     GREATEST_PORT, ImportOptions, Invocation, KdcOptions, KeyOptions, LONGEST_IDLE,
     LONGEST_KDC_WAIT, LONGEST_REALM, MOST_BUFFERS, MOST_CLIENTS, MOST_CLIENTS_PER_PEER,
     MOST_WORKERS, NewJournalOptions, PasswordSource, ServeOptions, TableForm, TableOptions,
-    USUAL_BUFFERS, USUAL_CLIENTS, USUAL_COUNT, USUAL_IDLE, USUAL_KDC_WAIT, USUAL_KVNO,
-    usual_clients_per_peer,
+    default_clients_per_peer,
 };
 use crate::listening::ListenAddresses;
 use crate::program::program as new_program;
 use crate::refusing::{Refusal, import_refusal, lacks_kdc, refusal_of};
+use chpw_control::Command;
 use clap::{ArgMatches, Error};
 use std::alloc::Global;
 
@@ -246,12 +247,12 @@ fn control_of<'a>(options: &ArgMatches<'a>) -> Option<Invocation<'a>>
 {
     Some(Invocation::Control(ControlOptions {
         socket: text_of(options, "socket")?,
-        command: told_of(options)?,
+        command: control_command(options)?,
     }))
 }
 
 // The command for a running service, with its file if it takes one.
-fn told_of<'a>(options: &ArgMatches<'a>) -> Option<ControlCommand<'a>>
+fn control_command<'a>(options: &ArgMatches<'a>) -> Option<Command<&'a str>>
     ensures word { IfSome result (λ c. HasText (rows_of (found_of options.now)) (codes "command") (word_of c)) }
     ensures file { IfSome result (λ c. file_of c ≡ first_of (codes "file") (rows_of (found_of options.now))) }
     ensures none { Suits (filled (required_word (codes "command"))) (rows_of (found_of options.now))
@@ -264,29 +265,22 @@ fn told_of<'a>(options: &ArgMatches<'a>) -> Option<ControlCommand<'a>>
     }
 }
 
-fn without_file<'a>(word: &str) -> Option<ControlCommand<'a>>
+fn without_file<'a>(word: &str) -> Option<Command<&'a str>>
     ensures word { IfSome result (λ c. word_of c ≡ word.now) }
     ensures file { IfSome result (λ c. file_of c ≡ None) }
     ensures none { result ≡ None → controls.takes_file word.now ≢ Some false }
 {
-    match word {
-        "status" => Some(ControlCommand::Status),
-        "reload" => Some(ControlCommand::Reload),
-        "reopen-log" => Some(ControlCommand::ReopenLog),
-        "stop" => Some(ControlCommand::Stop),
-        _ => None,
-    }
+    let command = Command::<()>::named(word.as_bytes())?;
+    command.with_file(None)
 }
 
-fn with_file<'a>(word: &str, file: &'a str) -> Option<ControlCommand<'a>>
+fn with_file<'a>(word: &str, file: &'a str) -> Option<Command<&'a str>>
     ensures word { IfSome result (λ c. word_of c ≡ word.now) }
     ensures file { IfSome result (λ c. file_of c ≡ Some file.now) }
     ensures none { result ≡ None → controls.takes_file word.now ≢ Some true }
 {
-    match word {
-        "compact" => Some(ControlCommand::Compact { file }),
-        _ => None,
-    }
+    let command = Command::<()>::named(word.as_bytes())?;
+    command.with_file(Some(file))
 }
 
 #[tactic(auto, using(crate::proofs::NeedLemmas::required_there))]
@@ -358,7 +352,7 @@ pub(crate) fn listen_of(options: &ArgMatches<'_>) -> Result<ListenAddresses, Ref
     Ok(listen)
 }
 
-// The addresses that are given, or the usual one.
+// The addresses that are given, or the default one.
 fn given_of(options: &ArgMatches<'_>) -> Result<ListenAddresses, Refusal>
     ensures listen { IfOk result (λ l. IsListening (given (rows_of (found_of options.now))) (listened l)) }
     ensures refused { IfErr result (IsNoList (given (rows_of (found_of options.now)))) }
@@ -446,16 +440,16 @@ fn number_in(text: &str) -> Option<ConnectionLimit>
 
 // The number of an option with this default.
 #[tactic(auto, using(crate::proofs::NeedLemmas::given_taken))]
-fn number_or(options: &ArgMatches<'_>, name: &str, usual: u32, greatest: u32) -> Option<u32>
+fn number_or(options: &ArgMatches<'_>, name: &str, default: u32, greatest: u32) -> Option<u32>
     ensures number { IfSome result
-        (HasNumberOr usual 1 greatest (rows_of (found_of options.now)) name.now) }
-    ensures range { IfSome result (λ number. (number ≡ usual) ⊎ ((1 ≤ number) × (number ≤ greatest))) }
+        (HasNumberOr default 1 greatest (rows_of (found_of options.now)) name.now) }
+    ensures range { IfSome result (λ number. (number ≡ default) ⊎ ((1 ≤ number) × (number ≤ greatest))) }
     ensures lacks { result ≡ None → LacksGiven 1 greatest (rows_of (found_of options.now)) name.now }
     ensures taken { Suits (filled (may_be_numbered name.now greatest)) (rows_of (found_of options.now))
         → result ≢ None }
 {
     if text_of(options, name).is_none() {
-        return Some(usual);
+        return Some(default);
     }
     number_of(options, name, greatest)
 }
@@ -469,7 +463,7 @@ fn idle_of(options: &ArgMatches<'_>) -> Option<u16>
     let idle = number_or(
         options,
         "idle",
-        u32::from(USUAL_IDLE),
+        u32::from(DEFAULT_IDLE),
         u32::from(LONGEST_IDLE),
     )?;
     Some(idle as u16)
@@ -482,20 +476,20 @@ fn clients_of(options: &ArgMatches<'_>) -> Option<u32>
     ensures lacks { result ≡ None → LacksGiven 1 65536 (rows_of (found_of options.now)) (codes "clients") }
     ensures taken { Suits (filled options_of.clients) (rows_of (found_of options.now)) → result ≢ None }
 {
-    number_or(options, "clients", USUAL_CLIENTS, MOST_CLIENTS)
+    number_or(options, "clients", DEFAULT_CLIENTS, MOST_CLIENTS)
 }
 
 // How many of these connections one peer may have at a time.
 fn clients_per_peer_of(options: &ArgMatches<'_>, clients: u32) -> Option<u32>
     requires few { clients ≤ 65536 }
     ensures clients_per_peer { IfSome result
-        (HasNumberOr (usual_per_peer clients) 1 65536 (rows_of (found_of options.now)) (codes "clients-per-peer")) }
+        (HasNumberOr (default_per_peer clients) 1 65536 (rows_of (found_of options.now)) (codes "clients-per-peer")) }
     ensures lacks { result ≡ None
         → LacksGiven 1 65536 (rows_of (found_of options.now)) (codes "clients-per-peer") }
     ensures taken { Suits (filled options_of.clients_per_peer) (rows_of (found_of options.now)) → result ≢ None }
 {
-    let usual = usual_clients_per_peer(clients);
-    number_or(options, "clients-per-peer", usual, MOST_CLIENTS_PER_PEER)
+    let default = default_clients_per_peer(clients);
+    number_or(options, "clients-per-peer", default, MOST_CLIENTS_PER_PEER)
 }
 
 // How many MiB the messages and replies of all connections may hold.
@@ -508,7 +502,7 @@ fn buffers_of(options: &ArgMatches<'_>) -> Option<u16>
     let buffers = number_or(
         options,
         "buffers",
-        u32::from(USUAL_BUFFERS),
+        u32::from(DEFAULT_BUFFERS),
         u32::from(MOST_BUFFERS),
     )?;
     Some(buffers as u16)
@@ -522,7 +516,7 @@ fn kdc_wait_of(options: &ArgMatches<'_>) -> Option<u32>
         → LacksGiven 1 60000 (rows_of (found_of options.now)) (codes "kdc-wait") }
     ensures taken { Suits (filled options_of.kdc_wait) (rows_of (found_of options.now)) → result ≢ None }
 {
-    number_or(options, "kdc-wait", USUAL_KDC_WAIT, LONGEST_KDC_WAIT)
+    number_or(options, "kdc-wait", DEFAULT_KDC_WAIT, LONGEST_KDC_WAIT)
 }
 
 // The iteration count to raise to, if one is given.
@@ -549,7 +543,7 @@ fn iterations_of(options: &ArgMatches<'_>) -> Option<u32>
         → LacksGiven 1 16777216 (rows_of (found_of options.now)) (codes "iterations") }
     ensures taken { Suits (filled options_of.iterations) (rows_of (found_of options.now)) → result ≢ None }
 {
-    number_or(options, "iterations", USUAL_COUNT, GREATEST_COUNT)
+    number_or(options, "iterations", DEFAULT_COUNT, GREATEST_COUNT)
 }
 
 // The version of keys that are made of a password.
@@ -559,5 +553,5 @@ fn kvno_of(options: &ArgMatches<'_>) -> Option<u32>
     ensures lacks { result ≡ None → LacksGiven 1 4294967295 (rows_of (found_of options.now)) (codes "kvno") }
     ensures taken { Suits (filled options_of.kvno) (rows_of (found_of options.now)) → result ≢ None }
 {
-    number_or(options, "kvno", USUAL_KVNO, GREATEST_KVNO)
+    number_or(options, "kvno", DEFAULT_KVNO, GREATEST_KVNO)
 }

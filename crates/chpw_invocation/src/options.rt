@@ -1,5 +1,5 @@
 //! The kinds of options. Each has only its long name.
-ghost use Rattle.std.specs.Prelude.{◌≡◌, [], Some, false, pos};
+ghost use Rattle.std.specs.Prelude.{◌≡◌, Some, false, pos};
 ghost use Rattle.clap.specs.Walk.{rule_of};
 ghost use Rattle.clap.specs.declared.builder.value_parser.ValueParser.TheVariants as parser;
 ghost use Rattle.chpw_invocation.specs.Options as specs_of;
@@ -32,141 +32,12 @@ pub(crate) enum OptionKind {
 /// An option of a command.
 #[derive(Clone, Copy, Drop)]
 pub(crate) struct OptionLine {
-    name: &'static str,
-    kind: OptionKind,
-    // The name of its value in the help.
-    value: &'static str,
-    help: &'static str,
-}
-
-/// A required option with a value.
-pub(crate) fn required_option(
-    name: &'static str,
-    value: &'static str,
-    help: &'static str,
-) -> OptionLine
-    ensures rule { specs_of.rule_for result ≡ specs_of.required name.entry.now }
-    ensures texts { specs_of.texts_of result ≡ (value.entry.now, help.entry.now) }
-{
-    let kind = OptionKind::Required;
-    OptionLine {
-        name,
-        kind,
-        value,
-        help,
-    }
-}
-
-/// An optional option with a value.
-pub(crate) fn optional(name: &'static str, value: &'static str, help: &'static str) -> OptionLine
-    ensures rule { specs_of.rule_for result ≡ specs_of.optional name.entry.now }
-    ensures texts { specs_of.texts_of result ≡ (value.entry.now, help.entry.now) }
-{
-    let kind = OptionKind::Optional;
-    OptionLine {
-        name,
-        kind,
-        value,
-        help,
-    }
-}
-
-/// An option with a value that may be given more than once.
-pub(crate) fn repeated(name: &'static str, value: &'static str, help: &'static str) -> OptionLine
-    ensures rule { specs_of.rule_for result ≡ specs_of.repeated name.entry.now }
-    ensures texts { specs_of.texts_of result ≡ (value.entry.now, help.entry.now) }
-{
-    let kind = OptionKind::Repeated;
-    OptionLine {
-        name,
-        kind,
-        value,
-        help,
-    }
-}
-
-/// A required option with a number from 1 to a limit.
-pub(crate) fn number(
-    name: &'static str,
-    value: &'static str,
-    limit: u32,
-    help: &'static str,
-) -> OptionLine
-    ensures rule { specs_of.rule_for result ≡ specs_of.numbered name.entry.now limit }
-    ensures texts { specs_of.texts_of result ≡ (value.entry.now, help.entry.now) }
-{
-    let kind = OptionKind::Number(limit);
-    OptionLine {
-        name,
-        kind,
-        value,
-        help,
-    }
-}
-
-/// An optional option with a number from 1 to a limit.
-pub(crate) fn optional_number(
-    name: &'static str,
-    value: &'static str,
-    limit: u32,
-    help: &'static str,
-) -> OptionLine
-    ensures rule { specs_of.rule_for result ≡ specs_of.may_be_numbered name.entry.now limit }
-    ensures texts { specs_of.texts_of result ≡ (value.entry.now, help.entry.now) }
-{
-    let kind = OptionKind::OptionalNumber(limit);
-    OptionLine {
-        name,
-        kind,
-        value,
-        help,
-    }
-}
-
-/// An option without a value.
-pub(crate) fn flag(name: &'static str, help: &'static str) -> OptionLine
-    ensures rule { specs_of.rule_for result ≡ specs_of.flag name.entry.now }
-    ensures texts { specs_of.texts_of result ≡ ([], help.entry.now) }
-{
-    let kind = OptionKind::Flag;
-    OptionLine {
-        name,
-        kind,
-        value: "",
-        help,
-    }
-}
-
-/// A required positional word.
-pub(crate) fn word(name: &'static str, value: &'static str, help: &'static str) -> OptionLine
-    ensures rule { specs_of.rule_for result ≡ specs_of.required_word name.entry.now }
-    ensures texts { specs_of.texts_of result ≡ (value.entry.now, help.entry.now) }
-{
-    let kind = OptionKind::Word;
-    OptionLine {
-        name,
-        kind,
-        value,
-        help,
-    }
-}
-
-/// An optional positional word.
-pub(crate) fn optional_word(
-    name: &'static str,
-    value: &'static str,
-    help: &'static str,
-) -> OptionLine
-    ensures rule { specs_of.rule_for result ≡ specs_of.optional_word name.entry.now }
-    ensures texts { specs_of.texts_of result ≡ (value.entry.now, help.entry.now) }
-{
-    let kind = OptionKind::OptionalWord;
-    OptionLine {
-        name,
-        kind,
-        value,
-        help,
-    }
+    pub name: &'static str,
+    pub kind: OptionKind,
+    /// The name of its value in the help.
+    pub value: &'static str,
+    /// What the help says of it, with its limits and its default.
+    pub help: &'static str,
 }
 
 /// The option as a clap argument.

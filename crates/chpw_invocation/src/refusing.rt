@@ -12,6 +12,7 @@ ghost use Rattle.chpw_invocation.specs.Refusals.{kind_for, text_for};
 
 use crate::invocation::LONGEST_REALM;
 use crate::matching::{is_given, listen_of, text_of};
+use chpw_control::Command;
 use clap::ArgMatches;
 use clap::error::ErrorKind;
 
@@ -262,10 +263,9 @@ pub(crate) fn is_realm(realm: &str) -> bool
 fn takes_file(word: &str) -> Option<bool>
     ensures value { result ≡ controls.takes_file word.now }
 {
-    match word {
-        "status" | "reload" | "reopen-log" | "stop" => Some(false),
-        "compact" => Some(true),
-        _ => None,
+    match Command::<()>::named(word.as_bytes()) {
+        Some(command) => Some(command.takes_file()),
+        None => None,
     }
 }
 

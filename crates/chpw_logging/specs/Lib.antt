@@ -1,4 +1,4 @@
-pub mod Facts
+pub mod Counters
 pub mod Names
 pub mod Notices
 pub mod Noting

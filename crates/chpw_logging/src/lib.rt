@@ -2,13 +2,13 @@
 //! standard error.
 #![tactic(auto)]
 
-mod facts;
+mod counters;
 mod logging;
 mod names;
 mod notices;
 mod observers;
 
-pub use facts::{Facts, time_of};
+pub use counters::{Counters, time_of};
 pub use logging::{Log, LogLines, log_of};
 pub use notices::{Notice, is_first, take_unreported};
 pub use observers::{Lines, Logging};

@@ -7,9 +7,9 @@ ghost use Rattle.chpw_log.specs.Kinds.{AreFew, IsFew};
 ghost use Rattle.chpw_start.specs.Faults.{IsOfClash, IsOfLog, IsUnlogged};
 ghost use Rattle.chpw_start.specs.declared.fault.ServeFault.TheVariants.{Memory};
 
-use crate::facts::Facts;
+use crate::counters::Counters;
 use crate::names::name_state;
-use crate::notices::{Appended, Losses, Notice, is_first};
+use crate::notices::{Losses, Notice, is_first};
 use crate::observers::Lines;
 use chpw_control::NameState;
 use chpw_invocation::ServeOptions;
@@ -18,8 +18,8 @@ use chpw_log::{
     HeldCount, HeldCounts, HeldKind, Line, LineLimits, ServiceEvent, micros_of, write_event,
     write_held, write_line, write_unconfirmed, write_update,
 };
-use chpw_start::{LineOutput, RaiseReport, ServeFault, is_standard_error, keep_apart};
-use chpw_table::{KdcUpdate, Moment, Table, UpdateVerdict};
+use chpw_start::{LineOutput, ServeFault, is_standard_error, keep_apart};
+use chpw_table::{KdcUpdate, Moment, UpdateVerdict};
 use std::alloc::{AllocError, Global};
 use std::fs::{File, Files};
 use std::io::{self, ErrorKind};
@@ -42,7 +42,6 @@ pub struct Log<'l, R> {
     failed: Mutex<bool>,
     /// What is read of the journal that is open, once it is.
     marks: Mutex<Option<JournalMarks>>,
-    facts: Mutex<Facts>,
     book: Option<Book<'l>>,
 }
 
@@ -82,7 +81,6 @@ pub fn log_of<'l, 'a: 'l, R: Files<File = File> + Net>(
         journal: options.journal,
         failed: Mutex::new(false),
         marks: Mutex::new(None),
-        facts: Mutex::new(Facts::default()),
         book,
     })
 }
@@ -124,35 +122,11 @@ fn unlogged_fault(path: &str, error: io::Error) -> ServeFault<'_>
 }
 
 impl<R: Wait + Eprint> Log<'_, R> {
-    /// Appends the line of a start with this table.
-    pub fn tell_start(&self, now: Moment, table: &Table)
+    // Appends the line of an update from the KDC that was decided so.
+    fn put_update(&self, now: Moment, update: &KdcUpdate, verdict: UpdateVerdict)
         requires moment { IsMoment now }
         requires micros { now.micros < 1000000 }
     {
-        let event = self.facts.lock(self.rt).start(now, table);
-        self.put_event(now, &event);
-    }
-
-    /// A raise was decided: an entry of the history, and a line if the count was raised.
-    pub fn tell_raise(&self, now: Moment, told: RaiseReport)
-        requires moment { IsMoment now }
-        requires micros { now.micros < 1000000 }
-    {
-        let raised = self.facts.lock(self.rt).raise(told);
-        if let Some(event) = raised {
-            self.put_event(now, &event);
-        }
-        if matches!(told, RaiseReport::Broken) {
-            self.tell_failed(now);
-        }
-    }
-
-    /// An update from the KDC was decided: an entry of the history, and a line.
-    pub fn tell_update(&self, now: Moment, update: &KdcUpdate, verdict: UpdateVerdict)
-        requires moment { IsMoment now }
-        requires micros { now.micros < 1000000 }
-    {
-        self.facts.lock(self.rt).count_update();
         if let Some(book) = &self.book {
             self.put_text(book, write_update(self.alloc, now, update, verdict));
         }
@@ -161,39 +135,25 @@ impl<R: Wait + Eprint> Log<'_, R> {
         }
     }
 
-    /// Appends the summaries that are still due, and the line of the end. They are the last ones.
-    pub fn end(&self, now: Moment)
+    /// Appends the summaries that are still due, and the line of the event that ends the service. They are the last ones.
+    pub fn end(&self, now: Moment, event: &ServiceEvent)
         requires moment { IsMoment now }
         requires micros { now.micros < 1000000 }
+        requires quiet { IsQuietTold event.now }
     {
         if let Some(book) = &self.book {
             let held = book.end.lock(self.rt).limits.rest();
             self.put_counts(book, now, held);
         }
-        self.put_event(now, &self.facts().end());
+        self.put_event(now, event);
     }
 
-    /// The counters, as they are now.
-    pub fn facts(&self) -> Facts {
-        *self.facts.lock(self.rt)
-    }
-
-    /// A further history opens with this table, after a reload.
-    pub fn tell_reload(&self, now: Moment, table: &Table)
-        requires moment { IsMoment now }
-        requires micros { now.micros < 1000000 }
-    {
-        let event = self.facts.lock(self.rt).reload(table);
-        self.put_event(now, &event);
-    }
-
-    /// A further history opens with the table that the last one left: the line has the counts of the last one.
-    pub fn tell_rollover(&self, now: Moment, table: &Table)
-        requires moment { IsMoment now }
-        requires micros { now.micros < 1000000 }
-    {
-        let event = self.facts.lock(self.rt).roll_over(table);
-        self.put_event(now, &event);
+    /// How many of its lines couldn't be written.
+    pub fn lost_count(&self) -> u64 {
+        match &self.book {
+            Some(book) => book.end.lock(self.rt).losses.count,
+            None => 0,
+        }
     }
 
     /// From now on these are the marks of the journal that is open.
@@ -234,7 +194,7 @@ impl<R: Wait + Eprint> Log<'_, R> {
     }
 
     /// Appends the line of an event of the service.
-    pub(crate) fn put_event(&self, now: Moment, event: &ServiceEvent)
+    pub fn put_event(&self, now: Moment, event: &ServiceEvent)
         requires moment { IsMoment now }
         requires micros { now.micros < 1000000 }
         requires quiet { IsQuietTold event.now }
@@ -303,17 +263,13 @@ impl<R: Wait + Eprint> Log<'_, R> {
 
     // Appends the text of a line. If there is none, because memory was refused, the line is lost.
     fn put_text(&self, book: &Book<'_>, text: Result<Vec<u8>, AllocError>) {
-        let Appended { is_lost, is_due } = book.append(self.rt, text);
-        if is_lost {
-            self.facts.lock(self.rt).lose();
-        }
-        if is_due {
+        if book.append(self.rt, text) {
             self.tell(Notice::LogLost(book.path));
         }
     }
 
     /// Reports that the journal failed, the first time.
-    pub(crate) fn tell_failed(&self, now: Moment)
+    pub fn tell_failed(&self, now: Moment)
         requires moment { IsMoment now }
         requires micros { now.micros < 1000000 }
     {
@@ -399,8 +355,8 @@ impl Book<'_> {
         }
     }
 
-    // Appends this line.
-    fn append<R: Wait + Eprint>(&self, rt: &R, line: Result<Vec<u8>, AllocError>) -> Appended {
+    // Appends this line. Whether a first loss is to be reported.
+    fn append<R: Wait + Eprint>(&self, rt: &R, line: Result<Vec<u8>, AllocError>) -> bool {
         let mut end = self.end.lock(rt);
         let whole = match line {
             Ok(line) => end.sheet.append(rt, line.as_slice()),
@@ -415,20 +371,21 @@ impl Book<'_> {
 /// clause says what they hold.
 #[derive(Drop)]
 pub struct LogLines<'l, R> {
-    /// The log, which all workers share.
+    /// The log and the counters, which all workers share.
     pub log: &'l Log<'l, R>,
+    pub counters: &'l Mutex<Counters>,
 }
 
 impl<R: Wait + Eprint> Lines for LogLines<'_, R> {
     ghost takes = { λ a n b. Unit {0} };
 
     fn put(&mut self, line: &Line<'_>) {
-        self.log.facts.lock(self.log.rt).count_line(line);
+        self.counters.lock(self.log.rt).count_line(line);
         self.log.put(line);
     }
 
     fn put_limited(&mut self, kind: HeldKind, line: &Line<'_>) {
-        self.log.facts.lock(self.log.rt).count_line(line);
+        self.counters.lock(self.log.rt).count_line(line);
         self.log.put_limited(kind, line);
     }
 
@@ -437,6 +394,7 @@ impl<R: Wait + Eprint> Lines for LogLines<'_, R> {
     }
 
     fn put_update(&mut self, now: Moment, update: &KdcUpdate, verdict: UpdateVerdict) {
-        self.log.tell_update(now, update, verdict);
+        self.counters.lock(self.log.rt).count_update();
+        self.log.put_update(now, update, verdict);
     }
 }

@@ -1,5 +1,5 @@
 //! Notices on standard error of a service that goes on, each once.
-ghost use Rattle.std.specs.Prelude.{◌≡◌, ◌-◌, ◌&&◌, ◌||◌, max, not, true};
+ghost use Rattle.std.specs.Prelude.{◌≡◌, ◌+◌, ◌-◌, ◌^◌, ◌&&◌, ◌||◌, if◌then◌else◌, max, min, not, true};
 
 use chpw_journal::SinkCause;
 use chpw_start::SetAside;
@@ -148,34 +148,27 @@ impl fmt::Display for Notice<'_> {
     }
 }
 
-/// Whether anything was lost, and whether that was reported.
+/// How many lines were lost, whether any was, and whether that was reported.
 #[derive(Clone, Copy, Default, Drop)]
 pub(crate) struct Losses {
+    pub count: u64,
     pub is_any: bool,
     pub is_told: bool,
 }
 
-/// The result of appending a line.
-#[derive(Clone, Copy, Drop)]
-pub(crate) struct Appended {
-    pub is_lost: bool,
-    /// Whether a first loss is to be reported.
-    pub is_due: bool,
-}
-
 impl Losses {
-    /// A line was appended, whole or not. A first loss is to be reported now, if it can be.
-    pub(crate) fn note(&mut self, whole: bool, can_tell: bool) -> Appended
-        ensures lost { result.is_lost ≡ not whole }
-        ensures due { result.is_due ≡ ((self.old.is_any || not whole) && (not self.old.is_told && can_tell)) }
+    /// A line was appended, whole or not. Whether a first loss is to be reported now: if it can be.
+    pub(crate) fn note(&mut self, whole: bool, can_tell: bool) -> bool
+        ensures due { result ≡ ((self.old.is_any || not whole) && (not self.old.is_told && can_tell)) }
+        ensures count { self.new.count ≡ (if whole then self.old.count else min (self.old.count + 1) (2 ^ 64 - 1)) }
         ensures any { self.new.is_any ≡ (self.old.is_any || not whole) }
-        ensures told { self.new.is_told ≡ (self.old.is_told || result.is_due) }
+        ensures told { self.new.is_told ≡ (self.old.is_told || result) }
     {
-        self.is_any = self.is_any || !whole;
-        Appended {
-            is_lost: !whole,
-            is_due: self.are_due(can_tell),
+        if !whole {
+            self.count = self.count.saturating_add(1);
         }
+        self.is_any = self.is_any || !whole;
+        self.are_due(can_tell)
     }
 
     /// Whether a first loss is to be reported now, if it can be. It counts as reported then.

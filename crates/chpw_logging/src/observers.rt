@@ -87,15 +87,12 @@ impl<L: Lines> Observer for Logging<L> {
     fn decided(&mut self, peer: IpAddr, now: Moment, receipt: &Receipt, kvno: Option<u32>) {
         if let Event::Ask { opened, verdict } = &receipt.entry.event {
             tell_failed(&mut self.lines, now, *verdict);
-            put_decided(
-                &mut self.lines,
-                self.worker,
-                peer,
-                now,
+            let decision = Decision {
                 opened,
-                *verdict,
+                verdict: *verdict,
                 kvno,
-            );
+            };
+            put_decided(&mut self.lines, self.worker, peer, now, &decision);
         }
     }
 
@@ -126,32 +123,38 @@ fn tell_failed<L: Lines>(lines: &mut L, now: Moment, verdict: Verdict)
     }
 }
 
+// A request, its verdict, and the version of the keys that a change made.
+#[derive(Clone, Copy, Drop)]
+struct Decision<'a> {
+    opened: &'a Opened,
+    verdict: Verdict,
+    kvno: Option<u32>,
+}
+
 // Writes the line of a decision.
 fn put_decided<L: Lines>(
     lines: &mut L,
     worker: u8,
     peer: IpAddr,
     now: Moment,
-    opened: &Opened,
-    verdict: Verdict,
-    kvno: Option<u32>,
+    decision: &Decision<'_>,
 )
     requires moment { IsMoment now }
     requires micros { now.micros < 1000000 }
-    ensures taken { L.takes lines.old
-        (noted_line (kind_of verdict) now peer (decided_line worker peer now opened.now verdict kvno)) lines.new }
+    ensures taken { L.takes lines.old (noted_line (kind_of decision.now.verdict) now peer
+        (decided_line worker peer now decision.now.opened.now decision.now.verdict decision.now.kvno)) lines.new }
 {
     let line = Line {
         moment: now,
         worker,
         peer,
         news: MessageEvent::Decided {
-            asked: ClientAndTarget::of(opened),
-            verdict,
-            kvno,
+            asked: ClientAndTarget::of(decision.opened),
+            verdict: decision.verdict,
+            kvno: decision.kvno,
         },
     };
-    match kind_of(verdict) {
+    match kind_of(decision.verdict) {
         Some(kind) => lines.put_limited(kind, &line),
         None => lines.put(&line),
     }

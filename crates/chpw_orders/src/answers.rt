@@ -10,8 +10,8 @@ ghost use Rattle.chpw_start.specs.Faults.{line_of};
 use crate::compacting::CompactFault;
 use crate::replacing::NotReplaced;
 use crate::rereading::PrepareFault;
-use chpw_control::put_ok;
-use chpw_printing::{put_name, put_words};
+use chpw_control::{put_error, put_ok};
+use chpw_printing::put_name;
 use chpw_reload::{ReloadFault, put_fault};
 use chpw_rules::{Items, Name};
 use chpw_start::{Exposure, ServeFault};
@@ -228,9 +228,7 @@ fn refusal_in(alloc: Global, words: &[u8]) -> Result<Vec<u8>, AllocError>
     ensures value { IfOk result (λ text. text.items ≡ lines_text (refused_lines words.now)) }
 {
     let mut text = Vec::new(alloc);
-    text.extend_from_slice(b"error: ")?;
-    put_words(&mut text, words)?;
-    text.push(b'\n')?;
+    put_error(&mut text, words)?;
     Ok(text)
 }
 

@@ -1,11 +1,12 @@
-//! A pool of workers at one desk, which programs of cases alone call: a service has its workers from desk to desk, and so starts them
+//! For programs of cases alone: a pool of workers at one desk. A service has its workers from desk to desk, and so starts them
 //! itself.
 #![tactic(auto)]
 
 mod pool;
+mod unattended;
 
-pub use chpw_reactor::{Pool, PoolOptions};
+pub use chpw_reactor::Pool;
 pub use chpw_sockets::PoolFault;
 pub use chpw_transfers::AcceptLimit;
 pub use chpw_workers::{MachineClock, machine_moment};
-pub use pool::{no_gates, run_pool, run_pool_by, run_pool_with};
+pub use pool::{run_pool, run_pool_with};

@@ -1,4 +1,4 @@
-//! Workers at one desk.
+//! For programs of cases alone: workers at one desk. The service doesn't call this.
 ghost use Rattle.std.specs.Prelude.{◌≡◌, ◌≢◌, ◌<◌, length, vec_len, IfOk, None, Some};
 ghost use denote.Param.Send.{IsSend, IsSync};
 ghost use Rattle.rand_chacha.specs.ChaCha.{key_of};
@@ -7,16 +7,17 @@ ghost use Rattle.chpw_reactor.specs.Pools.{Ends};
 ghost use Rattle.chpw_pool.specs.PoolWorkers.{AreWorkersOf};
 ghost use Rattle.chpw_transfers.specs.declared.accept_limit.AcceptLimit.TheVariants as limit;
 
+use crate::unattended::Unattended;
 use chpw_book::{Desk, DeskName, Pass};
-use chpw_reactor::{Engine, EngineCrew, NoKdc, Pool, PoolOptions, Seat, outcome_of};
+use chpw_connections::ConnectionLimits;
+use chpw_reactor::{Engine, EngineCrew, Pool, Seat, outcome_of};
 use chpw_serve::{Gate, Messages, NoGate, Observer, UpdateObserver, WorkerWords};
 use chpw_sockets::PoolFault;
 use chpw_table::JournalSink;
 use chpw_transfers::AcceptLimit;
 use chpw_workers::{BackgroundTask, Context, Crew, MachineClock, NotStarted, Worker, serve_at};
 use std::alloc::{AllocError, Global};
-use std::net::{Net, OpenListener, TcpListener, TcpStream};
-use std::os::fd::AsRawFd;
+use std::net::{Net, TcpListener};
 use std::sync::Wait;
 use std::thread::{Scope, Threads};
 use std::{slice, thread, time};
@@ -27,20 +28,34 @@ type PoolWorker<'a, R, T, G> = Worker<Seat<'a, R>, G, MachineClock<'a, T>, Worke
 /// What all workers of a pool answer with.
 type PoolContext<'a, R, M> = Context<'a, M, EngineCrew<'a, R>>;
 
-/// What all workers share: the clock, the service and the desk.
+/// What a pool's connections hold, and for how long: the defaults of `serve`.
+const LIMITS: ConnectionLimits = ConnectionLimits {
+    connections: 1_024,
+    per_peer: 256,
+    bytes: 33_554_432,
+    idle: 30_000,
+    grace: 1_000,
+    wait: 5_000,
+    linger: 1_000,
+};
+
+/// What all workers share: the clock, the service and the desk; and what they are to do.
 #[derive(Drop)]
 struct Shared<'a, T: time::Clock, M, D: DeskName, S: JournalSink> {
     alloc: Global,
     time: &'a T,
     service: &'a M,
     desk: &'a Desk<D, S>,
+    /// The seed of the random words.
+    seed: [u8; 32],
+    connections: AcceptLimit,
 }
 
-/// Serves this many connections at a desk, the messages of connection i (from 0) by worker i modulo their number, one
-/// after the other; a worker draws its words from the stream of its own number, and its moments from the machine's
-/// clock. A connection's next message is read once the reply before it is written. It has the default bounds
-/// (`PoolOptions::usual`). It returns when each connection has ended, or, after a fault, those before it; each thread has
-/// ended then.
+/// For programs of cases alone: serves this many connections at a desk, the messages of connection i (from 0) by worker i
+/// modulo their number, one after the other; a worker draws its words from the stream of its own number, and its moments
+/// from the machine's clock. A connection's next message is read once the reply before it is written. It has the default
+/// bounds of `serve`. It returns when each connection has ended, or, after a fault, those before it; each
+/// thread has ended then.
 pub fn run_pool<
     R: Threads + Wait + Net + time::Clock + Sync,
     M: Messages + Sync,
@@ -59,12 +74,23 @@ pub fn run_pool<
     requires passes { 0 < length passes.old }
     ensures ends { Ends (limit.Of connections) result }
 {
-    let terms = PoolOptions::usual(seed, connections);
-    let listeners = slice::from_ref(listener);
-    run_pool_by(rt, alloc, rt, listeners, service, desk, passes, terms)
+    match no_gates(alloc, passes.len()) {
+        Err(_) => failed_pool(PoolFault::Memory, AcceptLimit::Of(u64::from(connections))),
+        Ok(gates) => run_pool_with(
+            rt,
+            alloc,
+            listener,
+            service,
+            desk,
+            passes,
+            seed,
+            connections,
+            gates,
+        ),
+    }
 }
 
-/// `run_pool` with a gate for each worker, which is its observer too.
+/// For programs of cases alone: `run_pool` with a gate for each worker, which is its observer too.
 pub fn run_pool_with<
     R: Threads + Wait + Net + time::Clock + Sync,
     M: Messages + Sync,
@@ -91,42 +117,10 @@ pub fn run_pool_with<
         time: rt,
         service,
         desk,
+        seed,
+        connections: AcceptLimit::Of(u64::from(connections)),
     };
-    let terms = PoolOptions::usual(seed, connections);
-    run_gated(rt, &shared, slice::from_ref(listener), passes, terms, gates)
-}
-
-/// `run_pool` with any clock, listeners and bounds.
-pub fn run_pool_by<
-    R: Threads + Wait + Net + time::Clock + Sync,
-    T: time::Clock + Sync,
-    L: OpenListener<Stream = TcpStream> + AsRawFd,
-    M: Messages + Sync,
-    D: DeskName + Send + Sync,
-    S: JournalSink + Send,
->(
-    rt: &R,
-    alloc: Global,
-    time: &T,
-    listeners: &[L],
-    service: &M,
-    desk: &Desk<D, S>,
-    passes: &mut [Pass<D>],
-    terms: PoolOptions,
-) -> Pool
-    requires passes { 0 < length passes.old }
-    ensures ends { Ends terms.connections result }
-{
-    let shared = Shared {
-        alloc,
-        time,
-        service,
-        desk,
-    };
-    match no_gates(alloc, passes.len()) {
-        Err(_) => failed_pool(PoolFault::Memory, terms.connections),
-        Ok(gates) => run_gated(rt, &shared, listeners, passes, terms, gates),
-    }
+    run_gated(rt, &shared, slice::from_ref(listener), passes, gates)
 }
 
 // No connection was accepted.
@@ -143,8 +137,8 @@ fn failed_pool(fault: PoolFault, connections: AcceptLimit) -> Pool
     }
 }
 
-/// This many gates that hold nobody.
-pub fn no_gates(alloc: Global, count: usize) -> Result<Vec<NoGate>, AllocError>
+// This many gates that hold nobody.
+fn no_gates(alloc: Global, count: usize) -> Result<Vec<NoGate>, AllocError>
     ensures { IfOk result (λ v. vec_len v ≡ count) }
 {
     Vec::from_elem(alloc, NoGate, count)
@@ -154,30 +148,27 @@ pub fn no_gates(alloc: Global, count: usize) -> Result<Vec<NoGate>, AllocError>
 fn run_gated<
     'a,
     R: Threads + Wait + Net + time::Clock + Sync,
-    T: time::Clock + Sync,
-    L: OpenListener<Stream = TcpStream> + AsRawFd,
     M: Messages + Sync,
     D: DeskName + Send + Sync,
     S: JournalSink + Send,
     G: Gate + Observer + UpdateObserver + Send + Drop,
 >(
     rt: &'a R,
-    shared: &'a Shared<'a, T, M, D, S>,
-    listeners: &'a [L],
+    shared: &'a Shared<'a, R, M, D, S>,
+    listeners: &'a [TcpListener],
     passes: &mut [Pass<D>],
-    terms: PoolOptions,
     gates: Vec<G>,
 ) -> Pool
     requires passes { 0 < length passes.old }
     requires gates { length gates.items ≡ length passes.old }
-    ensures ends { Ends terms.connections result }
+    ensures ends { Ends shared.now.connections result }
 {
-    let connections = terms.connections;
-    let engine = match Engine::of(rt, shared.alloc, terms.bounds(), passes.len(), None, None) {
+    let connections = shared.connections;
+    let engine = match Engine::of(rt, shared.alloc, LIMITS, passes.len(), None, None) {
         Err(fault) => return failed_pool(fault, connections),
         Ok(engine) => engine,
     };
-    let Ok(workers) = workers_of(&*rt, &engine, &*shared, terms.seed, passes, gates) else {
+    let Ok(workers) = workers_of(&*rt, &engine, &*shared, shared.seed, passes, gates) else {
         return failed_pool(PoolFault::Memory, connections);
     };
     let reacting = Reacting {
@@ -204,20 +195,19 @@ fn run_gated<
 
 // The reactor, for this many connections of its listeners, without a KDC.
 #[derive(Drop)]
-struct Reacting<'a, R, L> {
+struct Reacting<'a, R> {
     rt: &'a R,
     engine: &'a Engine,
-    listeners: &'a [L],
+    listeners: &'a [TcpListener],
     connections: AcceptLimit,
 }
 
-impl<R: Wait + Net + time::Clock, L: OpenListener<Stream = TcpStream> + AsRawFd> BackgroundTask
-    for Reacting<'_, R, L> {
+impl<R: Wait + Net + time::Clock> BackgroundTask for Reacting<'_, R> {
     type Done = ();
 
     fn run(self) {
         self.engine
-            .react(self.rt, self.listeners, self.connections, NoKdc);
+            .react(self.rt, self.listeners, self.connections, Unattended);
     }
 }
 

@@ -1,10 +1,9 @@
 -- What `control` says to a running service, and how it ends by the service's answer.
-use Rattle.std.specs.Prelude.{◌++◌, ◌==◌, ◌||◌, ℕ, Bool, false, List, [], length, codes, if◌then◌else◌}
-use Rattle.std.specs.List.{ends_with, list_any}
+use Rattle.std.specs.Prelude.{◌++◌, ◌==◌, ℕ, Bool, false, List, [], length, codes, if◌then◌else◌}
+use Rattle.std.specs.List.{list_any}
 use Rattle.std.specs.Option.{option_map_or}
-use Rattle.std.specs.Str.{bytes_eq}
-use Rattle.chpw_invocation.specs.Controls.{file_of, word_of}
-use Rattle.chpw_invocation.specs.declared.invocation.ControlCommand.{ControlCommand}
+use Rattle.chpw_control.specs.Answers.{ended_ok}
+use Rattle.chpw_invocation.specs.Controls.{ControlCommand, file_of, word_of}
 use Rattle.chpw_program.specs.declared.ending.Ending.{Ending}
 use Rattle.chpw_commands.specs.declared.drill.DrillFault.TheVariants.{Memory, Write}
 use Rattle.chpw_program.specs.declared.ending.Ending.TheVariants.{Good, Early, Unanswered, Refused}
@@ -17,13 +16,9 @@ line_of command = word_of command ++ option_map_or (λ file. codes " " ++ file) 
 abbrev pub is_broken : ControlCommand → Bool
 is_broken command = option_map_or (λ file. list_any (λ b. b == 10) file) (file_of command) false
 
--- the last line of an answer is `ok`
-abbrev pub says_ok : List ℕ → Bool
-says_ok answer = bytes_eq answer (codes "ok\n") || ends_with ◌==◌ answer (codes "\nok\n")
-
 -- how it ends by an answer
 abbrev pub ending_by : List ℕ → Ending
-ending_by answer = if length answer == 0 then Unanswered else if says_ok answer then Good else Refused
+ending_by answer = if length answer == 0 then Unanswered else if ended_ok answer then Good else Refused
 
 -- an ending that only an answer gives
 abbrev pub IsAnswered : Ending → Type 0

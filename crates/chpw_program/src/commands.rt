@@ -13,34 +13,19 @@ use chpw_check::{explain_check, run_check, warn_check};
 use chpw_commands::{DrillFault, run_drill};
 use chpw_import::{KeysFault, tell_kdc, tell_keytab, tell_password};
 use chpw_invocation::{Invocation, command_of};
-use chpw_service::serve;
+use chpw_service::{Machine, serve};
 use chpw_start::{ServeFault, make_journal, read_configuration, tell_table};
 use clap::Error;
 use clap::error::ErrorKind;
 use std::alloc::Global;
 use std::fs::{File, Files};
 use std::io::{self, Write};
-use std::net::{Net, TcpListener, TcpStream};
-use std::rt::Env;
-use std::sync::Wait;
-use std::thread::Threads;
-use std::time::Clock;
 
 /// Runs the command of these words; if they ask for none, clap's text is an error.
 #[tactic(auto, using(crate::proofs::RunningLemmas::run_by, crate::proofs::RunningLemmas::run_by_none, crate::proofs::RunningLemmas::has_served))]
 pub fn run<'a, R, W: Write>(rt: &R, errors: &mut W, words: &'a [String]) -> Ending<'a>
 where
-    R: Files<File = File>
-        + Net<Listener = TcpListener, Stream = TcpStream>
-        + Threads
-        + Wait
-        + Clock
-        + Env
-        + Input
-        + Print
-        + Eprint
-        + AllocGlobal
-        + Sync,
+    R: Machine + Input,
     R::Dir: Send + Sync,
     ensures runs { IsRunBy R (map string_bytes words.entry.now) result }
 {

@@ -3,13 +3,14 @@ ghost use Rattle.std.specs.Prelude.{◌≡◌, ◌≢◌, ◌⊎◌, ◌==◌, t
 ghost use Rattle.std.specs.Io.KnownBytes.{Appends};
 ghost use Rattle.std.specs.IoError.{error_kind};
 ghost use Rattle.chpw_program.specs.Controlling as controlling;
-ghost use Rattle.chpw_program.specs.Controlling.{IsAnswered, IsUnprinted, ending_by, line_of, says_ok};
+ghost use Rattle.chpw_program.specs.Controlling.{IsAnswered, IsUnprinted, ending_by, line_of};
 ghost use Rattle.chpw_printing.specs.Lines.{lines_text};
 
 use crate::ending::Ending;
 use crate::patience::{Patience, Timed, ending_of};
 use chpw_commands::DrillFault;
-use chpw_invocation::{ControlCommand, ControlOptions};
+use chpw_control::{Command, ended_ok};
+use chpw_invocation::ControlOptions;
 use chpw_printing::put_lines;
 use std::alloc::{AllocError, Global};
 use std::io::{self, ErrorKind, Read, Write};
@@ -55,7 +56,7 @@ pub fn send_command<'a, R: Net + Clock + Print + AllocGlobal>(
 }
 
 // Whether its file has a newline.
-fn is_broken(command: &ControlCommand<'_>) -> bool
+fn is_broken(command: &Command<&str>) -> bool
     ensures value { result ≡ controlling.is_broken command.now }
 {
     match command.file() {
@@ -68,7 +69,7 @@ fn is_broken(command: &ControlCommand<'_>) -> bool
 /// ASCII, and ends accordingly.
 pub fn tell_service<'a, S: Write, A: Read, W: Write>(
     alloc: Global,
-    command: &ControlCommand<'_>,
+    command: &Command<&str>,
     service: &mut S,
     answers: &mut A,
     out: &mut W,
@@ -92,7 +93,7 @@ pub fn tell_service<'a, S: Write, A: Read, W: Write>(
     }
 }
 
-fn command_line(alloc: Global, command: &ControlCommand<'_>) -> Result<String, AllocError>
+fn command_line(alloc: Global, command: &Command<&str>) -> Result<String, AllocError>
     ensures value { IfOk result (λ line. string_bytes line ≡ line_of command.now) }
 {
     match command.file() {
@@ -112,7 +113,7 @@ fn print_answer<'a, W: Write>(alloc: Global, answer: &[u8], out: &mut W) -> Endi
     }
     match print_lines(alloc, answer, out) {
         Err(fault) => Ending::Early(fault),
-        Ok(()) if is_ok(answer) => Ending::Good,
+        Ok(()) if ended_ok(answer) => Ending::Good,
         Ok(()) => Ending::Refused,
     }
 }
@@ -130,13 +131,6 @@ fn print_lines<W: Write>(alloc: Global, lines: &[u8], out: &mut W) -> Result<(),
         Ok(()) => Ok(()),
         Err(_) => Err(DrillFault::Write),
     }
-}
-
-// Whether its last line is `ok`.
-fn is_ok(answer: &[u8]) -> bool
-    ensures value { result ≡ says_ok answer.now }
-{
-    answer == b"ok\n".as_slice() || answer.ends_with(b"\nok\n")
 }
 
 // Prints what came of an answer that broke off.

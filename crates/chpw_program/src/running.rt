@@ -23,6 +23,7 @@ use std::time::Clock;
 /// Runs the command that the command line asks for; `errors` is standard error. The exit status: 0; 1 after a fault,
 /// which has a line there, and a second one with the reason if that can be seen; 2 if the command line asks for no
 /// command or for help, whose text is written there, or isn't UTF-8, or `client` for no request.
+// The bounds of `Machine` are written out, since a caller of one type has to name what they speak of.
 pub fn run_program<R, W: Write>(rt: &R, errors: &mut W) -> u8
 where
     R: Files<File = File>

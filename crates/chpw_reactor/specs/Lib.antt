@@ -1,5 +1,4 @@
 pub mod Attending
-pub mod Bounds
 pub mod Engines
 pub mod Pools
 pub mod Reports

@@ -25,13 +25,7 @@ impl<
     /// connections are to be accepted.
     pub fn take_datagrams(&mut self) {
         for _ in 0..DATAGRAMS_AT_ONCE {
-            let accepted = self
-                .engine
-                .hub
-                .lock(self.rt)
-                .state
-                .connections
-                .accepted_count();
+            let accepted = self.engine.accepted_count(self.rt);
             if !self.can_take_datagram(accepted) {
                 return;
             }
@@ -63,5 +57,5 @@ impl<
 fn may_have_more(progress: Progress) -> bool
     ensures value { result ≡ may_follow progress }
 {
-    progress != Progress::None
+    progress != Progress::Idle
 }

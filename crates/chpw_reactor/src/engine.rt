@@ -227,6 +227,11 @@ impl Engine {
         self.hub.lock(rt).state.is_over
     }
 
+    /// How many connections, and datagrams that count as one, have been accepted.
+    pub(crate) fn accepted_count<R: Wait>(&self, rt: &R) -> u64 {
+        self.hub.lock(rt).state.connections.accepted_count()
+    }
+
     /// How many messages waited too long for their worker and were dropped.
     pub fn expired_count<R: Wait>(&self, rt: &R) -> u32 {
         self.hub.lock(rt).state.connections.expired_count()
@@ -236,6 +241,6 @@ impl Engine {
     pub fn outcome<R: Wait>(&self, rt: &R, wanted: AcceptLimit) -> Pool
         ensures ends { Ends wanted result }
     {
-        outcome_of(self.hub.lock(rt).state.connections.accepted_count(), wanted)
+        outcome_of(self.accepted_count(rt), wanted)
     }
 }

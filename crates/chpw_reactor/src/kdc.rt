@@ -28,27 +28,3 @@ pub trait KdcTerms {
     /// the KDC has to be in reach.
     fn unconfirmed(&mut self, change: Unconfirmed);
 }
-
-/// No KDC: no reply waits.
-#[derive(Clone, Copy, PartialEq, Eq, Debug, Drop)]
-pub struct NoKdc;
-
-impl KdcTerms for NoKdc {
-    fn wait(&self) -> u64 {
-        0
-    }
-
-    fn connect(&mut self) -> Option<UnixStream> {
-        None
-    }
-
-    fn connected(&mut self) {}
-
-    fn confirmed(&mut self) {}
-
-    fn lost(&mut self, _fault: Option<ProtocolFault>) {}
-
-    fn tell(&mut self, _notice: Notice) {}
-
-    fn unconfirmed(&mut self, _change: Unconfirmed) {}
-}

@@ -7,7 +7,6 @@ mod datagrams;
 mod engine;
 mod kdc;
 mod mirror;
-mod options;
 mod outcome;
 mod reactor;
 mod seat;
@@ -16,9 +15,8 @@ mod talking;
 mod tasks;
 
 pub use engine::Engine;
-pub use kdc::{KdcTerms, NoKdc};
+pub use kdc::KdcTerms;
 pub use mirror::dialog_with;
-pub use options::PoolOptions;
 pub use outcome::{Pool, outcome_of};
 pub use seat::{EngineCrew, Seat};
 pub use status_reporter::StatusReporter;

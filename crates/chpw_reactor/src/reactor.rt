@@ -141,9 +141,9 @@ impl<
 
     // How long to wait for the next event.
     fn patience(&self) -> u64 {
-        let hub = self.engine.hub.lock(self.rt);
-        let accepted = hub.state.connections.accepted_count();
+        let accepted = self.engine.accepted_count(self.rt);
         let may_come = self.entrance.can_accept(accepted) || self.can_take_datagram(accepted);
+        let hub = self.engine.hub.lock(self.rt);
         let patience = hub.state.patience(may_come, self.entrance.accepting);
         MutexGuard::unlock(hub);
         if self.link.is_reported {
@@ -251,7 +251,7 @@ impl<
     /// Does what is to be done for a connection, as far as its socket allows without blocking.
     pub fn drive(&self, slot: usize) {
         for _ in 0..STEPS {
-            if self.step(slot) == Progress::None {
+            if self.step(slot) == Progress::Idle {
                 return;
             }
         }
@@ -271,13 +271,7 @@ impl<
     // Accepts the connections that have come.
     fn accept(&mut self) {
         for _ in 0..ACCEPTS {
-            let accepted = self
-                .engine
-                .hub
-                .lock(self.rt)
-                .state
-                .connections
-                .accepted_count();
+            let accepted = self.engine.accepted_count(self.rt);
             if self.entrance.can_accept(accepted) {
                 self.next();
             }

@@ -1,7 +1,5 @@
 //! The service's side of its control socket.
 
-use crate::kdc::NoKdc;
-use chpw_control::put_error;
 use chpw_kdc::KdcDialog;
 use chpw_transfers::ConnectionCounts;
 use mio::net::UnixListener;
@@ -19,22 +17,4 @@ pub trait StatusReporter {
         standing: &ConnectionCounts,
         kdc: Option<&KdcDialog>,
     ) -> Vec<u8>;
-}
-
-/// No control socket.
-impl StatusReporter for NoKdc {
-    fn listener(&mut self) -> Option<UnixListener> {
-        None
-    }
-
-    fn status(
-        &mut self,
-        alloc: Global,
-        _standing: &ConnectionCounts,
-        _kdc: Option<&KdcDialog>,
-    ) -> Vec<u8> {
-        let mut text = Vec::new(alloc);
-        let _ = put_error(&mut text, "no service");
-        text
-    }
 }

@@ -1,4 +1,6 @@
 pub mod Faults
+pub mod Notifications
 pub mod Serving
+pub mod SocketAddresses
 pub mod Status
 pub mod WholeRuns

@@ -1,13 +1,13 @@
--- What a service asks of its pool.
-use Rattle.std.specs.Prelude.{◌≡◌, ℕ, List, Bool, Option, Some, None, if◌then◌else◌}
+-- What a service's options ask for.
+use Rattle.std.specs.Prelude.{ℕ, ◌*◌, Bool, Option, Some, None, if◌then◌else◌}
+use Rattle.chpw_connection.specs.declared.limits.ConnectionLimits.{ConnectionLimits}
 use Rattle.chpw_invocation.specs.declared.invocation.ConnectionLimit.{ConnectionLimit}
 use Rattle.chpw_invocation.specs.declared.invocation.ConnectionLimit.TheVariants as asked
 use Rattle.chpw_invocation.specs.declared.invocation.ServeOptions.{ServeOptions}
 use Rattle.chpw_transfers.specs.declared.accept_limit.AcceptLimit.{AcceptLimit}
 use Rattle.chpw_transfers.specs.declared.accept_limit.AcceptLimit.TheVariants as limit
-use Rattle.chpw_reactor.specs.declared.options.PoolOptions.{PoolOptions}
 
--- after as many connections the pool ends, if there is a limit
+-- after as many connections the service ends, if there is a limit
 abbrev pub limit_asked : ConnectionLimit → AcceptLimit
 limit_asked asked.Unlimited = limit.Unlimited
 limit_asked (asked.Of count) = limit.Of count
@@ -16,11 +16,15 @@ limit_asked (asked.Of count) = limit.Of count
 abbrev pub reach_asked : Bool → ℕ → Option ℕ
 reach_asked asked wait = if asked then Some wait else None
 
--- words of this seed, as many connections as its options say, and the bounds that they set
-pub record IsAskedFor (options : ServeOptions) (seed : List ℕ) (terms : PoolOptions) : Type 0 where
-  pub seed_is : terms.seed ≡ seed
-  pub connections : terms.connections ≡ limit_asked options.connections
-  pub clients : terms.clients ≡ options.clients
-  pub clients_per_peer : terms.clients_per_peer ≡ options.clients_per_peer
-  pub buffers : terms.buffers ≡ options.buffers
-  pub idle : terms.idle ≡ options.idle
+-- what its connections hold, in bytes and milliseconds: a message under way is left alone for a second, waits at most five
+-- seconds for its worker, and an end at most a second
+abbrev pub limits_asked : ServeOptions → ConnectionLimits
+limits_asked o = record {
+  connections = o.clients;
+  per_peer = o.clients_per_peer;
+  bytes = o.buffers * 1048576;
+  idle = o.idle * 1000;
+  grace = 1000;
+  wait = 5000;
+  linger = 1000;
+}

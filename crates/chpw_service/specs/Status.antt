@@ -17,8 +17,8 @@ use Rattle.chpw_kdc.specs.declared.update.RefusedName.{RefusedName}
 use Rattle.chpw_kdc.specs.Spelling.{reason_word}
 use Rattle.chpw_printing.specs.Quoting.{name_text}
 use Rattle.chpw_journal.specs.Causes.{cause_text}
-use Rattle.chpw_logging.specs.Facts.{quiet_time}
-use Rattle.chpw_logging.specs.declared.facts.Facts.{Facts}
+use Rattle.chpw_logging.specs.Counters.{quiet_time}
+use Rattle.chpw_logging.specs.declared.counters.Counters.{Counters}
 use Rattle.chpw_service.specs.declared.readings.KdcReadings.{KdcReadings}
 use Rattle.chpw_service.specs.declared.readings.Readings.{Readings}
 
@@ -46,7 +46,7 @@ refusal_words r = name_text r.name ++ codes " " ++ reason_word r.reason
 -- the status of a service of this version, by what was read of it, its counters and its connections: busy are the
 -- workers that answer a message, queued the messages that wait for one. With a KDC, which may bring some, the principals are
 -- those that the table has, else those that its history opened with.
-pub record IsStatusOf (version : List ℕ) (r : Readings) (f : Facts) (c : ConnectionCounts) (s : Status) : Type 0 where
+pub record IsStatusOf (version : List ℕ) (r : Readings) (f : Counters) (c : ConnectionCounts) (s : Status) : Type 0 where
   pub version_is : s.version.now ≡ version
   pub since : s.since ≡ r.since
   pub quiet_until : s.quiet_until ≡ quiet_time f.quiet_until r.moment.seconds
@@ -69,7 +69,7 @@ pub record IsStatusOf (version : List ℕ) (r : Readings) (f : Facts) (c : Conne
   pub journal_bytes : s.journal_bytes ≡ r.journal_bytes
   pub journal : reason_in s.journal ≡ option_map cause_text r.failure
   pub journal_name : s.journal_name ≡ r.journal_name
-  pub log_lost : s.log_lost ≡ f.lost
+  pub log_lost : s.log_lost ≡ r.log_lost
   pub log_name : s.log_name ≡ r.log_name
   pub kdc : s.kdc ≡ kdc_state r.kdc
   pub kdc_since : s.kdc_since ≡ option_map (λ k. k.since) r.kdc
@@ -80,9 +80,9 @@ pub record IsStatusOf (version : List ℕ) (r : Readings) (f : Facts) (c : Conne
 pub record IsStatusAnswer (version : List ℕ) (since : Time) (workers : ℕ) (c : ConnectionCounts) (dialog : Option Dialog) (changed : Time)
     (text : List ℕ) : Type 0 where
   pub readings : Readings
-  pub facts : Facts
+  pub counters : Counters
   pub status : Status
-  pub is_status : IsStatusOf version readings facts c status
+  pub is_status : IsStatusOf version readings counters c status
   pub since_is : readings.since ≡ since
   pub workers_is : readings.workers ≡ workers
   pub kdc : IsReadOf dialog changed readings.kdc

@@ -7,13 +7,13 @@ ghost use Rattle.chpw_printing.specs.Quoting.{name_text as printed_name};
 ghost use Rattle.chpw_service.specs.Status.{IsReadOf, IsStatusAnswer, refusal_words};
 
 use crate::readings::{KdcReadings, Readings};
-use crate::status::answer_of;
+use crate::status::{StatusSources, answer_of};
 use chpw_connections::Unconfirmed;
 use chpw_control::Time;
-use chpw_desks::{JournalLength, KdcPlace};
+use chpw_desks::{JournalLength, KdcPlace, ServiceContext};
 use chpw_invocation::VERSION;
 use chpw_kdc::{KdcDialog, Notice as KdcNotice, ProtocolFault, RefusedName};
-use chpw_logging::{Log, Notice, is_first, time_of};
+use chpw_logging::{Counters, Log, Notice, is_first, time_of};
 use chpw_printing::put_name;
 use chpw_reactor::{KdcTerms, StatusReporter};
 use chpw_rules::Name;
@@ -24,7 +24,7 @@ use mio::net::{UnixListener, UnixStream};
 use std::alloc::{AllocError, Global};
 use std::fs::Files;
 use std::net::{Net, TcpListener, TcpStream};
-use std::sync::Wait;
+use std::sync::{Mutex, Wait};
 use std::time::Clock;
 
 /// The service's side of its control socket.
@@ -46,6 +46,7 @@ pub(crate) struct SocketKdc<'l, R, T: Clock> {
     alloc: Global,
     place: KdcPlace<'l>,
     log: &'l Log<'l, R>,
+    counters: &'l Mutex<Counters>,
     clock: MachineClock<'l, T>,
     /// Whether it was reported that a change isn't confirmed.
     is_late_told: bool,
@@ -61,17 +62,10 @@ pub(crate) struct SocketKdc<'l, R, T: Clock> {
     ghost told: { IsTold since × IsTold changed },
 }
 
-impl<'l, R: AllocGlobal, T: Clock> SocketKdc<'l, R, T> {
-    /// The agent at this place.
-    pub fn of(
-        rt: &'l R,
-        time: &'l T,
-        log: &'l Log<'l, R>,
-        journal: &'l JournalLength,
-        place: KdcPlace<'l>,
-        control: ControlTerms,
-    ) -> SocketKdc<'l, R, T>
-        ensures place { result.place ≡ place.entry }
+impl<'l, R: Wait + Eprint + AllocGlobal, T: Clock> SocketKdc<'l, R, T> {
+    /// The agent and the control socket of a service.
+    pub fn of(context: &'l ServiceContext<'l, R, T>, control: ControlTerms) -> SocketKdc<'l, R, T>
+        ensures place { result.place ≡ context.now.kdc }
         ensures listener { result.listener ≡ control.listener }
         ensures since { result.since ≡ control.since }
         ensures workers { result.workers ≡ control.workers }
@@ -83,15 +77,16 @@ impl<'l, R: AllocGlobal, T: Clock> SocketKdc<'l, R, T> {
             ..
         } = control;
         SocketKdc {
-            rt,
-            alloc: rt.alloc(),
-            place,
-            log,
-            clock: MachineClock::new(time),
+            rt: context.rt,
+            alloc: context.rt.alloc(),
+            place: context.kdc,
+            log: context.log,
+            counters: context.counters,
+            clock: MachineClock::new(context.time),
             is_late_told: false,
             is_down_told: false,
             changed: since,
-            journal,
+            journal: &context.journal,
             listener,
             since,
             workers,
@@ -195,7 +190,7 @@ impl<
         ensures unchanged { self.new.place ≡ self.old.place }
     {
         let moment = self.clock.now();
-        let facts = self.log.facts();
+        let counters = *self.counters.lock(self.rt);
         let refused = kdc.and_then(|kdc| kdc
             .status()
             .refusal
@@ -207,11 +202,19 @@ impl<
             journal_bytes: self.journal.bytes(),
             failure: self.log.failure(),
             journal_name: self.log.journal_name(),
+            log_lost: self.log.lost_count(),
             log_name: self.log.log_name(),
             kdc: readings_of(kdc, self.changed),
         };
         let refused = refused.as_ref().map(|words| words.as_slice());
-        answer_of(alloc, VERSION, &readings, &facts, standing, refused)
+        let sources = StatusSources {
+            version: VERSION,
+            readings: &readings,
+            counters: &counters,
+            counts: standing,
+            refused,
+        };
+        answer_of(alloc, &sources)
     }
 }
 

@@ -19,6 +19,8 @@ pub(crate) struct Readings {
     /// Whether the names of journal and log lead to them.
     pub journal_name: NameState,
     pub log_name: NameState,
+    /// The lines of the log that couldn't be written.
+    pub log_lost: u64,
     /// What is read of the KDC, if there is one.
     pub kdc: Option<KdcReadings>,
 }

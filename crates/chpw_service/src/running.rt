@@ -12,64 +12,60 @@ ghost use Rattle.chpw_table.specs.Agreement.{Held};
 
 use crate::kdc::{ControlTerms, SocketKdc};
 use crate::late_fault::LateFault;
+use crate::limits::limit_of;
 use chpw_book::DeskName;
-use chpw_desks::{Opened, ServiceContext, ServiceWorker, make_staff, serve_histories};
-use chpw_reactor::{KdcTerms, Pool, PoolOptions, StatusReporter};
+use chpw_desks::{Machine, Opened, ServiceContext, ServiceWorker, make_staff, serve_histories};
+use chpw_reactor::{KdcTerms, Pool, StatusReporter};
 use chpw_sockets::PoolFault;
 use chpw_start::{Rules, ServeFault};
 use chpw_table::Table;
 use chpw_transfers::AcceptLimit;
-use std::fs::{File, Files};
-use std::net::{Net, TcpListener, TcpStream};
+use std::net::TcpListener;
 use std::sync::Wait;
-use std::thread::{self, Threads};
+use std::thread;
 use std::time::Clock;
 
 /// Serves from the first desk on, until no more messages will come. That desk is abandoned if memory for its workers, or a
 /// thread for the sockets, is missing.
-pub(crate) fn serve_from<
-    'a,
-    'h,
-    'l,
-    D: DeskName + Send + Sync,
-    R: Files<File = File>
-        + Net<Listener = TcpListener, Stream = TcpStream>
-        + Threads
-        + Wait
-        + Clock
-        + Print
-        + Eprint
-        + AllocGlobal
-        + Sync,
-    T: Clock + Sync,
->(
-    rt: &'h R,
-    time: &'h T,
+pub(crate) fn serve_from<'a, 'h, 'l, D: DeskName + Send + Sync, R: Machine, T: Clock + Sync>(
+    context: &'h ServiceContext<'l, R, T>,
     listeners: &[TcpListener],
-    hall: &'h ServiceContext<'l, R>,
     control: ControlTerms,
     rules: Rules,
     first: Opened<D>,
-    terms: PoolOptions,
+    seed: [u8; 32],
 ) -> Result<(), ServeFault<'a>>
 where
     R::Dir: Send + Sync,
-    requires passes { length first.passes.items ≡ hall.now.workers }
-    ensures served { OnOk result (IsServedByNewWorkers R (LogLines R) (is_some hall.now.kdc.socket) hall.now.options.now (key_of terms.seed)
-        hall.now.workers (opening_table D.root) first.passes.items rules) }
+    requires passes { length first.passes.items ≡ context.now.workers }
+    ensures served { OnOk result (IsServedByNewWorkers R (LogLines R) (is_some context.now.kdc.socket) context.now.options.now (key_of seed)
+        context.now.workers (opening_table D.root) first.passes.items rules) }
     ensures fault { IfErr result IsLate }
 {
-    let kdc = SocketKdc::of(rt, time, hall.log, &hall.journal, hall.kdc, control);
+    let reception = Reception {
+        listeners,
+        connections: limit_of(context.options.connections),
+        kdc: SocketKdc::of(context, control),
+    };
     let mut first = Some(first);
-    let ended = serve_with_staff(rt, time, listeners, hall, kdc, rules, &mut first, terms);
+    let ended = serve_with_staff(context, reception, rules, &mut first, seed);
     match first {
         None => {}
         Some(Opened { desk, passes }) => {
-            desk.abandon(rt);
+            desk.abandon(context.rt);
             drop(passes);
         }
     }
     ended
+}
+
+// What the reactor attends to: the connections of these listeners, as many as are wanted, and the KDC and the control
+// socket.
+#[derive(Drop)]
+struct Reception<'s, F> {
+    listeners: &'s [TcpListener],
+    connections: AcceptLimit,
+    kdc: F,
 }
 
 // Makes the workers, and serves with them.
@@ -78,47 +74,26 @@ fn serve_with_staff<
     'a,
     'h,
     'l,
-    't,
+    's,
     D: DeskName + Send + Sync,
-    R: Files<File = File>
-        + Net<Listener = TcpListener, Stream = TcpStream>
-        + Threads
-        + Wait
-        + Clock
-        + Print
-        + Eprint
-        + AllocGlobal
-        + Sync,
+    R: Machine,
     T: Clock + Sync,
     F: KdcTerms + StatusReporter + Send + Drop,
 >(
-    rt: &'h R,
-    time: &'t T,
-    listeners: &[TcpListener],
-    hall: &'h ServiceContext<'l, R>,
-    kdc: F,
+    context: &'h ServiceContext<'l, R, T>,
+    reception: Reception<'s, F>,
     rules: Rules,
     first: &mut Option<Opened<D>>,
-    terms: PoolOptions,
+    seed: [u8; 32],
 ) -> Result<(), ServeFault<'a>>
-    requires passes { IfSome first.old (λ opened. length opened.passes.items ≡ hall.now.workers) }
-    ensures served { OnOk result (IfSome first.old (λ opened. IsServedByNewWorkers R (LogLines R) (is_some hall.now.kdc.socket) hall.now.options.now
-        (key_of terms.seed) hall.now.workers (opening_table D.root) opened.passes.items rules)) }
+    requires passes { IfSome first.old (λ opened. length opened.passes.items ≡ context.now.workers) }
+    ensures served { OnOk result (IfSome first.old (λ opened. IsServedByNewWorkers R (LogLines R) (is_some context.now.kdc.socket) context.now.options.now
+        (key_of seed) context.now.workers (opening_table D.root) opened.passes.items rules)) }
     ensures fault { IfErr result IsLate }
 {
-    match make_staff(rt, rt.alloc(), time, hall, terms.seed) {
+    match make_staff(context, seed) {
         Err(_) => Err(ServeFault::Memory),
-        Ok(workers) => serve_all(
-            rt,
-            time,
-            listeners,
-            hall,
-            kdc,
-            rules,
-            workers,
-            first,
-            terms.connections,
-        ),
+        Ok(workers) => serve_all(context, reception, rules, workers, first),
     }
 }
 
@@ -128,61 +103,54 @@ fn serve_all<
     'a,
     'h,
     'l,
-    't,
+    's,
     D: DeskName + Send + Sync,
-    R: Files<File = File>
-        + Net<Listener = TcpListener, Stream = TcpStream>
-        + Threads
-        + Wait
-        + Clock
-        + Print
-        + Eprint
-        + AllocGlobal
-        + Sync,
+    R: Machine,
     T: Clock + Sync,
     F: KdcTerms + StatusReporter + Send + Drop,
 >(
-    rt: &'h R,
-    time: &'t T,
-    listeners: &[TcpListener],
-    hall: &'h ServiceContext<'l, R>,
-    kdc: F,
+    context: &'h ServiceContext<'l, R, T>,
+    reception: Reception<'s, F>,
     rules: Rules,
-    workers: Vec<ServiceWorker<'h, 'l, 't, R, T>>,
+    workers: Vec<ServiceWorker<'h, 'l, R, T>>,
     first: &mut Option<Opened<D>>,
-    connections: AcceptLimit,
 ) -> Result<(), ServeFault<'a>>
-    requires passes { IfSome first.old (λ opened. length opened.passes.items ≡ hall.now.workers) }
-    requires workers { length workers.items ≡ hall.now.workers }
-    ensures served { OnOk result (IfSome first.old (λ opened. (table : Held) × RunsTo (is_some hall.now.kdc.socket) hall.now.options.now
+    requires passes { IfSome first.old (λ opened. length opened.passes.items ≡ context.now.workers) }
+    requires workers { length workers.items ≡ context.now.workers }
+    ensures served { OnOk result (IfSome first.old (λ opened. (table : Held) × RunsTo (is_some context.now.kdc.socket) context.now.options.now
         (opening_table D.root) opened.passes.items rules workers.entry.items table)) }
     ensures fault { IfErr result IsLate }
 {
+    let Reception {
+        listeners,
+        connections,
+        kdc,
+    } = reception;
+    let rt = context.rt;
     let ended = thread::scope(
         thread::scope_env(),
         rt,
         move |scope| -> Result<Option<Table>, LateFault>
-            requires { IfSome first.now (λ opened. length opened.passes.items ≡ hall.now.workers) × (length workers.items ≡ hall.now.workers) }
-            ensures { OnOk result (IfSome first.entry.now (λ opened. (table : Held) × RunsTo (is_some hall.entry.now.kdc.socket)
-                hall.entry.now.options.now (opening_table D.root) opened.passes.items rules workers.entry.items table)) }
+            requires { IfSome first.now (λ opened. length opened.passes.items ≡ context.now.workers) × (length workers.items ≡ context.now.workers) }
+            ensures { OnOk result (IfSome first.entry.now (λ opened. (table : Held) × RunsTo (is_some context.entry.now.kdc.socket)
+                context.entry.now.options.now (opening_table D.root) opened.passes.items rules workers.entry.items table)) }
         {
-            let engine = &hall.engine;
+            let engine = &context.engine;
             if scope
                 .spawn(move || engine.react(rt, listeners, connections, kdc))
                 .is_err()
             {
                 return Err(LateFault::Memory);
             }
-            serve_or_desert(rt, time, hall, rules, workers, first)
+            serve_or_desert(context, rules, workers, first)
         },
     );
-    finish(rt, hall, ended, connections)
+    finish(context, ended, connections)
 }
 
 // How the service ended: with the fault of its desks, or else with that of its pool.
-fn finish<'a, 'l, R: Wait + Eprint>(
-    rt: &R,
-    hall: &ServiceContext<'l, R>,
+fn finish<'a, 'l, R: Wait + Eprint, T>(
+    context: &ServiceContext<'l, R, T>,
     ended: Result<Option<Table>, LateFault>,
     connections: AcceptLimit,
 ) -> Result<(), ServeFault<'a>>
@@ -191,8 +159,8 @@ fn finish<'a, 'l, R: Wait + Eprint>(
 {
     match ended {
         Ok(_) => {
-            let was_stopped = hall.engine.was_stopped(rt);
-            end(was_stopped, hall.engine.outcome(rt, connections))
+            let was_stopped = context.engine.was_stopped(context.rt);
+            end(was_stopped, context.engine.outcome(context.rt, connections))
         }
         Err(late) => Err(late.fault()),
     }
@@ -200,38 +168,29 @@ fn finish<'a, 'l, R: Wait + Eprint>(
 
 // Serves at one desk after the other, and returns the table of the last one; none if there is no first one. After a
 // fault nobody is left to answer, and all connections end.
-fn serve_or_desert<
-    'h,
-    'l,
-    't,
-    D: DeskName + Send + Sync,
-    R: Files<File = File> + Net + Threads + Wait + Clock + Print + Eprint + AllocGlobal + Sync,
-    T: Clock + Sync,
->(
-    rt: &'h R,
-    time: &'t T,
-    hall: &'h ServiceContext<'l, R>,
+fn serve_or_desert<'h, 'l, D: DeskName + Send + Sync, R: Machine, T: Clock + Sync>(
+    context: &'h ServiceContext<'l, R, T>,
     rules: Rules,
-    workers: Vec<ServiceWorker<'h, 'l, 't, R, T>>,
+    workers: Vec<ServiceWorker<'h, 'l, R, T>>,
     first: &mut Option<Opened<D>>,
 ) -> Result<Option<Table>, LateFault>
-    requires passes { IfSome first.old (λ opened. length opened.passes.items ≡ hall.now.workers) }
-    requires workers { length workers.items ≡ hall.now.workers }
+    requires passes { IfSome first.old (λ opened. length opened.passes.items ≡ context.now.workers) }
+    requires workers { length workers.items ≡ context.now.workers }
     ensures taken { first.new ≡ None }
     ensures none { first.old ≡ None → result ≡ Ok None }
     ensures served { IfSome first.old (λ opened. IfOk result (λ table. IsSomeAnd table
-        (RunsTo (is_some hall.now.kdc.socket) hall.now.options.now (opening_table D.root) opened.passes.items rules workers.entry.items))) }
-    ensures left { OnOk result (IfSome first.old (λ opened. (table : Held) × RunsTo (is_some hall.now.kdc.socket) hall.now.options.now
+        (RunsTo (is_some context.now.kdc.socket) context.now.options.now (opening_table D.root) opened.passes.items rules workers.entry.items))) }
+    ensures left { OnOk result (IfSome first.old (λ opened. (table : Held) × RunsTo (is_some context.now.kdc.socket) context.now.options.now
         (opening_table D.root) opened.passes.items rules workers.entry.items table)) }
     ensures histories { IsSome first.old → IfOk result (λ table. IsSomeAnd table (IsServiceRun (opening_state D.root))) }
 {
     let Some(opened) = first.take() else {
         return Ok(None);
     };
-    match serve_histories(rt, time, hall, rules, workers, opened) {
+    match serve_histories(context, rules, workers, opened) {
         Ok(table) => Ok(Some(table)),
         Err(fault) => {
-            hall.engine.desert(rt);
+            context.engine.desert(context.rt);
             Err(LateFault::of(fault))
         }
     }

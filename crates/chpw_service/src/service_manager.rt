@@ -1,7 +1,7 @@
 //! The service manager that started the service, which may wait until it listens (sd_notify(3)).
 
+use crate::notification::notify;
 use chpw_logging::{Log, Notice};
-use chpw_notify::notify;
 use std::env::{self, VarError};
 use std::io::{self, ErrorKind};
 use std::net::Net;

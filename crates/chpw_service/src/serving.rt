@@ -8,7 +8,7 @@ ghost use Rattle.chpw_start.specs.Faults.{IsLate};
 ghost use Rattle.chpw_service.specs.Faults.{IsOfService};
 ghost use Rattle.chpw_changelog.specs.Pens.{opening_state};
 ghost use Rattle.chpw_start.specs.Raised.{IsRaisedWhereAsked};
-ghost use Rattle.chpw_service.specs.Serving.{IsAskedFor, limit_asked, reach_asked};
+ghost use Rattle.chpw_service.specs.Serving.{reach_asked};
 ghost use Rattle.chpw_start.specs.declared.raising.RaiseReport.{RaiseReport};
 ghost use Rattle.chpw_service.specs.WholeRuns.{IsServedFrom, IsWholeRun};
 ghost use Rattle.chpw_logging.specs.declared.logging.LogLines.{LogLines};
@@ -17,24 +17,27 @@ ghost use Rattle.rand_chacha.specs.ChaCha.{key_of};
 use crate::binding::{BoundSockets, bind};
 use crate::control_socket::{control_socket, take_away};
 use crate::kdc::ControlTerms;
+use crate::limits::limits_of;
 use crate::opening::{OpenJournal, Settings, open_journal, settings_of};
 use crate::running::{serve_fault_of, serve_from};
 use crate::service_manager::{notify_ready, notify_stopping};
 use chpw_book::{Desk, DeskName, Pass};
 use chpw_desks::{
-    JournalLength, KdcPlace, Opened, Opening, ServiceContext, first_opening, start_desk,
+    JournalLength, KdcPlace, Machine, Opened, Opening, ServiceContext, first_opening, start_desk,
 };
-use chpw_invocation::{ConnectionLimit, ServeOptions};
+use chpw_invocation::ServeOptions;
 use chpw_journal::FileSink;
-use chpw_logging::{Log, Notice, log_of, time_of};
+use chpw_logging::{Counters, Log, Notice, log_of, time_of};
 use chpw_printing::put_time;
-use chpw_reactor::{Engine, PoolOptions, dialog_with};
+use chpw_reactor::{Engine, dialog_with};
 use chpw_rules::NamePatterns;
 use chpw_serve::{Clock as _, Messages as _};
 use chpw_sockets::DatagramSockets;
-use chpw_start::{Rules, ServeFault, is_shared, own_ids, raise_where_asked, standing_at};
+use chpw_start::{
+    RaiseReport, Rules, ServeFault, is_shared, own_ids, raise_where_asked, standing_at,
+};
 use chpw_table::{LAST_SECOND, Moment, Table};
-use chpw_transfers::{AcceptLimit, KdcSide};
+use chpw_transfers::KdcSide;
 use chpw_workers::MachineClock;
 use std::alloc::Global;
 use std::fs::{File, Files};
@@ -42,8 +45,7 @@ use std::marker::Brand;
 use std::net::{Net, SocketAddr, TcpListener, TcpStream};
 use std::rt::Env;
 use std::str;
-use std::sync::Wait;
-use std::thread::Threads;
+use std::sync::{Mutex, Wait};
 use std::time::Clock;
 
 /// Serves so many connections at its addresses, the messages of connection i (from 0) by worker i modulo their number,
@@ -56,19 +58,7 @@ use std::time::Clock;
 /// ADDRESS:PORT` for each address before a connection is accepted, when the service manager is told too, and `entries N changes N` for
 /// each history: when one is full, its desk is closed, and the next one opens with the closed table and its used ids.
 /// With a control socket it carries out the commands that come there, and ends when told to stop.
-pub fn serve<
-    'a,
-    R: Files<File = File>
-        + Net<Listener = TcpListener, Stream = TcpStream>
-        + Threads
-        + Wait
-        + Clock
-        + Env
-        + Print
-        + Eprint
-        + AllocGlobal
-        + Sync,
->(rt: &R, options: ServeOptions<'a>) -> Result<(), ServeFault<'a>>
+pub fn serve<'a, R: Machine>(rt: &R, options: ServeOptions<'a>) -> Result<(), ServeFault<'a>>
 where
     R::Dir: Send + Sync,
     ensures run { OnOk result (IsWholeRun R (LogLines R) options.entry) }
@@ -78,20 +68,11 @@ where
 }
 
 /// Serves as `serve` does, with another clock than the machine's.
-pub fn serve_by<
-    'a,
-    R: Files<File = File>
-        + Net<Listener = TcpListener, Stream = TcpStream>
-        + Threads
-        + Wait
-        + Clock
-        + Env
-        + Print
-        + Eprint
-        + AllocGlobal
-        + Sync,
-    T: Clock + Sync,
->(rt: &R, time: &T, options: ServeOptions<'a>) -> Result<(), ServeFault<'a>>
+pub fn serve_by<'a, R: Machine, T: Clock + Sync>(
+    rt: &R,
+    time: &T,
+    options: ServeOptions<'a>,
+) -> Result<(), ServeFault<'a>>
 where
     R::Dir: Send + Sync,
     ensures run { OnOk result (IsWholeRun R (LogLines R) options.entry) }
@@ -104,6 +85,7 @@ where
         seed,
     } = settings_of(rt, &options)?;
     let log = log_of(rt, rt.alloc(), &options)?;
+    let counters = Mutex::new(Counters::default());
     let sockets = bind(rt, &options, rules.service.realm())?;
     let mut clock = MachineClock::new(time);
     let OpenJournal {
@@ -114,14 +96,18 @@ where
     tell_shared(rt, &log, &options);
     let listener = control_socket(rt, options.control)?;
     let since = clock.now();
-    log.tell_start(since, &table);
+    let started = counters.lock(rt).start(since, &table);
+    log.put_event(since, &started);
     tell_quiet(rt.alloc(), &log, since, &table);
     let kdc = kdc_side(rt, &options, &table, names);
     let opening = first_opening(table, sink, options.workers);
     let service = Start {
+        rt,
+        time,
         options: &options,
-        terms: terms_of(&options, seed),
+        seed,
         log: &log,
+        counters: &counters,
         journal: length,
         kdc,
         sockets,
@@ -131,10 +117,11 @@ where
         since: time_of(since),
         workers: options.workers,
     };
-    let ended = serve_opened::<Brand, R, T>(rt, time, service, control, rules, opening, &mut clock);
+    let ended = serve_opened::<Brand, R, T>(service, control, rules, opening, &mut clock);
     notify_stopping(rt);
     take_away(rt, options.control);
-    log.end(clock.now());
+    let last = counters.lock(rt).end();
+    log.end(clock.now(), &last);
     ended
 }
 
@@ -195,10 +182,13 @@ fn tell_shared<R: Files + Wait + Eprint>(rt: &R, log: &Log<'_, R>, options: &Ser
 
 /// What a service starts with, beside its table and its rules.
 #[derive(Drop)]
-struct Start<'l, R> {
+struct Start<'l, R, T> {
+    rt: &'l R,
+    time: &'l T,
     options: &'l ServeOptions<'l>,
-    terms: PoolOptions,
+    seed: [u8; 32],
     log: &'l Log<'l, R>,
+    counters: &'l Mutex<Counters>,
     journal: JournalLength,
     kdc: Option<KdcSide>,
     sockets: BoundSockets,
@@ -207,25 +197,8 @@ struct Start<'l, R> {
 // Serves what is opened: at the first desk the count is raised if that is asked for, and then the service listens at
 // the port.
 #[tactic(auto, using(crate::proofs::RaisedLemmas::raised_in_order))]
-fn serve_opened<
-    'a,
-    'l,
-    D: DeskName + Send + Sync,
-    R: Files<File = File>
-        + Net<Listener = TcpListener, Stream = TcpStream>
-        + Threads
-        + Wait
-        + Clock
-        + Env
-        + Print
-        + Eprint
-        + AllocGlobal
-        + Sync,
-    T: Clock + Sync,
->(
-    rt: &R,
-    time: &T,
-    start: Start<'l, R>,
+fn serve_opened<'a, 'l, D: DeskName + Send + Sync, R: Machine, T: Clock + Sync>(
+    start: Start<'l, R, T>,
     control: ControlTerms,
     rules: Rules,
     opening: Opening,
@@ -235,18 +208,19 @@ where
     R::Dir: Send + Sync,
     requires name { IsNamed opening.unnamed D.name D.parts D.book D.root D.workers }
     requires workers { workers_of opening.unnamed ≡ start.options.now.workers }
-    ensures served { OnOk result (IsServedFrom R (LogLines R) start.entry.options.now (key_of start.entry.terms.seed)
+    ensures served { OnOk result (IsServedFrom R (LogLines R) start.entry.options.now (key_of start.entry.seed)
         (table_of opening.unnamed) rules clock.old) }
     ensures fault { IfErr result IsLate }
 {
-    let Ok(Opened { desk, mut passes }) = start_desk::<D, R>(rt, opening) else {
+    let Ok(Opened { desk, mut passes }) = start_desk::<D, R>(start.rt, opening) else {
         return Err(ServeFault::Memory);
     };
-    let terms = start.terms;
-    match raise_and_listen(rt, time, start, &desk, &mut passes, clock) {
-        Ok((listeners, hall)) => {
+    let rt = start.rt;
+    let seed = start.seed;
+    match raise_and_listen(start, &desk, &mut passes, clock) {
+        Ok((listeners, context)) => {
             let first = Opened { desk, passes };
-            serve_from(rt, time, &listeners, &hall, control, rules, first, terms)
+            serve_from(&context, &listeners, control, rules, first, seed)
         }
         Err(fault) => {
             desk.abandon(rt);
@@ -264,13 +238,11 @@ fn raise_and_listen<
     T: Clock,
     C: chpw_serve::Clock,
 >(
-    rt: &R,
-    time: &T,
-    start: Start<'l, R>,
+    start: Start<'l, R, T>,
     desk: &Desk<D, FileSink<File>>,
     passes: &mut [Pass<D>],
     clock: &mut C,
-) -> Result<(Vec<TcpListener>, ServiceContext<'l, R>), ServeFault<'a>>
+) -> Result<(Vec<TcpListener>, ServiceContext<'l, R, T>), ServeFault<'a>>
     ensures workers { IfOk result (λ r. r.1.workers ≡ start.entry.options.now.workers) }
     ensures options { IfOk result (λ r. r.1.options.now ≡ start.entry.options.now) }
     ensures kdc { IfOk result (λ r. (r.1.kdc.socket ≡ start.entry.options.now.kdc)
@@ -280,10 +252,22 @@ fn raise_and_listen<
     ensures passes { length passes.new ≡ length passes.old }
     ensures fault { IfErr result IsLate }
 {
-    if let Some(told) = raise_where_asked(rt, desk, passes, clock, start.options.raise)? {
-        start.log.tell_raise(MachineClock::new(time).now(), told);
+    if let Some(told) = raise_where_asked(start.rt, desk, passes, clock, start.options.raise)? {
+        tell_raise(&start, told);
     }
-    listening(rt, start)
+    listening(start)
+}
+
+// Appends the line of a raise if the count was raised, and reports it if the journal did not take it.
+fn tell_raise<R: Wait + Eprint, T: Clock>(start: &Start<'_, R, T>, told: RaiseReport) {
+    let now = MachineClock::new(start.time).now();
+    let raised = start.counters.lock(start.rt).raise(told);
+    if let Some(event) = raised {
+        start.log.put_event(now, &event);
+    }
+    if matches!(told, RaiseReport::Broken) {
+        start.log.tell_failed(now);
+    }
 }
 
 // Listens, and prints at which addresses.
@@ -291,7 +275,8 @@ fn listening<
     'a,
     'l,
     R: Net<Listener = TcpListener, Stream = TcpStream> + Wait + Env + Print + Eprint + AllocGlobal,
->(rt: &R, start: Start<'l, R>) -> Result<(Vec<TcpListener>, ServiceContext<'l, R>), ServeFault<'a>>
+    T,
+>(start: Start<'l, R, T>) -> Result<(Vec<TcpListener>, ServiceContext<'l, R, T>), ServeFault<'a>>
     ensures workers { IfOk result (λ r. r.1.workers ≡ start.entry.options.now.workers) }
     ensures options { IfOk result (λ r. r.1.options.now ≡ start.entry.options.now) }
     ensures kdc { IfOk result (λ r. (r.1.kdc.socket ≡ start.entry.options.now.kdc)
@@ -299,9 +284,12 @@ fn listening<
     ensures fault { IfErr result IsLate }
 {
     let Start {
+        rt,
+        time,
         options,
-        terms,
+        seed: _,
         log,
+        counters,
         journal,
         kdc,
         sockets: BoundSockets {
@@ -309,11 +297,14 @@ fn listening<
             datagrams,
         },
     } = start;
-    let engine = engine_of(rt, rt.alloc(), options.workers, &terms, datagrams, kdc)?;
-    let hall = ServiceContext {
+    let engine = engine_of(rt, options, datagrams, kdc)?;
+    let context = ServiceContext {
+        rt,
+        time,
         engine,
         workers: options.workers,
         log,
+        counters,
         journal,
         kdc: KdcPlace {
             socket: options.kdc,
@@ -327,55 +318,23 @@ fn listening<
             return Err(ServeFault::CannotPrint);
         }
     }
-    notify_ready(rt, hall.log);
-    Ok((listeners, hall))
-}
-
-// The terms of the pool.
-fn terms_of(options: &ServeOptions<'_>, seed: [u8; 32]) -> PoolOptions
-    ensures value { IsAskedFor options.now seed result }
-{
-    PoolOptions {
-        seed,
-        connections: limit_of(options.connections),
-        clients: options.clients,
-        clients_per_peer: options.clients_per_peer,
-        buffers: options.buffers,
-        idle: options.idle,
-    }
-}
-
-// After how many connections the pool ends.
-fn limit_of(asked: ConnectionLimit) -> AcceptLimit
-    ensures value { result ≡ limit_asked asked }
-{
-    match asked {
-        ConnectionLimit::Unlimited => AcceptLimit::Unlimited,
-        ConnectionLimit::Of(count) => AcceptLimit::Of(u64::from(count)),
-    }
+    notify_ready(rt, context.log);
+    Ok((listeners, context))
 }
 
 // The engine, with a queue for each worker.
-fn engine_of<'a, R: Net>(
+fn engine_of<'a, R: Net + AllocGlobal>(
     rt: &R,
-    alloc: Global,
-    workers: u8,
-    terms: &PoolOptions,
+    options: &ServeOptions<'_>,
     datagrams: Option<DatagramSockets>,
     kdc: Option<KdcSide>,
 ) -> Result<Engine, ServeFault<'a>>
-    requires some_workers { 1 ≤ workers }
-    ensures workers { IfOk result (λ engine. workers_at engine ≡ workers) }
+    ensures workers { IfOk result (λ engine. workers_at engine ≡ options.now.workers) }
     ensures fault { IfErr result IsLate }
 {
-    match Engine::of(
-        rt,
-        alloc,
-        terms.bounds(),
-        usize::from(workers),
-        datagrams,
-        kdc,
-    ) {
+    let limits = limits_of(options);
+    let workers = usize::from(options.workers);
+    match Engine::of(rt, rt.alloc(), limits, workers, datagrams, kdc) {
         Err(fault) => Err(serve_fault_of(fault)),
         Ok(engine) => Ok(engine),
     }

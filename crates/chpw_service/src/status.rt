@@ -9,83 +9,73 @@ ghost use Rattle.chpw_service.specs.Status.{IsStatusOf, kdc_state, reason_in};
 use crate::readings::{KdcReadings, Readings};
 use chpw_control::{JournalState, KdcState, Status, status_answer};
 use chpw_journal::SinkCause;
-use chpw_logging::Facts;
+use chpw_logging::Counters;
 use chpw_orders::answer_or_empty;
 use chpw_transfers::ConnectionCounts;
 use std::alloc::{AllocError, Global};
 
-/// The whole answer that tells the status of a service of this version; empty if memory was refused.
-pub(crate) fn answer_of(
-    alloc: Global,
-    version: &str,
-    readings: &Readings,
-    facts: &Facts,
-    counts: &ConnectionCounts,
-    refused: Option<&[u8]>,
-) -> Vec<u8>
-    requires since { IsTold readings.now.since }
-    ensures value { (result.items ≡ []) ⊎ ((s : TheStatus) × IsStatusOf version.now readings.now facts.now counts.now s
+/// What a status is made of.
+#[derive(Clone, Copy, Drop)]
+pub(crate) struct StatusSources<'a> {
+    pub version: &'a str,
+    pub readings: &'a Readings,
+    pub counters: &'a Counters,
+    pub counts: &'a ConnectionCounts,
+    /// The last refusal of the agent at the KDC's database, in words.
+    pub refused: Option<&'a [u8]>,
+}
+
+/// The whole answer that tells the status of a service; empty if memory was refused.
+pub(crate) fn answer_of(alloc: Global, sources: &StatusSources<'_>) -> Vec<u8>
+    requires since { IsTold sources.now.readings.now.since }
+    ensures value { (result.items ≡ []) ⊎ ((s : TheStatus)
+        × IsStatusOf sources.now.version.now sources.now.readings.now sources.now.counters.now sources.now.counts.now s
         × (result.items ≡ lines_text (status_lines s ++ ok_line ∷ []))) }
 {
-    match failure_words(alloc, readings.failure) {
+    match failure_words(alloc, sources.readings.failure) {
         Err(_) => Vec::new(alloc),
-        Ok(None) => answer_by(alloc, version, readings, facts, counts, refused, None),
-        Ok(Some(why)) => answer_by(
-            alloc,
-            version,
-            readings,
-            facts,
-            counts,
-            refused,
-            Some(why.as_str()),
-        ),
+        Ok(None) => answer_by(alloc, sources, None),
+        Ok(Some(why)) => answer_by(alloc, sources, Some(why.as_str())),
     }
 }
 
 // The same, of a service whose journal failed for this reason, if it did.
-fn answer_by<'a>(
-    alloc: Global,
-    version: &'a str,
-    readings: &Readings,
-    facts: &Facts,
-    counts: &ConnectionCounts,
-    refused: Option<&'a [u8]>,
-    failed: Option<&'a str>,
-) -> Vec<u8>
-    requires since { IsTold readings.now.since }
-    requires failed { option_map (λ words. words.now) failed ≡ option_map cause_text readings.now.failure }
-    ensures value { (result.items ≡ []) ⊎ ((s : TheStatus) × IsStatusOf version.now readings.now facts.now counts.now s
+fn answer_by<'a>(alloc: Global, sources: &StatusSources<'a>, failed: Option<&'a str>) -> Vec<u8>
+    requires since { IsTold sources.now.readings.now.since }
+    requires failed { option_map (λ words. words.now) failed ≡ option_map cause_text sources.now.readings.now.failure }
+    ensures value { (result.items ≡ []) ⊎ ((s : TheStatus)
+        × IsStatusOf sources.now.version.now sources.now.readings.now sources.now.counters.now sources.now.counts.now s
         × (result.items ≡ lines_text (status_lines s ++ ok_line ∷ []))) }
 {
-    let status = status_of(version, readings, facts, counts, refused, failed);
+    let status = status_of(sources, failed);
     answer_with(alloc, &status)
 }
 
-// The status of a service of this version, whose journal failed for this reason, if it did.
-fn status_of<'a>(
-    version: &'a str,
-    readings: &Readings,
-    facts: &Facts,
-    counts: &ConnectionCounts,
-    refused: Option<&'a [u8]>,
-    failed: Option<&'a str>,
-) -> Status<'a>
-    requires since { IsTold readings.now.since }
-    requires failed { option_map (λ words. words.now) failed ≡ option_map cause_text readings.now.failure }
-    ensures value { IsStatusOf version.now readings.now facts.now counts.now result }
-    ensures refused { result.kdc_refused ≡ refused.entry }
+// The status of a service whose journal failed for this reason, if it did.
+fn status_of<'a>(sources: &StatusSources<'a>, failed: Option<&'a str>) -> Status<'a>
+    requires since { IsTold sources.now.readings.now.since }
+    requires failed { option_map (λ words. words.now) failed ≡ option_map cause_text sources.now.readings.now.failure }
+    ensures value { IsStatusOf sources.now.version.now sources.now.readings.now sources.now.counters.now sources.now.counts.now result }
+    ensures refused { result.kdc_refused ≡ sources.now.refused }
     ensures told { AreTold result }
 {
+    let StatusSources {
+        version,
+        readings,
+        counters,
+        counts,
+        refused,
+    } = *sources;
     Status {
         version,
         since: readings.since,
-        quiet_until: facts.quiet_time(readings.moment),
-        principals: readings.kdc.map_or(facts.principals, |kdc| kdc.held),
-        iterations: facts.iterations,
-        entries: facts.entries,
-        changes: facts.changes,
-        all_entries: facts.all_entries,
-        all_changes: facts.all_changes,
+        quiet_until: counters.quiet_time(readings.moment),
+        principals: readings.kdc.map_or(counters.principals, |kdc| kdc.held),
+        iterations: counters.iterations,
+        entries: counters.entries,
+        changes: counters.changes,
+        all_entries: counters.all_entries,
+        all_changes: counters.all_changes,
         connections: counts.connections() as u64,
         reading: counts.reading as u64,
         waiting: counts.waiting as u64,
@@ -99,7 +89,7 @@ fn status_of<'a>(
         journal_bytes: readings.journal_bytes,
         journal: journal_state(failed),
         journal_name: readings.journal_name,
-        log_lost: facts.lost,
+        log_lost: readings.log_lost,
         log_name: readings.log_name,
         kdc: kdc_state(readings.kdc),
         kdc_since: readings.kdc.map(|kdc| kdc.since),

@@ -3,7 +3,7 @@ use Rattle.std.proofs.Common.{◌≡◌, ℕ, zero, suc, ◌<◌, ◌≤◌, Lis
 use Rattle.slab.specs.Slab.{Slab}
 use Rattle.chpw_connection.specs.declared.limits.ConnectionLimits.{ConnectionLimits}
 use Rattle.chpw_connection.specs.declared.connection.Connection.{Connection}
-use Rattle.chpw_datagrams.specs.declared.sender.Sender.{Sender}
+use Rattle.chpw_connections.specs.declared.sender.Sender.{Sender}
 use Rattle.chpw_sockets.specs.Deciding.{IsDecided, IsPlaced, IsQueued, QueuesThis}
 use Rattle.chpw_transfers.specs.Datagrams.{TakesDatagram}
 use Rattle.chpw_sockets.specs.declared.sockets.Transport.{Transport}
@@ -23,8 +23,8 @@ free_past (y ∷ xs) (suc i) x past is = free_past xs i x (omega (arith, past)) 
 
 abbrev worker_of : Progress → ℕ
 worker_of (progress.Queued worker) = worker
-worker_of progress.Some = 0
-worker_of progress.None = 0
+worker_of progress.Moved = 0
+worker_of progress.Idle = 0
 
 -- a datagram that waits, with the copy of its message at its place
 pub is_queued : {S : Type 0} → (sender : Sender) (message copy : List ℕ) (before after : List (Option (Transport S)))

@@ -5,7 +5,7 @@ use Rattle.chpw_connection.specs.declared.connection.Connection.{Connection}
 use Rattle.chpw_connection.specs.declared.limits.ConnectionLimits.{ConnectionLimits}
 use Rattle.chpw_connection.specs.declared.todo.Todo.{Todo}
 use Rattle.chpw_connection.specs.declared.todo.Todo.TheVariants as todo
-use Rattle.chpw_datagrams.specs.declared.sender.Sender.{Sender}
+use Rattle.chpw_connections.specs.declared.sender.Sender.{Sender}
 use Rattle.chpw_sockets.specs.Deciding.{QueuesThis}
 use Rattle.chpw_sockets.specs.Replying.{Post, PostsAt, PostsBy, IsReceived, IsTaken, Resends}
 use Rattle.chpw_sockets.specs.Sending.{Mail}

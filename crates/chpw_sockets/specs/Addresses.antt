@@ -3,7 +3,7 @@ use Rattle.std.specs.Prelude.{◌≡◌}
 use Rattle.std.specs.Net.Socket.{socket_ip, socket_port}
 use Rattle.std.specs.declared.net.ip_addr.IpAddr.{IpAddr}
 use Rattle.std.specs.declared.net.socket_addr.SocketAddr.{SocketAddr}
-use Rattle.chpw_datagrams.specs.declared.sender.Sender.{Sender}
+use Rattle.chpw_connections.specs.declared.sender.Sender.{Sender}
 
 -- the sender at an address, who sent to this one of the service
 abbrev pub sender_in : IpAddr → SocketAddr → Sender

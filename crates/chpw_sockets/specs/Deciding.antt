@@ -5,9 +5,9 @@ use Rattle.std.specs.Str.{bytes_eq}
 use Rattle.slab.specs.Slab.{Slab}
 use Rattle.chpw_connection.specs.declared.limits.ConnectionLimits.{ConnectionLimits}
 use Rattle.chpw_connection.specs.declared.connection.Connection.{Connection}
-use Rattle.chpw_datagrams.specs.Answers.{Answer, reply_for, after_keep}
-use Rattle.chpw_datagrams.specs.Senders.{IsAnswered, is_same_sender}
-use Rattle.chpw_datagrams.specs.declared.sender.Sender.{Sender}
+use Rattle.chpw_connections.specs.Answers.{Answer, reply_for, after_keep}
+use Rattle.chpw_connections.specs.Senders.{IsAnswered, is_same_sender}
+use Rattle.chpw_connections.specs.declared.sender.Sender.{Sender}
 use Rattle.chpw_transfers.specs.Datagrams.{TakesDatagram}
 use Rattle.chpw_sockets.specs.Shares.{may_place_datagram}
 use Rattle.chpw_sockets.specs.declared.sockets.Socket.{Socket}

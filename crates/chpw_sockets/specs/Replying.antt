@@ -8,9 +8,9 @@ use Rattle.chpw_connection.specs.declared.connection.Connection.{Connection}
 use Rattle.chpw_connection.specs.declared.limits.ConnectionLimits.{ConnectionLimits}
 use Rattle.chpw_connection.specs.declared.todo.Todo.{Todo}
 use Rattle.chpw_connection.specs.declared.todo.Todo.TheVariants as todo
-use Rattle.chpw_datagrams.specs.Answers.{Answer, reply_for}
-use Rattle.chpw_datagrams.specs.Senders.{IsAnswered}
-use Rattle.chpw_datagrams.specs.declared.sender.Sender.{Sender}
+use Rattle.chpw_connections.specs.Answers.{Answer, reply_for}
+use Rattle.chpw_connections.specs.Senders.{IsAnswered}
+use Rattle.chpw_connections.specs.declared.sender.Sender.{Sender}
 use Rattle.chpw_transfers.specs.Datagrams.{in_datagram}
 use Rattle.chpw_sockets.specs.Deciding.{KeepsReply, QueuesThis}
 use Rattle.chpw_sockets.specs.Sending.{Mail, Sends, Brings}

@@ -1,7 +1,7 @@
 -- What goes through the sockets for datagrams, if that is known. A sender has the address of the service's that it sent to, and a
 -- datagram to it goes from there.
 use Rattle.std.specs.Prelude.{◌≡◌, ℕ, List, [], ◌∷◌, ◌++◌, take, Option, Some, None, ⊤}
-use Rattle.chpw_datagrams.specs.declared.sender.Sender.{Sender}
+use Rattle.chpw_connections.specs.declared.sender.Sender.{Sender}
 
 -- datagrams, the first first, each with whom it comes from or goes to
 abbrev pub Mail : Type 0

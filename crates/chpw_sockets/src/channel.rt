@@ -2,7 +2,7 @@
 ghost use Rattle.std.specs.Prelude.{◌≡◌, ◌≤◌, IfOk, IfErr, length, take};
 ghost use Rattle.chpw_sockets.specs.Sending.{Mail, Brings, Sends};
 
-use chpw_datagrams::Sender;
+use chpw_connections::Sender;
 use mio::net::TcpStream;
 use std::io::{self, Error, Read, Write};
 use std::net::Shutdown;

@@ -13,7 +13,7 @@ use crate::channel::DatagramChannel;
 use crate::shares::may_place_datagram;
 use crate::sockets::Transport;
 use crate::udp::{Datagram, Datagrams};
-use chpw_datagrams::Sender;
+use chpw_connections::Sender;
 use chpw_transfers::{Progress, State};
 use std::alloc::Global;
 
@@ -37,19 +37,19 @@ pub(crate) fn decide<S: Drop, D: DatagramChannel>(
     ensures few { datagrams_in by_slot.old ≤ most_datagrams (length by_slot.old) → datagrams_in by_slot.new ≤ most_datagrams (length by_slot.new) }
     ensures streams { streams_in by_slot.new ≤ streams_in by_slot.old }
     ensures places { length by_slot.new ≡ length by_slot.old }
-    ensures some { (result ≡ progress.None) → ⊥ }
+    ensures some { (result ≡ progress.Idle) → ⊥ }
     ensures bounds { bounds_of state.new.connections ≡ bounds_of state.old.connections }
-    ensures dropped { result ≡ progress.Some → DropsDatagram (slots_of state.old.connections) (slots_of state.new.connections) }
-    ensures in_turn { result ≡ progress.Some → (state.new ≡ state.old)
+    ensures dropped { result ≡ progress.Moved → DropsDatagram (slots_of state.old.connections) (slots_of state.new.connections) }
+    ensures in_turn { result ≡ progress.Moved → (state.new ≡ state.old)
         ⊎ BeginsAndDrops (bounds_of state.old.connections) now sender.ends (accepted_by state.old.connections) message.now
         (slots_of state.old.connections) (slots_of state.new.connections) }
-    ensures kept { result ≡ progress.Some → by_slot.new ≡ by_slot.old }
+    ensures kept { result ≡ progress.Moved → by_slot.new ≡ by_slot.old }
 {
     match datagrams.is_to_be_decided(sender, message, now) {
         Ok(true) if may_be_queued(by_slot, sender, message) => {
             queue(datagrams.alloc, by_slot, state, sender, message, now)
         }
-        _ => Progress::Some,
+        _ => Progress::Moved,
     }
 }
 
@@ -90,22 +90,22 @@ fn queue<S: Drop>(
     ensures queued { (worker : ℕ) → result ≡ progress.Queued worker
         → IsQueued sender message.now by_slot.old by_slot.new (bounds_of state.old.connections) now (accepted_by state.old.connections)
         (slots_of state.old.connections) (slots_of state.new.connections) worker (workers_of state.old.connections) }
-    ensures some { (result ≡ progress.None) → ⊥ }
+    ensures some { (result ≡ progress.Idle) → ⊥ }
     ensures bounds { bounds_of state.new.connections ≡ bounds_of state.old.connections }
-    ensures dropped { result ≡ progress.Some → DropsDatagram (slots_of state.old.connections) (slots_of state.new.connections) }
-    ensures in_turn { result ≡ progress.Some → (state.new ≡ state.old)
+    ensures dropped { result ≡ progress.Moved → DropsDatagram (slots_of state.old.connections) (slots_of state.new.connections) }
+    ensures in_turn { result ≡ progress.Moved → (state.new ≡ state.old)
         ⊎ BeginsAndDrops (bounds_of state.old.connections) now sender.ends (accepted_by state.old.connections) message.now
         (slots_of state.old.connections) (slots_of state.new.connections) }
-    ensures kept { result ≡ progress.Some → by_slot.new ≡ by_slot.old }
+    ensures kept { result ≡ progress.Moved → by_slot.new ≡ by_slot.old }
     ensures one_more { datagrams_in by_slot.new ≤ datagrams_in by_slot.old + 1 }
     ensures streams { streams_in by_slot.new ≤ streams_in by_slot.old }
     ensures places { length by_slot.new ≡ length by_slot.old }
 {
     let Ok(copy) = Vec::from_slice(alloc, message) else {
-        return Progress::Some;
+        return Progress::Moved;
     };
     match state.take_datagram(sender.ends, message, now) {
-        None => Progress::Some,
+        None => Progress::Moved,
         Some((slot, worker)) => {
             put_datagram(by_slot, slot, sender, copy);
             Progress::Queued(worker)

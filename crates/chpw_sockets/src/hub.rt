@@ -122,7 +122,7 @@ impl Hub {
             (slice_get self.old.sockets.by_slot.items slot) (slice_get self.new.sockets.by_slot.items slot) }
         ensures closed { todo_in (get (slots_of self.old.state.connections) slot) ≡ todo.Close
             → IsFree self.new.sockets.by_slot.items slot }
-        ensures idle { todo_in (get (slots_of self.old.state.connections) slot) ≢ todo.Close → result ≡ progress.None
+        ensures idle { todo_in (get (slots_of self.old.state.connections) slot) ≢ todo.Close → result ≡ progress.Idle
             → slots_of self.new.state.connections ≡ slots_of self.old.state.connections }
         ensures queued { IsCalled (workers_of self.old.state.connections) (get (slots_of self.new.state.connections) slot) result }
         ensures bounds { bounds_of self.new.state.connections ≡ bounds_of self.old.state.connections }
@@ -176,10 +176,10 @@ impl Hub {
             → Queues d self.old.sockets.by_slot.items self.new.sockets.by_slot.items
             (bounds_of self.old.state.connections) now (accepted_by self.old.state.connections)
             (slots_of self.old.state.connections) (slots_of self.new.state.connections) worker (workers_of self.old.state.connections)) }
-        ensures idle { result ≡ progress.None → self.new.state ≡ self.old.state }
+        ensures idle { result ≡ progress.Idle → self.new.state ≡ self.old.state }
         ensures bounds { bounds_of self.new.state.connections ≡ bounds_of self.old.state.connections }
-        ensures dropped { result ≡ progress.Some → DropsDatagram (slots_of self.old.state.connections) (slots_of self.new.state.connections) }
-        ensures kept { result ≡ progress.Some → self.new.sockets.by_slot.items ≡ self.old.sockets.by_slot.items }
+        ensures dropped { result ≡ progress.Moved → DropsDatagram (slots_of self.old.state.connections) (slots_of self.new.state.connections) }
+        ensures kept { result ≡ progress.Moved → self.new.sockets.by_slot.items ≡ self.old.sockets.by_slot.items }
     {
         self.sockets.take_datagram(&mut self.state, now)
     }
@@ -225,8 +225,8 @@ impl Hub {
                 return;
             }
             match self.step(slot, now) {
-                Progress::Some => {}
-                Progress::Queued(_) | Progress::None => return,
+                Progress::Moved => {}
+                Progress::Queued(_) | Progress::Idle => return,
             }
         }
         self.state.look_again(slot);

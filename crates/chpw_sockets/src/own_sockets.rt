@@ -3,7 +3,7 @@ ghost use Rattle.std.specs.Prelude.{◌≡◌, ◌≤◌, IfOk, None, length};
 ghost use Rattle.chpw_sockets.specs.Addresses.{IsAddressOf, sender_in};
 
 use crate::channel::DatagramChannel;
-use chpw_datagrams::Sender;
+use chpw_connections::Sender;
 use chpw_endpoints::Endpoints;
 use chpw_transfers::{DATAGRAMS, slot_at_turn};
 use mio::net::UdpSocket;

@@ -8,7 +8,7 @@ ghost use Rattle.chpw_slots.specs.Slots.{Happens};
 ghost use Rattle.chpw_connection.specs.Stages.{closed};
 ghost use Rattle.chpw_connection.specs.Todos.{todo_in};
 ghost use Rattle.chpw_connection.specs.declared.todo.Todo.TheVariants as todo;
-ghost use Rattle.chpw_datagrams.specs.declared.sender.Sender.{Sender};
+ghost use Rattle.chpw_connections.specs.declared.sender.Sender.{Sender};
 ghost use Rattle.chpw_transfers.specs.Datagrams.{BeginsAndDrops, DropsDatagram};
 ghost use Rattle.chpw_sockets.specs.Deciding.{AreElsewhere, IsFree, IsFresh, Queues};
 ghost use Rattle.chpw_sockets.specs.Faults.{IsUnmade};
@@ -66,10 +66,10 @@ impl<S: Channel> Transport<S> {
         ensures posted { PostsBy self.old due now (post_at D.left D.sent datagrams.old) (post_at D.left D.sent datagrams.new)
             (slots_of state.old.connections) (slots_of state.new.connections) slot }
         ensures stays { Stays due self.old self.new }
-        ensures ended { is_datagram self.old ≡ true → reads_on due ≡ true → (result ≡ progress.Some)
+        ensures ended { is_datagram self.old ≡ true → reads_on due ≡ true → (result ≡ progress.Moved)
             × Happens 0 (slots_of state.old.connections) (slots_of state.new.connections) slot closed }
-        ensures idle { result ≡ progress.None → slots_of state.new.connections ≡ slots_of state.old.connections }
-        ensures waits { due ≡ todo.Wait → result ≡ progress.None }
+        ensures idle { result ≡ progress.Idle → slots_of state.new.connections ≡ slots_of state.old.connections }
+        ensures waits { due ≡ todo.Wait → result ≡ progress.Idle }
         ensures socket { is_some datagrams.new ≡ is_some datagrams.old }
         ensures queued { IsCalled (workers_of state.old.connections) (get (slots_of state.new.connections) slot) result }
         ensures bounds { bounds_of state.new.connections ≡ bounds_of state.old.connections }
@@ -115,8 +115,8 @@ impl<S: Channel> Socket<S> {
             (told_of S.remaining S.contents self.old) (told_of S.remaining S.contents self.new)
             (slots_of state.old.connections) (slots_of state.new.connections) slot }
         ensures shut { self.new.is_shut ≡ is_shut_behind due self.old.is_shut }
-        ensures idle { result ≡ progress.None → slots_of state.new.connections ≡ slots_of state.old.connections }
-        ensures waits { due ≡ todo.Wait → result ≡ progress.None }
+        ensures idle { result ≡ progress.Idle → slots_of state.new.connections ≡ slots_of state.old.connections }
+        ensures waits { due ≡ todo.Wait → result ≡ progress.Idle }
         ensures queued { IsCalled (workers_of state.old.connections) (get (slots_of state.new.connections) slot) result }
         ensures bounds { bounds_of state.new.connections ≡ bounds_of state.old.connections }
         ensures kdc { state.new.kdc ≡ state.old.kdc }
@@ -125,7 +125,7 @@ impl<S: Channel> Socket<S> {
             Todo::Read(_) => state.read(slot, &mut self.stream, buffer, now),
             Todo::Write => state.write(slot, &mut self.stream, now),
             Todo::Linger => self.linger(state, slot, buffer),
-            Todo::Close | Todo::Wait => Progress::None,
+            Todo::Close | Todo::Wait => Progress::Idle,
         }
     }
 
@@ -134,7 +134,7 @@ impl<S: Channel> Socket<S> {
     fn linger(&mut self, state: &mut State, slot: usize, buffer: &mut [u8]) -> Progress
         ensures drained { Drains (told_of S.remaining S.contents self.old) (told_of S.remaining S.contents self.new)
             (slots_of state.old.connections) (slots_of state.new.connections) slot }
-        ensures idle { result ≡ progress.None → state.new ≡ state.old }
+        ensures idle { result ≡ progress.Idle → state.new ≡ state.old }
         ensures queued { IsCalled (workers_of state.old.connections) (get (slots_of state.new.connections) slot) result }
         ensures bounds { bounds_of state.new.connections ≡ bounds_of state.old.connections }
         ensures kdc { state.new.kdc ≡ state.old.kdc }
@@ -238,15 +238,15 @@ impl<S: Channel + Drop, D: DatagramChannel + Drop> Sockets<S, D> {
             (slots_of state.old.connections) (slots_of state.new.connections) slot }
         ensures others { AreElsewhere self.old.by_slot.items self.new.by_slot.items slot }
         ensures closed { todo_in (get (slots_of state.old.connections) slot) ≡ todo.Close → IsFree self.new.by_slot.items slot }
-        ensures over { todo_in (get (slots_of state.old.connections) slot) ≡ todo.Close → result ≡ progress.None }
-        ensures waits { todo_in (get (slots_of state.old.connections) slot) ≡ todo.Wait → result ≡ progress.None }
-        ensures idle { todo_in (get (slots_of state.old.connections) slot) ≢ todo.Close → result ≡ progress.None
+        ensures over { todo_in (get (slots_of state.old.connections) slot) ≡ todo.Close → result ≡ progress.Idle }
+        ensures waits { todo_in (get (slots_of state.old.connections) slot) ≡ todo.Wait → result ≡ progress.Idle }
+        ensures idle { todo_in (get (slots_of state.old.connections) slot) ≢ todo.Close → result ≡ progress.Idle
             → slots_of state.new.connections ≡ slots_of state.old.connections }
         ensures kept { todo_in (get (slots_of state.old.connections) slot) ≢ todo.Close
             → StaysAt (todo_in (get (slots_of state.old.connections) slot))
             (slice_get self.old.by_slot.items slot) (slice_get self.new.by_slot.items slot) }
         ensures ended { is_datagram_at (slice_get self.old.by_slot.items slot) ≡ true
-            → reads_on (todo_in (get (slots_of state.old.connections) slot)) ≡ true → (result ≡ progress.Some)
+            → reads_on (todo_in (get (slots_of state.old.connections) slot)) ≡ true → (result ≡ progress.Moved)
             × Happens 0 (slots_of state.old.connections) (slots_of state.new.connections) slot closed }
         ensures sizes { KeepsSizes self.old self.new }
         ensures queued { IsCalled (workers_of state.old.connections) (get (slots_of state.new.connections) slot) result }
@@ -257,10 +257,10 @@ impl<S: Channel + Drop, D: DatagramChannel + Drop> Sockets<S, D> {
         if todo == Todo::Close {
             self.close(slot);
             let _ = state.connections.remove(slot);
-            return Progress::None;
+            return Progress::Idle;
         }
         if slot >= self.by_slot.len() {
-            return Progress::None;
+            return Progress::Idle;
         }
         let Sockets {
             by_slot,
@@ -270,7 +270,7 @@ impl<S: Channel + Drop, D: DatagramChannel + Drop> Sockets<S, D> {
         } = self;
         match &mut by_slot[slot] {
             Some(transport) => transport.step(datagrams, state, slot, todo, buffer, now),
-            None => Progress::None,
+            None => Progress::Idle,
         }
     }
 
@@ -298,15 +298,15 @@ impl<S: Channel + Drop, D: DatagramChannel + Drop> Sockets<S, D> {
         ensures taken { Takes D.left D.sent self.old.datagrams self.new.datagrams (length self.old.datagram.items)
             self.old.by_slot.items self.new.by_slot.items (bounds_of state.old.connections) now (accepted_by state.old.connections)
             (slots_of state.old.connections) (slots_of state.new.connections) result (workers_of state.old.connections) }
-        ensures none { IfNone self.old.datagrams ((result ≡ progress.None) × (state.new ≡ state.old)) }
-        ensures idle { result ≡ progress.None → state.new ≡ state.old }
+        ensures none { IfNone self.old.datagrams ((result ≡ progress.Idle) × (state.new ≡ state.old)) }
+        ensures idle { result ≡ progress.Idle → state.new ≡ state.old }
         ensures bounds { bounds_of state.new.connections ≡ bounds_of state.old.connections }
-        ensures dropped { result ≡ progress.Some → DropsDatagram (slots_of state.old.connections) (slots_of state.new.connections) }
-        ensures in_turn { result ≡ progress.Some → (state.new ≡ state.old) ⊎ (sender : Sender) × (message : List ℕ)
+        ensures dropped { result ≡ progress.Moved → DropsDatagram (slots_of state.old.connections) (slots_of state.new.connections) }
+        ensures in_turn { result ≡ progress.Moved → (state.new ≡ state.old) ⊎ (sender : Sender) × (message : List ℕ)
             × BeginsAndDrops (bounds_of state.old.connections) now sender.ends (accepted_by state.old.connections) message
             (slots_of state.old.connections) (slots_of state.new.connections) }
-        ensures kept { result ≡ progress.Some → self.new.by_slot.items ≡ self.old.by_slot.items }
-        ensures idle_places { result ≡ progress.None → self.new.by_slot.items ≡ self.old.by_slot.items }
+        ensures kept { result ≡ progress.Moved → self.new.by_slot.items ≡ self.old.by_slot.items }
+        ensures idle_places { result ≡ progress.Idle → self.new.by_slot.items ≡ self.old.by_slot.items }
         ensures places { length self.new.by_slot.items ≡ length self.old.by_slot.items }
     {
         let Sockets {
@@ -316,7 +316,7 @@ impl<S: Channel + Drop, D: DatagramChannel + Drop> Sockets<S, D> {
             ..
         } = self;
         let Some(datagrams) = datagrams else {
-            return Progress::None;
+            return Progress::Idle;
         };
         match datagrams.receive(datagram) {
             Err(error) => untaken(error.kind()),
@@ -356,12 +356,12 @@ fn has_pending(asked: io::Result<Option<Error>>) -> bool
 
 // No datagram was read, by a fault of this kind: after an interruption the next one may be read at once.
 fn untaken(kind: ErrorKind) -> Progress
-    ensures interrupted { kind ≡ ErrorKind.Interrupted → result ≡ progress.Some }
-    ensures other { kind ≢ ErrorKind.Interrupted → result ≡ progress.None }
+    ensures interrupted { kind ≡ ErrorKind.Interrupted → result ≡ progress.Moved }
+    ensures other { kind ≢ ErrorKind.Interrupted → result ≡ progress.Idle }
 {
     match Transfer::of_fault(kind) {
-        Transfer::Again => Progress::Some,
-        _ => Progress::None,
+        Transfer::Again => Progress::Moved,
+        _ => Progress::Idle,
     }
 }
 

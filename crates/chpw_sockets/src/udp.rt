@@ -19,8 +19,7 @@ ghost use Rattle.chpw_transfers.specs.declared.state.Progress.TheVariants as pro
 use crate::channel::DatagramChannel;
 use crate::own_sockets::OwnSockets;
 use crate::pool_fault::PoolFault;
-use chpw_connections::Todo;
-use chpw_datagrams::{AnswerCache, Sender, is_answerable};
+use chpw_connections::{AnswerCache, Sender, Todo, is_answerable};
 use chpw_transfers::{Progress, State, Transfer, reply_of_datagram};
 use mio::Registry;
 use std::alloc::{AllocError, Global};
@@ -60,10 +59,10 @@ impl Datagram {
             (slots_of state.old.connections) (slots_of state.new.connections) slot }
         ensures posted { PostsFor due now self.old (post_at D.left D.sent datagrams.old) (post_at D.left D.sent datagrams.new)
             (slots_of state.old.connections) (slots_of state.new.connections) slot }
-        ensures ended { reads_on due ≡ true → (result ≡ progress.Some)
+        ensures ended { reads_on due ≡ true → (result ≡ progress.Moved)
             × Happens 0 (slots_of state.old.connections) (slots_of state.new.connections) slot closed }
-        ensures idle { result ≡ progress.None → slots_of state.new.connections ≡ slots_of state.old.connections }
-        ensures waits { due ≡ todo.Wait → result ≡ progress.None }
+        ensures idle { result ≡ progress.Idle → slots_of state.new.connections ≡ slots_of state.old.connections }
+        ensures waits { due ≡ todo.Wait → result ≡ progress.Idle }
         ensures sender { self.new.sender ≡ self.old.sender }
         ensures socket { is_some datagrams.new ≡ is_some datagrams.old }
         ensures queued { IsCalled (workers_of state.old.connections) (get (slots_of state.new.connections) slot) result }
@@ -73,7 +72,7 @@ impl Datagram {
         match (due, datagrams) {
             (Todo::Write, Some(datagrams)) => datagrams.reply(state, slot, self, now),
             (Todo::Read(_) | Todo::Linger, _) => state.end_input(slot),
-            _ => Progress::None,
+            _ => Progress::Idle,
         }
     }
 }
@@ -188,9 +187,9 @@ impl<D: DatagramChannel> Datagrams<D> {
             (slots_of state.old.connections) (slots_of state.new.connections) slot }
         ensures kept { KeepsReply self.old.answered self.new.answered datagram.old.sender datagram.old.message.items
             (left_at (get (slots_of state.old.connections) slot)) now }
-        ensures blocked { result ≡ progress.None → (self.new ≡ record self.old { socket = self.new.socket })
+        ensures blocked { result ≡ progress.Idle → (self.new ≡ record self.old { socket = self.new.socket })
             × ((post_of D.left D.sent self.new ≡ post_of D.left D.sent self.old) × (slots_of state.new.connections ≡ slots_of state.old.connections)) }
-        ensures whole { result ≡ progress.None → datagram.new ≡ datagram.old }
+        ensures whole { result ≡ progress.Idle → datagram.new ≡ datagram.old }
         ensures sender { datagram.new.sender ≡ datagram.old.sender }
         ensures queued { IsCalled (workers_of state.old.connections) (get (slots_of state.new.connections) slot) result }
         ensures bounds { bounds_of state.new.connections ≡ bounds_of state.old.connections }
@@ -226,11 +225,11 @@ impl<D: DatagramChannel> Datagrams<D> {
                 self.keep(datagram, reply, now);
                 state.wrote_all(slot, now)
             }
-            Transfer::Later => Progress::None,
-            Transfer::Again => Progress::Some,
+            Transfer::Later => Progress::Idle,
+            Transfer::Again => Progress::Moved,
             Transfer::Fault => {
                 state.connections.fail(slot);
-                Progress::Some
+                Progress::Moved
             }
         }
     }

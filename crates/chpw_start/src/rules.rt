@@ -51,7 +51,7 @@ pub fn rules_of(
 
 // The service that answers the versions and takes the messages that are asked for.
 fn service_for(service: Service, options: &ServeOptions<'_>) -> Service
-    requires usual { service.accepts ≡ record { versions = Both; messages = Lenient } }
+    requires default { service.accepts ≡ record { versions = Both; messages = Lenient } }
     ensures value { result ≡ record service { accepts = acceptance_asked options.now } }
 {
     let service = if options.rfc3244_only {

@@ -51,7 +51,7 @@ GaveWay old new = (b : ConnectionLimits) × (now : ℕ) × (o : Option Connectio
 
 -- one was read, whether it waits for a worker or was dropped: more may have come behind it
 abbrev pub may_have_more : Progress → Bool
-may_have_more progress.None = false
+may_have_more progress.Idle = false
 may_have_more other = true
 
 -- or it is unchanged

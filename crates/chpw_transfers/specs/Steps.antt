@@ -125,5 +125,5 @@ may_be_read now s slot = not (is_short_for (is_large_in (get (slots_of s.connect
 -- if a worker is to be called, it is the one for which the connection's message waits
 abbrev pub IsCalled : ℕ → Option Connection → Progress → Type 0
 IsCalled workers c (progress.Queued worker) = waits_for workers c ≡ Some worker
-IsCalled workers c progress.Some = Unit {0}
-IsCalled workers c progress.None = Unit {0}
+IsCalled workers c progress.Moved = Unit {0}
+IsCalled workers c progress.Idle = Unit {0}

@@ -71,35 +71,35 @@ is_sent t = false
 -- What comes of the send of a reply in a datagram: the reply was written as a whole; it can be sent later, or again at
 -- once; or its connection has ended.
 abbrev pub ComesOfSend : Transfer → ℕ → Slab Connection → Slab Connection → ℕ → Progress → Type 0
-ComesOfSend (Bytes count) now old new slot p = (p ≡ progress.Some) × Happens now old new slot (wrote (length (left_at (get old slot))))
-ComesOfSend End now old new slot p = (p ≡ progress.Some) × Happens now old new slot (wrote (length (left_at (get old slot))))
-ComesOfSend Later now old new slot p = (p ≡ progress.None) × (new ≡ old)
-ComesOfSend Again now old new slot p = (p ≡ progress.Some) × (new ≡ old)
-ComesOfSend Fault now old new slot p = (p ≡ progress.Some) × Happens 0 old new slot failed
+ComesOfSend (Bytes count) now old new slot p = (p ≡ progress.Moved) × Happens now old new slot (wrote (length (left_at (get old slot))))
+ComesOfSend End now old new slot p = (p ≡ progress.Moved) × Happens now old new slot (wrote (length (left_at (get old slot))))
+ComesOfSend Later now old new slot p = (p ≡ progress.Idle) × (new ≡ old)
+ComesOfSend Again now old new slot p = (p ≡ progress.Moved) × (new ≡ old)
+ComesOfSend Fault now old new slot p = (p ≡ progress.Moved) × Happens 0 old new slot failed
 
 -- What comes of a read of a connection's message into this buffer: its first bytes came, or without room or memory for
 -- them the connection ended; the other side has ended; nothing has come yet; a signal interrupted it; or the connection
 -- has failed.
 abbrev pub ComesOfMessageRead : Transfer → ConnectionLimits → ℕ → List ℕ → Slab Connection → Slab Connection → ℕ → Progress → Type 0
-ComesOfMessageRead (Bytes count) b now buffer old new slot p = (p ≢ progress.None) × CameOrFailed b now old new slot (take count buffer)
-ComesOfMessageRead End b now buffer old new slot p = (p ≡ progress.Some) × Happens 0 old new slot closed
-ComesOfMessageRead Later b now buffer old new slot p = (p ≡ progress.None) × (new ≡ old)
-ComesOfMessageRead Again b now buffer old new slot p = (p ≡ progress.Some) × (new ≡ old)
-ComesOfMessageRead Fault b now buffer old new slot p = (p ≡ progress.Some) × Happens 0 old new slot failed
+ComesOfMessageRead (Bytes count) b now buffer old new slot p = (p ≢ progress.Idle) × CameOrFailed b now old new slot (take count buffer)
+ComesOfMessageRead End b now buffer old new slot p = (p ≡ progress.Moved) × Happens 0 old new slot closed
+ComesOfMessageRead Later b now buffer old new slot p = (p ≡ progress.Idle) × (new ≡ old)
+ComesOfMessageRead Again b now buffer old new slot p = (p ≡ progress.Moved) × (new ≡ old)
+ComesOfMessageRead Fault b now buffer old new slot p = (p ≡ progress.Moved) × Happens 0 old new slot failed
 
 -- What comes of a write of a connection's reply: this many of its bytes were written; nothing happened; or the
 -- connection has failed, also where the socket took none.
 abbrev pub ComesOfReplyWrite : Transfer → ℕ → Slab Connection → Slab Connection → ℕ → Progress → Type 0
-ComesOfReplyWrite (Bytes count) now old new slot p = (p ≡ progress.Some) × Happens now old new slot (wrote count)
-ComesOfReplyWrite End now old new slot p = (p ≡ progress.Some) × Happens 0 old new slot failed
-ComesOfReplyWrite Later now old new slot p = (p ≡ progress.None) × (new ≡ old)
-ComesOfReplyWrite Again now old new slot p = (p ≡ progress.Some) × (new ≡ old)
-ComesOfReplyWrite Fault now old new slot p = (p ≡ progress.Some) × Happens 0 old new slot failed
+ComesOfReplyWrite (Bytes count) now old new slot p = (p ≡ progress.Moved) × Happens now old new slot (wrote count)
+ComesOfReplyWrite End now old new slot p = (p ≡ progress.Moved) × Happens 0 old new slot failed
+ComesOfReplyWrite Later now old new slot p = (p ≡ progress.Idle) × (new ≡ old)
+ComesOfReplyWrite Again now old new slot p = (p ≡ progress.Moved) × (new ≡ old)
+ComesOfReplyWrite Fault now old new slot p = (p ≡ progress.Moved) × Happens 0 old new slot failed
 
 -- What comes of a read of what is discarded: nothing, until the other side has ended or the connection has failed.
 abbrev pub ComesOfDrain : Transfer → Slab Connection → Slab Connection → ℕ → Progress → Type 0
-ComesOfDrain (Bytes count) old new slot p = (p ≡ progress.Some) × (new ≡ old)
-ComesOfDrain End old new slot p = (p ≡ progress.Some) × Happens 0 old new slot closed
-ComesOfDrain Later old new slot p = (p ≡ progress.None) × (new ≡ old)
-ComesOfDrain Again old new slot p = (p ≡ progress.Some) × (new ≡ old)
-ComesOfDrain Fault old new slot p = (p ≡ progress.Some) × Happens 0 old new slot failed
+ComesOfDrain (Bytes count) old new slot p = (p ≡ progress.Moved) × (new ≡ old)
+ComesOfDrain End old new slot p = (p ≡ progress.Moved) × Happens 0 old new slot closed
+ComesOfDrain Later old new slot p = (p ≡ progress.Idle) × (new ≡ old)
+ComesOfDrain Again old new slot p = (p ≡ progress.Moved) × (new ≡ old)
+ComesOfDrain Fault old new slot p = (p ≡ progress.Moved) × Happens 0 old new slot failed

@@ -33,17 +33,17 @@ impl State {
             (I.remaining reader.old) (I.remaining reader.new) }
         ensures held_back { 0 < length buffer.old → wanted_at (get (slots_of self.old.connections) slot) ≢ 0
             → may_be_read now self.old slot ≡ false
-            → (result ≡ progress.None) × (reader.new ≡ reader.old) × (self.new.connections ≡ self.old.connections)
+            → (result ≡ progress.Idle) × (reader.new ≡ reader.old) × (self.new.connections ≡ self.old.connections)
             × (self.new.shortage ≡ short_of (is_large_in (get (slots_of self.old.connections) slot)) self.old.shortage) }
         ensures shortage { may_be_read now self.old slot ≡ true → self.new.shortage ≡ self.old.shortage }
-        ensures idle { result ≡ progress.None → self.new.connections ≡ self.old.connections }
+        ensures idle { result ≡ progress.Idle → self.new.connections ≡ self.old.connections }
         ensures queued { IsCalled (workers_of self.old.connections) (get (slots_of self.new.connections) slot) result }
         ensures bounds { bounds_of self.new.connections ≡ bounds_of self.old.connections }
         ensures rest { self.new ≡ record self.old { connections = self.new.connections; shortage = self.new.shortage } }
     {
         let most = buffer.len().min(self.connections.bytes_to_read(slot));
         if most == 0 || !self.may_read(slot, now) {
-            return Progress::None;
+            return Progress::Idle;
         }
         let wanted = &mut buffer[..most];
         let read = Transfer::of(reader.read(wanted));
@@ -74,7 +74,7 @@ impl State {
         ensures comes { ComesOfMessageRead read (bounds_of self.old.connections) now buffer.now
             (slots_of self.old.connections) (slots_of self.new.connections) slot result }
         ensures passed { is_passed read ≡ true → self.new ≡ self.old }
-        ensures idle { result ≡ progress.None → self.new ≡ self.old }
+        ensures idle { result ≡ progress.Idle → self.new ≡ self.old }
         ensures queued { IsCalled (workers_of self.old.connections) (get (slots_of self.new.connections) slot) result }
         ensures shortage { self.new.shortage ≡ self.old.shortage }
         ensures bounds { bounds_of self.new.connections ≡ bounds_of self.old.connections }
@@ -84,13 +84,13 @@ impl State {
             Transfer::Bytes(count) => self.receive(slot, &buffer[..count], now),
             Transfer::End => {
                 self.connections.input_ended(slot);
-                Progress::Some
+                Progress::Moved
             }
-            Transfer::Later => Progress::None,
-            Transfer::Again => Progress::Some,
+            Transfer::Later => Progress::Idle,
+            Transfer::Again => Progress::Moved,
             Transfer::Fault => {
                 self.connections.fail(slot);
-                Progress::Some
+                Progress::Moved
             }
         }
     }
@@ -102,7 +102,7 @@ impl State {
             (slots_of self.old.connections) (slots_of self.new.connections) slot (came bytes.now)
             ⊎ HappensWithRoom (for_message (bounds_of self.old.connections) now (get (slots_of self.old.connections)
             slot)) 0 (slots_of self.old.connections) (slots_of self.new.connections) slot failed }
-        ensures some { result ≢ progress.None }
+        ensures some { result ≢ progress.Idle }
         ensures queued { IsCalled (workers_of self.old.connections) (get (slots_of self.new.connections) slot) result }
         ensures shortage { self.new.shortage ≡ self.old.shortage }
         ensures bounds { bounds_of self.new.connections ≡ bounds_of self.old.connections }
@@ -110,7 +110,7 @@ impl State {
     {
         match self.connections.receive(slot, bytes, now) {
             Some(worker) => Progress::Queued(worker),
-            None => Progress::Some,
+            None => Progress::Moved,
         }
     }
 
@@ -121,9 +121,9 @@ impl State {
             (W.contents writer.old) (W.contents writer.new)
             ⊎ GivesNone (slots_of self.old.connections) (slots_of self.new.connections) slot
             (W.contents writer.old) (W.contents writer.new) }
-        ensures out { left_at (get (slots_of self.old.connections) slot) ≡ [] → (result ≡ progress.Some)
+        ensures out { left_at (get (slots_of self.old.connections) slot) ≡ [] → (result ≡ progress.Moved)
             × Happens now (slots_of self.old.connections) (slots_of self.new.connections) slot (wrote 0) }
-        ensures idle { result ≡ progress.None → self.new ≡ self.old }
+        ensures idle { result ≡ progress.Idle → self.new ≡ self.old }
         ensures queued { IsCalled (workers_of self.old.connections) (get (slots_of self.new.connections) slot) result }
         ensures bounds { bounds_of self.new.connections ≡ bounds_of self.old.connections }
         ensures rest { self.new ≡ record self.old { connections = self.new.connections } }
@@ -131,7 +131,7 @@ impl State {
         let left = self.connections.pending_output(slot);
         if left.is_empty() {
             self.connections.wrote(slot, 0, now);
-            return Progress::Some;
+            return Progress::Moved;
         }
         let written = Transfer::of(writer.write(left));
         self.note_written(slot, written, now)
@@ -141,7 +141,7 @@ impl State {
     fn note_written(&mut self, slot: usize, written: Transfer, now: u64) -> Progress
         ensures comes { ComesOfReplyWrite written now (slots_of self.old.connections) (slots_of self.new.connections) slot result }
         ensures passed { is_passed written ≡ true → self.new ≡ self.old }
-        ensures idle { result ≡ progress.None → self.new ≡ self.old }
+        ensures idle { result ≡ progress.Idle → self.new ≡ self.old }
         ensures queued { IsCalled (workers_of self.old.connections) (get (slots_of self.new.connections) slot) result }
         ensures bounds { bounds_of self.new.connections ≡ bounds_of self.old.connections }
         ensures rest { self.new ≡ record self.old { connections = self.new.connections } }
@@ -149,13 +149,13 @@ impl State {
         match written {
             Transfer::Bytes(count) => {
                 self.connections.wrote(slot, count, now);
-                Progress::Some
+                Progress::Moved
             }
-            Transfer::Later => Progress::None,
-            Transfer::Again => Progress::Some,
+            Transfer::Later => Progress::Idle,
+            Transfer::Again => Progress::Moved,
             Transfer::End | Transfer::Fault => {
                 self.connections.fail(slot);
-                Progress::Some
+                Progress::Moved
             }
         }
     }
@@ -168,7 +168,7 @@ impl State {
             (I.remaining reader.old) (I.remaining reader.new)
             ⊎ TakesNone (slots_of self.old.connections) (slots_of self.new.connections) slot
             (I.remaining reader.old) (I.remaining reader.new) }
-        ensures idle { result ≡ progress.None → self.new ≡ self.old }
+        ensures idle { result ≡ progress.Idle → self.new ≡ self.old }
         ensures bounds { bounds_of self.new.connections ≡ bounds_of self.old.connections }
         ensures rest { self.new ≡ record self.old { connections = self.new.connections } }
     {
@@ -180,21 +180,21 @@ impl State {
     fn note_drained(&mut self, slot: usize, drained: Transfer) -> Progress
         ensures comes { ComesOfDrain drained (slots_of self.old.connections) (slots_of self.new.connections) slot result }
         ensures passed { is_passed drained ≡ true → self.new ≡ self.old }
-        ensures idle { result ≡ progress.None → self.new ≡ self.old }
+        ensures idle { result ≡ progress.Idle → self.new ≡ self.old }
         ensures queued { IsCalled (workers_of self.old.connections) (get (slots_of self.new.connections) slot) result }
         ensures bounds { bounds_of self.new.connections ≡ bounds_of self.old.connections }
         ensures rest { self.new ≡ record self.old { connections = self.new.connections } }
     {
         match drained {
-            Transfer::Bytes(_) | Transfer::Again => Progress::Some,
+            Transfer::Bytes(_) | Transfer::Again => Progress::Moved,
             Transfer::End => {
                 self.connections.input_ended(slot);
-                Progress::Some
+                Progress::Moved
             }
-            Transfer::Later => Progress::None,
+            Transfer::Later => Progress::Idle,
             Transfer::Fault => {
                 self.connections.fail(slot);
-                Progress::Some
+                Progress::Moved
             }
         }
     }

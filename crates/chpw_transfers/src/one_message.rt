@@ -108,18 +108,18 @@ impl State {
 
     /// No more comes for a connection: a datagram has one message.
     pub fn end_input(&mut self, slot: usize) -> Progress
-        ensures value { result ≡ progress.Some }
+        ensures value { result ≡ progress.Moved }
         ensures happens { Happens 0 (slots_of self.old.connections) (slots_of self.new.connections) slot closed }
         ensures bounds { bounds_of self.new.connections ≡ bounds_of self.old.connections }
         ensures rest { self.new ≡ record self.old { connections = self.new.connections } }
     {
         self.connections.input_ended(slot);
-        Progress::Some
+        Progress::Moved
     }
 
     /// All that was left of a connection's reply was sent.
     pub fn wrote_all(&mut self, slot: usize, now: u64) -> Progress
-        ensures value { result ≡ progress.Some }
+        ensures value { result ≡ progress.Moved }
         ensures happens { Happens now (slots_of self.old.connections) (slots_of self.new.connections) slot
             (wrote (length (left_at (get (slots_of self.old.connections) slot)))) }
         ensures bounds { bounds_of self.new.connections ≡ bounds_of self.old.connections }
@@ -127,6 +127,6 @@ impl State {
     {
         let count = self.connections.pending_output(slot).len();
         self.connections.wrote(slot, count, now);
-        Progress::Some
+        Progress::Moved
     }
 }

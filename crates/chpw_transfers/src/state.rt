@@ -102,11 +102,11 @@ impl Shortage {
 #[derive(Clone, Copy, PartialEq, Eq, Debug, Drop)]
 pub enum Progress {
     /// Something happened, and more may be done at once.
-    Some,
+    Moved,
     /// A message is complete: it waits for this worker.
     Queued(usize),
     /// Nothing can be done before the socket is reported again.
-    None,
+    Idle,
 }
 
 impl State {

@@ -1,7 +1,8 @@
 //! The command `client`, with each of its options, against a service.
 use chpw_invocation::{
-    ClientOptions, ConnectionLimit, ListenAddresses, PasswordSource, ServeOptions, USUAL_ADDRESS,
-    USUAL_BUFFERS, USUAL_CLIENTS, USUAL_IDLE, USUAL_KDC_WAIT, usual_clients_per_peer,
+    ClientOptions, ConnectionLimit, DEFAULT_ADDRESS, DEFAULT_BUFFERS, DEFAULT_CLIENTS,
+    DEFAULT_IDLE, DEFAULT_KDC_WAIT, ListenAddresses, PasswordSource, ServeOptions,
+    default_clients_per_peer,
 };
 use chpw_program::{Ending, ask};
 use chpw_service::serve;
@@ -221,18 +222,18 @@ fn serving<'a>(port: u16, connections: u32, log: &'a str) -> ServeOptions<'a> {
         journal: JOURNAL_FILE,
         seed: SEED_FILE,
         port,
-        listen: ListenAddresses::of(USUAL_ADDRESS),
+        listen: ListenAddresses::of(DEFAULT_ADDRESS),
         workers: 2,
         connections: ConnectionLimit::Of(connections),
-        idle: USUAL_IDLE,
-        clients: USUAL_CLIENTS,
-        clients_per_peer: usual_clients_per_peer(USUAL_CLIENTS),
-        buffers: USUAL_BUFFERS,
+        idle: DEFAULT_IDLE,
+        clients: DEFAULT_CLIENTS,
+        clients_per_peer: default_clients_per_peer(DEFAULT_CLIENTS),
+        buffers: DEFAULT_BUFFERS,
         raise: None,
         log: Some(log),
         resume: None,
         kdc: None,
-        kdc_wait: USUAL_KDC_WAIT,
+        kdc_wait: DEFAULT_KDC_WAIT,
         require_kdc: false,
         control: None,
         udp: false,

@@ -1,7 +1,7 @@
 //! The command lines and what they ask for, and words that are no UTF-8.
 use crate::command_lines::{ADDRESSES, COMMANDS, REQUESTS, SERVICES};
 use chpw_invocation::{
-    ClientOptions, ConnectionLimit, Invocation, PasswordSource, ServeOptions, USUAL_ADDRESS,
+    ClientOptions, ConnectionLimit, DEFAULT_ADDRESS, Invocation, PasswordSource, ServeOptions,
     command_of,
 };
 use chpw_program::{Ending, explain_misuse, words as words_of};
@@ -131,9 +131,9 @@ fn show_serve(text: &mut String, it: &ServeOptions<'_>) -> Result<(), AllocError
     }
 }
 
-// The addresses, unless that is the usual one alone.
+// The addresses, unless that is the default one alone.
 fn show_addresses(text: &mut String, addresses: &[IpAddr]) -> Result<(), AllocError> {
-    if addresses == [USUAL_ADDRESS].as_slice() {
+    if addresses == [DEFAULT_ADDRESS].as_slice() {
         return Ok(());
     }
     for address in addresses {

@@ -1,7 +1,8 @@
 //! The command `control`: what it sends to a service, and how the answers end.
 use crate::endings::Closed;
 use chpw_commands::DrillFault;
-use chpw_invocation::{ControlCommand, ControlOptions};
+use chpw_control::Command;
+use chpw_invocation::ControlOptions;
 use chpw_program::{Ending, send_command, tell_service};
 use std::fs;
 use std::io::{self, ErrorKind, Read, Write};
@@ -39,7 +40,7 @@ fn answers_end_it(rt: HostRuntime) {
         let mut said = Vec::new(rt.alloc());
         let mut out = Vec::new(rt.alloc());
         let mut answers = answer.as_bytes();
-        let command = ControlCommand::Status;
+        let command = Command::Status;
         let ended = tell_service(rt.alloc(), &command, &mut said, &mut answers, &mut out);
         assert!(rt; ended.status() == wanted.status() && ended.is_told() == wanted.is_told());
         assert!(rt; said.as_slice() == b"status\n".as_slice());
@@ -52,7 +53,7 @@ fn answers_that_are_cut_short(rt: HostRuntime) {
     let mut said = Vec::new(rt.alloc());
     let mut out = Vec::new(rt.alloc());
     let file = "new.journal";
-    let command = ControlCommand::Compact { file };
+    let command = Command::Compact(file);
     let mut answers = Breaking { has_begun: false };
     let ended = tell_service(rt.alloc(), &command, &mut said, &mut answers, &mut out);
     assert!(rt; matches!(ended, Ending::Unanswered));
@@ -69,11 +70,11 @@ fn answers_that_are_cut_short(rt: HostRuntime) {
 fn control_of_a_socket(rt: HostRuntime) {
     let socket = "control-tests.socket";
     let _ = fs::remove_file(&rt, socket);
-    let command = ControlCommand::Reload;
+    let command = Command::Reload;
     let ended = send_command(&rt, ControlOptions { socket, command });
     assert!(rt; matches!(ended, Ending::Unconnected));
     let file = "two\nlines";
-    let broken = ControlCommand::Compact { file };
+    let broken = Command::Compact(file);
     let ended = send_command(
         &rt,
         ControlOptions {

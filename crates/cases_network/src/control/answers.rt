@@ -3,14 +3,13 @@
 use crate::control::words::{bytes, escaped_text};
 use chpw_control::{ended_ok, put_error, put_line, put_ok};
 use std::alloc::Global;
-use std::str;
 use support_cases::Fault;
 
 /// A line and `ok`.
 pub fn line(alloc: Global, word: &str) -> Result<String, Fault> {
     let words = bytes(alloc, word)?;
     let mut text = Vec::new(alloc);
-    put_line(&mut text, str::from_utf8(&words).unwrap_or("(no text)"))?;
+    put_line(&mut text, &words)?;
     put_ok(&mut text)?;
     escaped_text(alloc, &text)
 }
@@ -19,7 +18,7 @@ pub fn line(alloc: Global, word: &str) -> Result<String, Fault> {
 pub fn error(alloc: Global, word: &str) -> Result<String, Fault> {
     let words = bytes(alloc, word)?;
     let mut text = Vec::new(alloc);
-    put_error(&mut text, str::from_utf8(&words).unwrap_or("(no text)"))?;
+    put_error(&mut text, &words)?;
     escaped_text(alloc, &text)
 }
 

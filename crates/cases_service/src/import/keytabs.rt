@@ -4,7 +4,7 @@ ghost use Rattle.std.specs.Prelude.{◌≤◌};
 use crate::import::words::{behind, count, join_lines, said};
 use crate::words::{bytes, no_case};
 use chpw_import::{KeysFault, write_keytab};
-use chpw_invocation::{ImportOptions, LONGEST_REALM, USUAL_COUNT};
+use chpw_invocation::{DEFAULT_COUNT, ImportOptions, LONGEST_REALM};
 use std::alloc::{AllocError, Global};
 use std::io;
 use support_cases::Census;
@@ -49,7 +49,7 @@ pub fn whole(alloc: Global, rest: &str) -> io::Result<String> {
 pub fn cut(alloc: Global, rest: &str) -> io::Result<String> {
     let (realm, word) = rest.split_once(' ').unwrap_or((rest, ""));
     let file = bytes(alloc, word)?;
-    let options = options(realm, USUAL_COUNT)?;
+    let options = options(realm, DEFAULT_COUNT)?;
     let mut census = Census::new(alloc);
     for length in 0..file.len() {
         let answer = brought(alloc, options, &file[..length])?;
@@ -61,7 +61,7 @@ pub fn cut(alloc: Global, rest: &str) -> io::Result<String> {
 /// For a keytab of this many principals: how many have a stanza, and which are skipped.
 pub fn many(alloc: Global, rest: &str) -> io::Result<String> {
     let (realm, word) = rest.split_once(' ').unwrap_or((rest, ""));
-    let options = options(realm, USUAL_COUNT)?;
+    let options = options(realm, DEFAULT_COUNT)?;
     let keytab = keytab_of(alloc, realm, count(word)?)?;
     let (mut written, mut left) = (Vec::new(alloc), Vec::new(alloc));
     if let Err(fault) = write_keytab(alloc, options, &keytab, &mut written, &mut left) {

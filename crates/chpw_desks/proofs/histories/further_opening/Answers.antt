@@ -11,7 +11,7 @@ use Rattle.chpw_desks.proofs.histories.further_opening.Goals as goal
 
 pub returns-in-Some-Reload-clause-goes_on_by : goal.returns-in-Some-Reload-clause-goes_on_by
 returns-in-Some-Reload-clause-goes_on_by g c due_by =
-    let options = c.args.hall.now.options.now in
+    let options = c.args.context.now.options.now in
     let in_force = c.args.rules.now.text.items in
     let closed = c.args.served.table in
     let old = c.args.rules.now in

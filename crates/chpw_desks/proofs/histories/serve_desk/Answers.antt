@@ -9,7 +9,7 @@ use Rattle.chpw_desks.proofs.histories.serve_desk.Goals as goal
 -- a desk gives all its workers back
 pub returns-clause-workers : goal.returns-clause-workers
 returns-clause-workers g c =
-    let has_kdc = is_some c.args.hall.now.kdc.socket in
+    let has_kdc = is_some c.args.context.now.kdc.socket in
     let rules = c.args.rules.now in
     let passes = c.args.opened.passes.items in
     let opening = opening_table g.D.LogName.root in

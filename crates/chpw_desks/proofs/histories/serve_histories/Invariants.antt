@@ -17,7 +17,7 @@ ghosts-serve_history-D-LogName g a = record { book = list_book a.opening.unnamed
 
 abbrev pub invariant-loop : goal.invariant-loop
 invariant-loop g l =
-    IsRun (is_some l.hall.kdc.socket) l.hall.options.now (opening_table g.D.LogName.root) l.fn.first.passes.items l.fn.rules l.fn.workers.items
+    IsRun (is_some l.context.kdc.socket) l.context.options.now (opening_table g.D.LogName.root) l.fn.first.passes.items l.fn.rules l.fn.workers.items
     (between l.served.table l.rules l.staff.items)
-    × IfSome l.served.due (IsDueBy l.hall.options.now l.rules.text.items)
-    × (length l.staff.items ≡ l.hall.workers)
+    × IfSome l.served.due (IsDueBy l.context.options.now l.rules.text.items)
+    × (length l.staff.items ≡ l.context.workers)

@@ -26,6 +26,6 @@ returns-clause-run g c =
     let settings = c.in_ok-config.ensures in
     on_ok_weaker c.serve_opened-ended.result
     (λ served. whole_run c.args.options c.in_ok-config.field-0.config c.in_ok-config.field-0.rules c.new-clock.result c.now-since.new.self
-    c.in_ok-table.field-0.table c.terms_of.result.seed (table_of c.first_opening-opening.result.unnamed) settings.rules
+    c.in_ok-table.field-0.table c.in_ok-config.field-0.seed (table_of c.first_opening-opening.result.unnamed) settings.rules
     c.new-clock.ensures.start c.in_ok-table.ensures.opened c.first_opening-opening.ensures.table served)
     c.serve_opened-ended.ensures.served

@@ -28,17 +28,17 @@ serve_from-requires-clause-passes g c κs within =
 pub returns-in-Ok-raise_and_listen-clause-served : goal.returns-in-Ok-raise_and_listen-clause-served
 returns-in-Ok-raise_and_listen-clause-served g c =
     let start = c.args.start in
-    let hall = c.in-Ok-raise_and_listen.hall in
+    let context = c.in-Ok-raise_and_listen.context in
     let ready = c.in-Ok-raise_and_listen.ensures in
     let passes = c.raise_and_listen.new.passes in
     let rest = drop (length passes) c.in-Ok.field-0.passes.items in
     let long : c.in-Ok.field-0.passes.len ≡ length passes = grind (arith, common_steps) in
     let kept : take c.in-Ok.field-0.passes.len (passes ++ rest) ≡ passes =
     subst (λ (n : ℕ). take n (passes ++ rest) ≡ passes) (sym long) (take-append_seam passes rest) in
-    let came = subst (λ ps. OnOk c.serve_from.result (IsServedByNewWorkers g.row.R.Denot (LogLines g.row.R.Denot) (is_some hall.kdc.socket) hall.options.now
-    (key_of start.terms.seed) hall.workers (opening_table g.D.LogName.root) ps c.args.rules)) kept c.serve_from.ensures.served in
+    let came = subst (λ ps. OnOk c.serve_from.result (IsServedByNewWorkers g.row.R.Denot (LogLines g.row.R.Denot) (is_some context.kdc.socket)
+    context.options.now (key_of start.seed) context.workers (opening_table g.D.LogName.root) ps c.args.rules)) kept c.serve_from.ensures.served in
     on_ok_weaker c.serve_from.result
-    (λ served. served_from start.options.now (key_of start.terms.seed) c.args.rules (is_some hall.kdc.socket) hall.options.now hall.workers
+    (λ served. served_from start.options.now (key_of start.seed) c.args.rules (is_some context.kdc.socket) context.options.now context.workers
     (table_of c.args.opening.unnamed) (opening_table g.D.LogName.root) passes _ c.args.clock.now _ ready.raised.0
     (ap is_some ready.kdc.0) ready.options ready.workers c.in-Ok.ensures.opening
     (c.deref_mut.ensures.value ∙ (c.in-Ok.ensures.passes ∙ ap new_passes c.requires.workers)) ready.raised.1 served)

@@ -1,4 +1,0 @@
-pub mod AnswerLemmas
-pub mod KeptLemmas
-pub mod PresentLemmas
-pub mod WithinLemmas

@@ -1,7 +1,0 @@
-use Rattle.std.proofs.Common.{◌≡◌, ◌-◌, ◌^◌, min, take}
-use Rattle.chpw_datagrams.specs.Answers.{bytes_of}
-use Rattle.chpw_datagrams.specs.Fields.{answers_of}
-use Rattle.chpw_datagrams.proofs.answer_cache.bytes_in.Given as goal
-
-abbrev pub invariant-loop-answer : goal.invariant-loop-answer
-invariant-loop-answer l = l.bytes ≡ min (2 ^ 64 - 1) (bytes_of (answers_of (take l.answer-index l.kept)))

@@ -1,4 +1,0 @@
-pub mod Answers
-pub mod Fields
-pub mod Laws
-pub mod Senders
