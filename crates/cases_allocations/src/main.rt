@@ -1,6 +1,8 @@
+//! Layer: tests. Touches: standard input and output, files and sockets. Called by: nobody, it is run.
+//!
 //! Calls that take memory, one a line on standard input, with what each gives on standard output.
 //!
-//! The program is run with one of its allocations refused (`hostile/allocations`). A call that then answers want of
+//! The program is run with one of its allocations refused (`tests.hostile.allocations`). A call that then answers want of
 //! memory is made again, after a check of what the refusal left; if memory was refused outside the call, everything is
 //! set up again. So a line prints the same whichever allocation was refused, unless a call answers something else, or
 //! leaves something changed: that prints `wrong` and what it was.

@@ -1,3 +1,5 @@
+//! Layer: tests. Touches: standard input and output. Called by: nobody, it is run.
+//!
 //! Answers cases of what meets the network, without a socket, and of the log.
 //!
 //! A line on standard input that is a topic's name in brackets begins the topic, and the lines below it are cases of it;

@@ -1,3 +1,5 @@
+//! Layer: the machine. Touches: memory. Called by: chpw_resume.
+//!
 //! Byte strings one after the other, each after its length.
 #![tactic(auto)]
 

@@ -1,3 +1,5 @@
+//! Layer: shared under the lock. Touches: memory, the journal and the lock. Called by: chpw_workers, chpw_desks and others above.
+//!
 //! The book that several workers share under a lock, and the desk at which each decides with a pass of
 //! its own.
 #![tactic(auto)]

@@ -1,3 +1,5 @@
+//! Layer: commands. Touches: the writers handed in. Called by: chpw_program.
+//!
 //! `check`: what is wrong with the text of a configuration, and what it may not mean.
 #![tactic(auto)]
 

@@ -1,3 +1,5 @@
+//! Layer: answering. Touches: memory. Called by: chpw_program.
+//!
 //! A client of the service (RFC 3244 section 2) that needs no KDC: it makes its own ticket with the
 //! service's key, and reads the reply.
 #![tactic(auto)]

@@ -1,3 +1,5 @@
+//! Layer: commands. Touches: the streams handed in. Called by: chpw_drill, chpw_check and chpw_program.
+//!
 //! `drill`: a script of decisions, taken by the machine, and what it prints.
 #![tactic(auto)]
 

@@ -1,3 +1,5 @@
+//! Layer: the machine. Touches: memory. Called by: chpw_start, chpw_orders, chpw_import, chpw_check and others above.
+//!
 //! The service's configuration, read from its file in TOML.
 #![tactic(auto)]
 

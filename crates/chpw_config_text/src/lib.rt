@@ -1,3 +1,5 @@
+//! Layer: the machine. Touches: memory. Called by: chpw_report and chpw_import.
+//!
 //! Writes a configuration as the text of its TOML file.
 #![tactic(auto)]
 

@@ -1,3 +1,5 @@
+//! Layer: machines without sockets. Touches: memory. Called by: chpw_slots and others above.
+//!
 //! One connection, from its accept to its end: which bytes are its message, what a worker did about it, when its reply is
 //! written, and when its time is up. `chpw_slots` holds many, and `chpw_connections` says when one is ended for want of
 //! room. Moments are milliseconds of a clock that doesn't go back.

@@ -1,3 +1,5 @@
+//! Layer: machines without sockets. Touches: memory. Called by: chpw_transfers, chpw_sockets and others above.
+//!
 //! The state machine of connections: which bytes are a message, who answers it, when its reply is written, and who is
 //! ended for want of room or time. Without sockets, clock or threads: the caller, who has those, reports what happened
 //! and asks what to do. Of messages that come in datagrams (RFC 3244 section 2): which are answered, and which get the reply

@@ -1,3 +1,5 @@
+//! Layer: machines without sockets. Touches: memory. Called by: chpw_transfers and others above.
+//!
 //! The control socket of the service (docs/PROTOCOL.md): which command a line is, and the text of its answer. Without
 //! sockets, clock or threads: chpw_transfers has their sockets, hands in what came and writes what is answered.
 #![tactic(auto)]

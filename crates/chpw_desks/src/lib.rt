@@ -1,3 +1,5 @@
+//! Layer: threads and sockets. Touches: threads, locks and files. Called by: chpw_service.
+//!
 //! `serve_histories`: a service's workers answer messages at one desk after the other, while orders of callers at the control socket
 //! are carried out.
 #![tactic(auto)]

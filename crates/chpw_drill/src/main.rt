@@ -1,3 +1,5 @@
+//! Layer: commands. Touches: standard input and output. Called by: nobody, it is run.
+//!
 //! Runs a script of decisions on standard input, and prints their results on standard output, as
 //! `chpw_server drill` does.
 #![tactic(auto)]

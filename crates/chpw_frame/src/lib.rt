@@ -1,3 +1,5 @@
+//! Layer: standards and codecs. Touches: memory and the streams handed in. Called by: chpw_serve, chpw_messages and others above.
+//!
 //! The framing of RFC 3244 section 2: requests, replies, messages over TCP, and the change that a request asks for.
 #![tactic(auto)]
 

@@ -1,4 +1,4 @@
--- What an agent answers to `list keys` (kdc/agent/README.md): the principals in its lines, or the first fault.
+-- What an agent answers to `list keys` (agent/README.md): the principals in its lines, or the first fault.
 use Rattle.std.specs.Prelude.{◌≡◌, ◌⊎◌, ℕ, Bool, false, not, ◌&&◌, ◌==◌, nat_lt, nat_le, ◌-◌, take, slice_index_or}
 use Rattle.std.specs.Prelude.{List, [], ◌∷◌, ◌++◌, length, map, codes, Option, Some, None, Result, Ok, Err}
 use Rattle.std.specs.Prelude.{if◌then◌else◌}

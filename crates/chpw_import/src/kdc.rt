@@ -1,4 +1,4 @@
-//! The principals that a KDC has, by the agent at its database (kdc/agent/README.md).
+//! The principals that a KDC has, by the agent at its database (agent/README.md).
 mod choosing;
 mod command;
 mod fault;

@@ -1,3 +1,5 @@
+//! Layer: machines without sockets. Touches: memory. Called by: chpw_program and others above.
+//!
 //! The program's command line, over `clap`: its commands, their options and help texts, and what a user asks for.
 #![tactic(auto)]
 

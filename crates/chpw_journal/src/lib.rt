@@ -1,3 +1,5 @@
+//! Layer: the machine. Touches: one file. Called by: chpw_book, chpw_start, chpw_reload, chpw_report, chpw_desks and others above.
+//!
 //! The journal: where its records go, and how a table is restored from them.
 #![tactic(auto)]
 

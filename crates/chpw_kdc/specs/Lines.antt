@@ -1,4 +1,4 @@
--- The lines of the agent's protocol (kdc/agent/README.md): requests as they are written, answers as they are read. A line
+-- The lines of the agent's protocol (agent/README.md): requests as they are written, answers as they are read. A line
 -- is given without its newline.
 use Rattle.std.specs.Prelude.{ℕ, ◌+◌, ◌-◌, ◌*◌, Bool, true, false, not, ◌&&◌, ◌||◌, ◌==◌, nat_lt, nat_le, bytes_eq, if◌then◌else◌}
 use Rattle.std.specs.Prelude.{List, [], ◌∷◌, ◌++◌, length, map, codes, Option, Some, None, Result, Ok, Err}

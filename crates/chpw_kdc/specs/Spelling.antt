@@ -1,4 +1,4 @@
--- Answers as the agent spells them (kdc/agent/README.md): words with single spaces between them.
+-- Answers as the agent spells them (agent/README.md): words with single spaces between them.
 use Rattle.std.specs.Prelude.{◌≡◌, ℕ, ◌<◌, ◌^◌, List, [], ◌∷◌, length, codes, Ok}
 use Rattle.std.specs.Fmt.{decimal}
 use Rattle.std.specs.List.{All, AllByRecursion, join_with_byte}

@@ -1,4 +1,6 @@
-//! What the service says to the agent at the KDC's database, and hears from it (kdc/agent/README.md). Without sockets,
+//! Layer: machines without sockets. Touches: memory. Called by: chpw_transfers, chpw_reactor and others above.
+//!
+//! What the service says to the agent at the KDC's database, and hears from it (agent/README.md). Without sockets,
 //! clock or threads: the caller, who has those, sends the lines that are asked and hands in the bytes that came.
 #![tactic(auto)]
 

@@ -1,3 +1,5 @@
+//! Layer: answering. Touches: memory. Called by: chpw_logging.
+//!
 //! The lines of the service's log: one record for one message, as printable ASCII.
 #![tactic(auto)]
 

@@ -1,3 +1,5 @@
+//! Layer: answering. Touches: memory. Called by: chpw_start and chpw_desks.
+//!
 //! What a message to the service opens to, and the replies to it. `Service` opens messages and makes replies.
 #![tactic(auto)]
 

@@ -1,3 +1,5 @@
+//! Layer: threads and sockets. Touches: files. Called by: chpw_desks and chpw_service.
+//!
 //! What the orders of callers at the control socket read, write and are answered, without a desk: a configuration read anew, and a
 //! compact journal.
 #![tactic(auto)]

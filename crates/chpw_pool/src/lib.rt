@@ -1,3 +1,5 @@
+//! Layer: tests. Touches: threads and sockets. Called by: cases_allocations.
+//!
 //! For programs of cases alone: a pool of workers at one desk. A service has its workers from desk to desk, and so starts them
 //! itself.
 #![tactic(auto)]

@@ -1,3 +1,5 @@
+//! Layer: the machine. Touches: memory. Called by: most crates above.
+//!
 //! How names, bytes, texts and numbers are printed, as printable ASCII: each is added at the end of a text.
 #![tactic(auto)]
 

@@ -1,3 +1,5 @@
+//! Layer: commands. Touches: files, sockets and the standard streams. Called by: chpw_server.
+//!
 //! What the program does for each command line, and how it ends: the service, a request to it, a command for a running
 //! one, the table that is held, imported keys, a check of a configuration, and a script of decisions.
 #![tactic(auto)]

@@ -1,3 +1,5 @@
+//! Layer: threads and sockets. Touches: the poll of all sockets, threads that wait at it. Called by: chpw_desks and chpw_service.
+//!
 //! The reactor: one thread that waits for all sockets, and the engine that it shares with the workers, who take their messages and give
 //! their replies at seats there. The service starts both.
 #![tactic(auto)]

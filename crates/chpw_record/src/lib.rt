@@ -1,3 +1,5 @@
+//! Layer: the machine. Touches: memory. Called by: chpw_table, chpw_journal and others above.
+//!
 //! The journal's records: their kinds and bytes, written and read.
 #![tactic(auto)]
 

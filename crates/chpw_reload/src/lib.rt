@@ -1,3 +1,5 @@
+//! Layer: the machine. Touches: memory. Called by: chpw_orders, chpw_desks and chpw_service.
+//!
 //! A reload: the table that the next desk opens with, made from the closed one, the new configuration and the whole
 //! journal.
 #![tactic(auto)]

@@ -1,3 +1,5 @@
+//! Layer: the machine. Touches: the streams handed in. Called by: chpw_reload, chpw_start and chpw_orders.
+//!
 //! Reports of the principals that a table holds: lines for a person, and lines for a KDC's tools.
 #![tactic(auto)]
 

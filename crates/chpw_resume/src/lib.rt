@@ -1,3 +1,5 @@
+//! Layer: the machine. Touches: memory. Called by: chpw_start and chpw_desks.
+//!
 //! What a service leaves at a clean end for its next start: the text of its resume file, and whether that fits a start.
 #![tactic(auto)]
 

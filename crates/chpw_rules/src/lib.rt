@@ -1,3 +1,5 @@
+//! Layer: the machine. Touches: memory. Called by: most crates above.
+//!
 //! Names, the policy, the rules and the configuration of the service, with their limits.
 #![tactic(auto)]
 

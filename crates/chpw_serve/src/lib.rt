@@ -1,3 +1,5 @@
+//! Layer: answering. Touches: the streams, the clock and the words handed in. Called by: chpw_workers and others above.
+//!
 //! How a message is answered, and the service on one stream: message after message is read, answered and written.
 //! Who opens and makes messages, who decides, who hears of it and who holds a worker are handed in.
 #![tactic(auto)]

@@ -1,3 +1,5 @@
+//! Layer: commands. Touches: all that the program may. Called by: nobody, it is run.
+//!
 //! The service's program. Its commands are `drill`, which runs a script of decisions on standard input; `check`, which
 //! checks a configuration file; `table`, which prints the current principal table; `import` and `key`, which convert
 //! the keys of a keytab and of a password; `serve`, the service on a port of this machine; `control`, a command for a

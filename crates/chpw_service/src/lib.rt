@@ -1,3 +1,5 @@
+//! Layer: threads and sockets. Touches: files, the clock, threads and sockets. Called by: chpw_program.
+//!
 //! `serve`: the service at its addresses, from reading its files to closing its last desk.
 #![tactic(auto)]
 

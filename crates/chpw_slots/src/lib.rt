@@ -1,3 +1,5 @@
+//! Layer: machines without sockets. Touches: memory. Called by: chpw_connections, chpw_transfers and chpw_sockets.
+//!
 //! Connections in slots, with the bytes that they hold together, and the slots whose messages wait, in a queue for each
 //! worker. `chpw_connections` keeps these in agreement.
 #![tactic(auto)]

@@ -1,3 +1,5 @@
+//! Layer: threads and sockets. Touches: files and the clock. Called by: chpw_service, chpw_program and others above.
+//!
 //! What a service starts from: its files, and why they are refused; the rules and the table that they give; a raise of the
 //! iteration count. And `table`, which prints what those files hold.
 #![tactic(auto)]

@@ -1,3 +1,5 @@
+//! Layer: the machine. Touches: memory. Called by: chpw_decider, chpw_book and others above.
+//!
 //! The decision machine of the service: one request, one row of the decision, one step of the
 //! table.
 #![tactic(auto)]

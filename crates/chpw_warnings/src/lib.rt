@@ -1,3 +1,5 @@
+//! Layer: the machine. Touches: memory. Called by: chpw_orders, chpw_desks and chpw_check.
+//!
 //! What a configuration without a fault may not mean: settings that nothing reads, rules whose names are no principal's,
 //! and rules for everybody.
 #![tactic(auto)]

@@ -1,3 +1,5 @@
+//! Layer: threads and sockets. Touches: threads. Called by: chpw_desks, chpw_reactor and others above.
+//!
 //! The workers of a service: each answers the messages of its inbox at a desk, one after the other, in a thread of its own. When all
 //! have ended, the desk's history has in it what each of them answered.
 #![tactic(auto)]

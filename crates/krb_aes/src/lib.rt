@@ -1,3 +1,5 @@
+//! Layer: standards and codecs. Touches: the buffers handed in. Called by: krb_keys and krb_msgs.
+//!
 //! The block cipher AES (FIPS 197) under keys of 16 and 32 bytes, and CBC with ciphertext stealing
 //! over it (RFC 3962 section 5).
 #![tactic(auto)]

@@ -1,3 +1,5 @@
+//! Layer: standards and codecs. Touches: memory. Called by: krb_der and others above.
+//!
 //! Elements of DER (X.690) in Kerberos messages (RFC 4120 sections 5.2 and 5.2.8): how numbers, strings, flags, times,
 //! lists and the fields of a record are read, written and measured, and which bytes spell which value.
 //!

@@ -1,3 +1,5 @@
+//! Layer: standards and codecs. Touches: memory. Called by: chpw_import.
+//!
 //! Keytabs of MIT Kerberos, keytab file format 0x0502: the entries of a file, or its first fault.
 #![tactic(auto)]
 

@@ -1,3 +1,5 @@
+//! Layer: standards and codecs. Touches: memory. Called by: chpw_messages, chpw_client and others above.
+//!
 //! The AP exchange, KRB-PRIV and KRB-ERROR (RFC 4120 sections 3.2, 3.5 and 5.9): opens requests and replies, and makes
 //! messages.
 #![tactic(auto)]

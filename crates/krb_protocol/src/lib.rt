@@ -1,3 +1,5 @@
+//! Layer: standards and codecs. Touches: nothing. Called by: most crates above.
+//!
 //! The numbers of the protocol (RFC 4120 section 7.5), its result codes (RFC 3244 section 2) and error codes, and
 //! `Refusal`, with which a message is refused.
 #![tactic(auto)]

@@ -1,3 +1,5 @@
+//! Layer: tests. Touches: threads, sockets and the clock. Called by: nobody, it is run.
+//!
 //! Does one thing many times, to be measured from outside (the scripts of `bench/`).
 //!
 //! The first word of the command line names a part of the program, the next what it does, the third how often: `keys`,

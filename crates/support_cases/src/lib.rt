@@ -1,3 +1,5 @@
+//! Layer: tests. Touches: standard input and output. Called by: most crates above.
+//!
 //! What the programs of cases share: each case is a line on standard input or a block of lines, and its answer is printed
 //! on standard output.
 #![tactic(auto)]

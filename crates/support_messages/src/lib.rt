@@ -1,3 +1,5 @@
+//! Layer: tests. Touches: memory. Called by: cases_kerberos and tests_krb.
+//!
 //! Parts of messages for tests: realm EXAMPLE.COM, service kadmin/changepw, client alice at 127.0.0.1.
 #![tactic(auto)]
 

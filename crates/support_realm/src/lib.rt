@@ -1,3 +1,5 @@
+//! Layer: tests. Touches: memory. Called by: most crates above.
+//!
 //! A realm, its principals' requests, a service over its table, a journal, a clock and random words, for tests and
 //! measurements.
 #![tactic(auto)]

@@ -1,3 +1,5 @@
+//! Layer: tests. Touches: memory. Called by: cases_network, cases_journal and cases_service.
+//!
 //! Readers and writers for tests: they give or take bytes, and fail, as a case says.
 #![tactic(auto)]
 

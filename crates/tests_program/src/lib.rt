@@ -1,3 +1,5 @@
+//! Layer: tests. Touches: files, sockets and threads. Called by: nobody, the gate runs them.
+//!
 //! Tests of what the program does for its command lines.
 #![tactic(auto)]
 
