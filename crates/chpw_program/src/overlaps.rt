@@ -11,7 +11,7 @@ pub(crate) struct Overlap {
     pub other: IpAddr,
 }
 
-/// The first wildcard among these addresses that takes another one of them, with the first that it takes.
+/// A wildcard among these addresses that takes another one of them, with one that it takes.
 pub(crate) fn overlap_of(addresses: &[IpAddr]) -> Option<Overlap>
     ensures sound { IfSome result (λ o. Contains addresses.now o.wildcard × Contains addresses.now o.other × Takes o.wildcard o.other) }
     ensures none { IfNone result (All (λ a. All (λ b. ¬ (Takes a b)) addresses.now) addresses.now) }
@@ -27,7 +27,7 @@ pub(crate) fn overlap_of(addresses: &[IpAddr]) -> Option<Overlap>
     None
 }
 
-// The first of these addresses that a wildcard takes.
+// One of these addresses that a wildcard takes.
 fn taken_by(wildcard: &IpAddr, addresses: &[IpAddr]) -> Option<IpAddr>
     ensures sound { IfSome result (λ other. Contains addresses.now other × Takes wildcard.now other) }
     ensures none { IfNone result (All (λ other. ¬ (Takes wildcard.now other)) addresses.now) }

@@ -113,41 +113,25 @@ impl<'a> Named<'a> {
                 listen: Some(options.listen),
                 port: options.port,
             },
-            Invocation::Table(options) => Named {
-                config: Some(options.config),
-                seed: None,
-                locked: None,
-                listen: None,
-                port: 0,
-            },
-            Invocation::NewJournal(options) => Named {
-                config: Some(options.config),
-                seed: None,
-                locked: None,
-                listen: None,
-                port: 0,
-            },
             Invocation::Client(options) => Named {
                 config: Some(options.config),
                 seed: Some(options.seed),
-                locked: None,
-                listen: None,
-                port: 0,
+                ..Named::default()
             },
-            Invocation::Check { config } => Named {
-                config: Some(config),
-                seed: None,
-                locked: None,
-                listen: None,
-                port: 0,
-            },
-            _ => Named {
-                config: None,
-                seed: None,
-                locked: None,
-                listen: None,
-                port: 0,
-            },
+            Invocation::Table(options) => Named::by_config(options.config),
+            Invocation::NewJournal(options) => Named::by_config(options.config),
+            Invocation::Check { config } => Named::by_config(config),
+            _ => Named::default(),
+        }
+    }
+
+    // What a command names that reads a configuration, and nothing else that may be at fault.
+    fn by_config(config: &'a str) -> Named<'a>
+        ensures value { result ≡ record { config = Some config; seed = None; locked = None; listen = None; port = 0 } }
+    {
+        Named {
+            config: Some(config),
+            ..Named::default()
         }
     }
 }

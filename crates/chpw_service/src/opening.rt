@@ -1,8 +1,9 @@
 //! What a service opens with: what its files say, and its journal.
-ghost use Rattle.std.specs.Prelude.{◌≡◌, IfErr, IfOk, true};
+ghost use Rattle.std.specs.Prelude.{◌≡◌, IfErr, IfOk, Ok, true};
 ghost use Rattle.chpw_rules.specs.Fitting.{config_fits};
 ghost use Rattle.chpw_service.specs.Faults.{IsOfService};
 ghost use Rattle.chpw_service.specs.WholeRuns.{IsOpenedFrom};
+ghost use Rattle.chpw_start.specs.Faults.{SetsNames};
 ghost use Rattle.chpw_start.specs.Rules.{AreRulesOf};
 
 use chpw_desks::{JournalLength, journal_length};
@@ -39,6 +40,7 @@ pub(crate) fn settings_of<'a, R: Files<File = File> + AllocGlobal>(
 ) -> Result<Settings, ServeFault<'a>>
     ensures fits { IfOk result (λ s. config_fits s.config ≡ true) }
     ensures rules { IfOk result (λ s. AreRulesOf s.config options.now s.rules) }
+    ensures names { IfOk result (λ s. SetsNames s.rules.text.items (Ok s.names)) }
     ensures fault { IfErr result (IsOfService options.now) }
 {
     let Configuration { config, text } = configuration_of(rt, options.config)?;
