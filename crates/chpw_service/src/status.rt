@@ -34,20 +34,20 @@ pub(crate) fn answer_of(alloc: Global, sources: &StatusSources<'_>) -> Vec<u8>
 {
     match failure_words(alloc, sources.readings.failure) {
         Err(_) => Vec::new(alloc),
-        Ok(None) => answer_by(alloc, sources, None),
-        Ok(Some(why)) => answer_by(alloc, sources, Some(why.as_str())),
+        Ok(None) => answer_by(alloc, *sources, None),
+        Ok(Some(why)) => answer_by(alloc, *sources, Some(why.as_str())),
     }
 }
 
 // The same, of a service whose journal failed for this reason, if it did.
-fn answer_by<'a>(alloc: Global, sources: &StatusSources<'a>, failed: Option<&'a str>) -> Vec<u8>
-    requires since { IsTold sources.now.readings.now.since }
-    requires failed { option_map (λ words. words.now) failed ≡ option_map cause_text sources.now.readings.now.failure }
+fn answer_by<'a>(alloc: Global, sources: StatusSources<'a>, failed: Option<&'a str>) -> Vec<u8>
+    requires since { IsTold sources.readings.now.since }
+    requires failed { option_map (λ words. words.now) failed ≡ option_map cause_text sources.readings.now.failure }
     ensures value { (result.items ≡ []) ⊎ ((s : TheStatus)
-        × IsStatusOf sources.now.version.now sources.now.readings.now sources.now.counters.now sources.now.counts.now s
+        × IsStatusOf sources.entry.version.now sources.entry.readings.now sources.entry.counters.now sources.entry.counts.now s
         × (result.items ≡ lines_text (status_lines s ++ ok_line ∷ []))) }
 {
-    let status = status_of(sources, failed);
+    let status = status_of(&sources, failed);
     answer_with(alloc, &status)
 }
 
