@@ -1,15 +1,17 @@
 """What an edit guards: its line `guards: CRATE CALL CLAUSE: WORDS`.
 
-CALL is a function of the crate, of a type as `Type::name`, and CLAUSE the name of one of its clauses; `-` where the clause
-has no name, or where no clause speaks of it.
+CALL is a function of the crate: of a type or a trait as `Type::name`, of a trait at a type as `TypeTrait::name`, of a module
+also as `module::name`. CLAUSE is the name of one of its clauses; `-` where the clause has no name, or where no clause speaks
+of it.
 """
 import functools
 import pathlib
 import re
 from typing import NamedTuple
 
+from trials import together
+
 LINE = re.compile(r"guards: (\w+) (\S+) (\S+): (.+)")
-HEAD = r"^ *(?:pub(?:\(\w+\))? )?(?:const )?(?:unsafe )?fn {}\b"
 CLAUSE = re.compile(r"^ *ensures (\w+) \{", re.MULTILINE)
 # What ends a function's head: its body's brace, or the semicolon of one without a body.
 ENDS = re.compile(r"(?m)^ *\{$|;$|^(?! *ensures| *requires).*\{$")
@@ -30,17 +32,34 @@ def guard_of(edit):
     return Guard(*found.groups()) if found else None
 
 
+def names_of(block, name, module):
+    """How a function may be called: by its name and what it stands in, an impl, a trait, or else its module."""
+    if not block:
+        return {name, f"{module.rpartition('::')[2]}::{name}"}
+    of_trait, of_what, of_type, trait = block.groups()
+    at_type = f"{of_type}{of_trait or ''}{''.join(together.TYPE.findall(of_what or ''))}"
+    return {f"{it}::{name}" for it in (trait, of_trait, of_type, at_type) if it}
+
+
+def heads_in(text, module):
+    """The head of each function of a source, with the names by which that may be called."""
+    lines, found, block, at = text.split("\n"), [], None, 0
+    for number, line in enumerate(lines):
+        block = together.block_at(lines, number) or block
+        head = together.FUNCTION.match(line)
+        if head:
+            end = ENDS.search(text, at)
+            found.append((names_of(block if head[1] else None, head[2], module), text[at : end.end() if end else None]))
+        at += len(line) + 1
+    return found
+
+
 @functools.lru_cache(None)
-def sources_of(folder):
-    """The sources of a crate, one after the other."""
+def heads_of(folder):
+    """The head of each function of a crate, with the names by which that may be called."""
     files = sorted(pathlib.Path(folder).glob("src/**/*.rt"))
-    return "\n".join(it.read_text(encoding="utf-8") for it in files)
-
-
-def heads_of(text, name):
-    """The heads of the functions of this name."""
-    starts = (it.start() for it in re.finditer(HEAD.format(re.escape(name)), text, re.MULTILINE))
-    return [text[at : ENDS.search(text, at).end()] for at in starts]
+    texts = ((it.read_text(encoding="utf-8"), str(it.relative_to(folder))) for it in files)
+    return [head for text, path in texts for head in heads_in(text, together.module_of(path))]
 
 
 def fault_of(edit, top):
@@ -50,7 +69,7 @@ def fault_of(edit, top):
         return "no line `guards: CRATE CALL CLAUSE: WORDS`"
     if guard.crate == "agent" or guard.call == "-":
         return None
-    heads = heads_of(sources_of(f"{top}/crates/{guard.crate}"), guard.call.split("::")[-1])
+    heads = [head for names, head in heads_of(f"{top}/crates/{guard.crate}") if guard.call in names]
     if not heads:
         return f"no {guard.call} in {guard.crate}"
     if guard.clause != "-" and not any(guard.clause in CLAUSE.findall(it) for it in heads):

@@ -1,4 +1,5 @@
-"""The share of trials/ that the gate tries: the edits with the oldest verdicts, within ten minutes of a processor."""
+"""The share of trials/ that the gate tries, within ten minutes of a processor: the edits that were refused over other sources,
+the oldest verdicts first, and then those that were never refused as they are."""
 import concurrent.futures
 import datetime
 import hashlib
@@ -8,6 +9,8 @@ import resource
 BUDGET = 600
 # What a try is taken to cost while nobody knows.
 COST = 30
+# The most seconds of a processor that one task of a share may take, and the least with which one is begun.
+MOST, LEAST = 150, 20
 
 
 def spent():
@@ -16,16 +19,26 @@ def spent():
     return used.ru_utime + used.ru_stime
 
 
-def in_turn(lines, today):
-    """The edits of these verdicts, the oldest first; those of one day in an order that is another one each day."""
-    return sorted(lines, key=lambda it: (lines[it].day, hashlib.sha256(f"{today} {it}".encode()).digest()))
+def in_turn(edits, lines, today):
+    """Edits, of some of which `lines` has verdicts: the oldest first, and those that have none last. Those of one day, and those
+    of none, are in an order that is another one each day."""
+    def turn(edit):
+        return lines[edit].day if edit in lines else "none", hashlib.sha256(f"{today} {edit}".encode()).digest()
+
+    return sorted(edits, key=turn)
 
 
-def chosen(lines, is_known, today=None, budget=BUDGET):
-    """The edits whose turn it is: those with the oldest verdicts over other texts that fit into the budget together."""
+def cost_of(edit, lines):
+    """The seconds of a processor that a try of it took, as far as that is known."""
+    known = lines[edit].seconds if edit in lines else None
+    return COST if known is None else known
+
+
+def chosen(edits, lines, is_known, today=None, budget=BUDGET):
+    """The edits whose turn it is: the first that have no verdict over today's texts and fit into the budget together."""
     found, cost = [], 0
-    for edit in in_turn(lines, today or datetime.date.today()):
-        own = COST if lines[edit].seconds is None else lines[edit].seconds
+    for edit in in_turn(edits, lines, today or datetime.date.today()):
+        own = cost_of(edit, lines)
         if cost + own <= budget and not is_known(edit):
             found.append(edit)
             cost += own
@@ -57,14 +70,21 @@ def oldest_first(tasks, before):
 
 
 def within(tasks, submit, places, budget=BUDGET):
-    """What comes of these tasks as they end: verdicts, each with its seconds. None is begun once the budget is spent."""
-    left, running, cost = list(tasks), set(), 0
-    while running or left and cost < budget:
-        while left and len(running) < places and cost < budget:
-            running.add(submit(left.pop(0)))
-        ended, running = concurrent.futures.wait(running, return_when=concurrent.futures.FIRST_COMPLETED)
+    """What comes of these tasks as they end, verdicts with their seconds, and what is left over: tasks that weren't begun, since
+    too little of the budget was left. A task is begun with what it may take at the most, so that all together keep the budget."""
+    left, running, cost = list(tasks), {}, 0
+    while True:
+        while left and len(running) < places:
+            most = min(MOST, budget - cost - sum(running.values()))
+            if most < LEAST:
+                break
+            running[submit(left.pop(0), most)] = most
+        if not running:
+            break
+        ended, _ = concurrent.futures.wait(running, return_when=concurrent.futures.FIRST_COMPLETED)
         for it in ended:
+            del running[it]
             cost += sum(seconds for _, _, seconds in it.result())
             yield it.result()
-    if left:
-        print(f"{len(left)} checks of this share are left to a further run: its time is over", flush=True)
+    over = [f"{crate}/{edit}" for crate, checks in left for check in checks for edit in check]
+    yield [(None, f"must-fail {it}: NOT JUDGED: the time of the share is over", 0) for it in over]

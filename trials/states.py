@@ -15,25 +15,49 @@ class State(NamedTuple):
         return f"{self.word:8}{self.more:12}{self.edit}"
 
 
-def pairs_of(edit):
-    """The files of an edit, each with a text that has to stand in it once."""
-    file, found = None, []
+class Change(NamedTuple):
+    """A text that has to stand in a file once, and what replaces it."""
+    file: str
+    old: str
+    new: str
+
+
+def changes_of(edit):
+    """The changes of an edit, one after the other, and its lines that say nothing: an `old:` without its `new:`, or none of
+    both."""
+    file, old, found, others = None, None, [], []
     for line in pathlib.Path(edit).read_text(encoding="utf-8").splitlines():
         word, _, text = line.partition(" ")
-        file = text if word == "file:" else file
-        if word == "old:":
-            found.append((file, text))
-    return found
+        if word == "file:":
+            file = text
+        elif word == "old:" and old is None:
+            old = text
+        elif word == "new:" and old is not None:
+            found.append(Change(str(file), old, text))
+            old = None
+        elif word not in ("guards:", "test:"):
+            others.append(line)
+    return found, others if old is None else [*others, f"old: {old}"]
+
+
+def change_fault(changes, folder):
+    """Why these changes of the files of a folder can't be made one after the other; None if they can."""
+    texts = {}
+    for file, old, new in changes:
+        path = pathlib.Path(folder) / file
+        text = texts.get(file, path.read_text(encoding="utf-8") if path.is_file() else "")
+        if text.count(old) != 1:
+            return f"an `old:` text stands {text.count(old)} times in {file}"
+        texts[file] = text.replace(old, new)
+    return None if any(it.old != it.new for it in changes) else "it changes nothing"
 
 
 def fault_of(edit, folder, top):
     """Why an edit of the files of this folder can't be tried, or guards nothing; None if it can, and does."""
-    for file, text in pairs_of(edit):
-        path = pathlib.Path(folder) / str(file)
-        count = path.read_text(encoding="utf-8").count(text) if path.is_file() else 0
-        if count != 1:
-            return f"an `old:` text stands {count} times in {file}"
-    return guards.fault_of(edit, top) if pairs_of(edit) else "it has no `old:` text"
+    changes, others = changes_of(edit)
+    if others:
+        return f"a line that says nothing: {others[0]}"
+    return change_fault(changes, folder) or guards.fault_of(edit, top)
 
 
 def test_fault_of(edit, top):

@@ -7,6 +7,7 @@ import re
 from typing import NamedTuple
 
 FUNCTION = re.compile(r"( *)(?:pub(?:\(\w+\))? )?(?:const )?(?:unsafe )?fn (\w+)")
+BEGINS = re.compile(r"(?:pub(?:\(\w+\))? )?(?:impl|trait)\b")
 # What methods stand in: an impl of a trait, an impl of a type alone, or a trait.
 BLOCK = re.compile(r"(?:pub(?:\(\w+\))? )?(?:impl(?:<.*?>)? (?:(?:\w+::)*(\w+)(<.*>)? for )?(?:\w+::)*(\w+)|trait (\w+))")
 # The types that stand behind a trait's name: the prover writes them there too, but for a parameter.
@@ -30,12 +31,21 @@ class Function(NamedTuple):
     closed: int
 
 
+def block_at(lines, at):
+    """What begins at a line, if it is an impl or a trait, whose head may be of several lines."""
+    if not BEGINS.match(lines[at]):
+        return None
+    end = next((it for it in range(at, len(lines)) if lines[it].endswith("{")), at)
+    return BLOCK.match(" ".join(map(str.strip, lines[at : end + 1])).replace("-> ", ""))
+
+
 def functions_of(text):
     """The functions of a source in rt fmt's layout."""
     lines, found, block = text.split("\n"), [], ""
     for at, line in enumerate(lines):
-        if BLOCK.match(line):
-            of_trait, of_what, of_type, trait = BLOCK.match(line).groups()
+        begins = block_at(lines, at)
+        if begins:
+            of_trait, of_what, of_type, trait = begins.groups()
             block = f"{trait or of_type + (of_trait or '') + ''.join(TYPE.findall(of_what or ''))}::"
         head = FUNCTION.match(line)
         if not head:
