@@ -236,22 +236,9 @@ def run(options, requests, entries, parts_of):
         ended = "" if server.process.poll() is None else server.process.stderr.read() or "with no word"
         server.stop(signal.SIGTERM)
         lines.join(PATIENCE)
-    return Run(
-        times=[1000 * took for took, _ in answers],
-        replies=[reply for _, reply in answers],
-        full=full,
-        histories=histories,
-        at_start=watched.at_start,
-        peak=peak,
-        files=watched.files,
-        stood=stood,
-        before=before,
-        beside=beside,
-        seconds=seconds,
-        ended=ended,
-        status=status.times,
-        cut_off=status.cut_off,
-    )
+    return Run(times=[1000 * took for took, _ in answers], replies=[reply for _, reply in answers], full=full,
+               histories=histories, at_start=watched.at_start, peak=peak, files=watched.files, stood=stood, before=before,
+               beside=beside, seconds=seconds, ended=ended, status=status.times, cut_off=status.cut_off)
 
 
 def accepted(port):

@@ -83,6 +83,30 @@ def refused_start(case, clock, path, *lines):
     case.tell(lines[0], case.last_lines(), (list(lines), 1))
 
 
+def unfit(journal, good):
+    """Texts that don't fit the next start behind this journal, and why; `good` is the one that was left."""
+    ids = [id_of("alice")]
+
+    def other(**fields):
+        parts = dict(realm=REALM, journal=journal, clock=START, quiet_until=START - SECONDS - 1, ids=ids)
+        return resume_text(Resume(**{**parts, **fields}))
+
+    return [
+        ("empty", b"", "it is no resume file of this version"),
+        ("of another version", good.replace(b"resume 1", b"resume 2"), "it is no resume file of this version"),
+        ("torn", good[:-1], "it is damaged"),
+        ("torn within an id", good[:-30], "it is damaged"),
+        ("doubled", good + good, "it is damaged"),
+        ("with a byte changed", good[:40] + bytes([good[40] ^ 1]) + good[41:], "it is damaged"),
+        ("of another realm", other(realm=b"OTHER.ORG"), "it is of another realm"),
+        ("of a shorter journal", other(journal=journal[:-1]), "the journal is not as it was left"),
+        ("of a longer journal", other(journal=journal + b"\0"), "the journal is not as it was left"),
+        ("of another journal as long", other(journal=journal[:-1] + b"?"), "the journal is not as it was left"),
+        ("of the future", other(clock=START + SECONDS + 1), "its time is later than the clock"),
+        ("quiet in the future", other(quiet_until=START + SECONDS + 1), "its time is later than the clock"),
+    ]
+
+
 class Resumes(ServiceCase):
     def test_a_clean_end_and_the_next_start(self):
         """The bytes are those of the format, in a file of its owner's. The next start has no quiet time, and knows the request."""
@@ -165,28 +189,8 @@ class Resumes(ServiceCase):
         """Each file that doesn't fit is removed, and told once, and the start is quiet."""
         clock = SetClock(self.folder)
         first_run(self, clock)
-        journal, good = self.server.journal.read_bytes(), path_of(self).read_bytes()
-        ids = [id_of("alice")]
-
-        def other(**fields):
-            parts = dict(realm=REALM, journal=journal, clock=START, quiet_until=START - SECONDS - 1, ids=ids)
-            return resume_text(Resume(**{**parts, **fields}))
-
-        unfit = [
-            ("empty", b"", "it is no resume file of this version"),
-            ("of another version", good.replace(b"resume 1", b"resume 2"), "it is no resume file of this version"),
-            ("torn", good[:-1], "it is damaged"),
-            ("torn within an id", good[:-30], "it is damaged"),
-            ("doubled", good + good, "it is damaged"),
-            ("with a byte changed", good[:40] + bytes([good[40] ^ 1]) + good[41:], "it is damaged"),
-            ("of another realm", other(realm=b"OTHER.ORG"), "it is of another realm"),
-            ("of a shorter journal", other(journal=journal[:-1]), "the journal is not as it was left"),
-            ("of a longer journal", other(journal=journal + b"\0"), "the journal is not as it was left"),
-            ("of another journal as long", other(journal=journal[:-1] + b"?"), "the journal is not as it was left"),
-            ("of the future", other(clock=START + SECONDS + 1), "its time is later than the clock"),
-            ("quiet in the future", other(quiet_until=START + SECONDS + 1), "its time is later than the clock"),
-        ]
-        for what, text, why in unfit:
+        good = path_of(self).read_bytes()
+        for what, text, why in unfit(self.server.journal.read_bytes(), good):
             path_of(self).write_bytes(text)
             path_of(self).chmod(0o600)
             start(self, clock)

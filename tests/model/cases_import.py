@@ -126,8 +126,8 @@ def principal_keys(versions):
     return used, why
 
 
-def brought(octets, realm, iterations):
-    entries = entries_of(octets)
+def sorted_out(entries, realm):
+    """What counts of the entries: by name and kvno the entry of each etype; and why the others don't."""
     left, slots, newest = {}, {}, collections.defaultdict(set)
     for index, entry in enumerate(entries):
         reason = alone(entry, realm)
@@ -146,16 +146,24 @@ def brought(octets, realm, iterations):
     found = {name: {kvno: {} for kvno in newest[name]} for name in newest}
     for (name, kvno, etype), index in slots.items():
         found[name][kvno][etype] = index
+    return found, left
+
+
+def service_keys(versions, entries, left):
+    """The keys of the service, the newest first, as many as it may have."""
+    held = [(kvno, etype, versions[kvno][etype]) for kvno in sorted(versions, reverse=True) for etype in (18, 17)
+            if etype in versions[kvno]]
+    left.update((index, "there are 16 keys already") for _, _, index in held[MOST_KEYS:])
+    return [(kvno, etype, entries[index].key) for kvno, etype, index in held[:MOST_KEYS]]
+
+
+def brought(octets, realm, iterations):
+    entries = entries_of(octets)
+    found, left = sorted_out(entries, realm)
     lines, service, count = [], [], 0
     for name, versions in sorted(found.items()):
         if name == SERVICE:
-            for kvno in sorted(versions, reverse=True):
-                for etype in (18, 17):
-                    if etype in versions[kvno]:
-                        if len(service) == MOST_KEYS:
-                            left[versions[kvno][etype]] = "there are 16 keys already"
-                        else:
-                            service.append((kvno, etype, entries[versions[kvno][etype]].key))
+            service = service_keys(versions, entries, left)
             continue
         used, why = principal_keys(versions)
         if used and count == MOST_PRINCIPALS:
