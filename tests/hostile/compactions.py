@@ -6,14 +6,10 @@ day stands still where a case sets it (machine.c). Needs gcc.
 """
 
 import collections
-import concurrent.futures
-import itertools
 import os
 import pathlib
 import stat
 import subprocess
-import threading
-import time
 
 from harness.cases import main, named
 from harness.asking import request_now
@@ -22,14 +18,18 @@ from harness.false_agent import Agent, hexed
 from harness.journal import Base, Raise, Realm, read_journal, realm_record
 from harness.kept import keys_of
 from harness.killing import QUIET, killed_amid
+from harness.orders import CHANGES, Orders, changed_amid
 from harness.server import private
-from harness.serving import CHANGED, REPLAYED, START, Client, SetClock, request, ServiceCase
+from harness.serving import CHANGED, REPLAYED, START, SetClock, request, ServiceCase
 
 USED = "code 4 password used before"
 FULL = "code 2 error 60 history full"
 FAILED = "code 2 journal failed"
 CHANGED_FILE = ("error: the configuration has changed: reload it first\n", 1)
 NO_GAIN = "error: nothing to gain\n"
+GOOD = {OK, NO_GAIN}
+# seconds between two orders
+PAUSE = 0.02
 # how many keys the configuration keeps of each principal
 DEPTH = 3
 # how often the service is killed
@@ -134,41 +134,12 @@ def held(case):
     return found
 
 
-def compact_until(case, done, answers):
-    for number in itertools.count():
-        if done.is_set():
-            return
-        answers.append(ask(case, f"compact copy{number}" if number % 3 else "reload"))
-        time.sleep(0.02)
-
-
-def many_changes(case, name, number):
-    client = Client(case.server)
-    answers = []
-    for turn in range(20):
-        answers.append(client.ask(request_now(name, f"Pass-{turn:02}", 1 + 20 * number + turn)))
-    client.close()
-    return answers
-
-
-class Compactor(threading.Thread):
+def compactions(case, number):
     """Has the journal replaced, and in between the configuration read anew, until the service is gone."""
+    def order(turn):
+        return f"compact copy{number}-{turn}" if turn % 4 else "reload"
 
-    def __init__(self, case, number):
-        super().__init__()
-        self.case = case
-        self.number = number
-        self.answers = []
-        self.last = OK
-
-    def run(self):
-        while self.last in (OK, NO_GAIN):
-            turn = len(self.answers)
-            try:
-                self.last = ask(self.case, f"compact copy{self.number}-{turn}" if turn % 4 else "reload")
-            except OSError:
-                self.last = ""
-            self.answers.append(self.last)
+    return Orders(case, order, GOOD.__contains__)
 
 
 def wrong_in_table(changers, before, after):
@@ -427,16 +398,11 @@ class Compactions(ServiceCase):
         names = [f"user{number:02}" for number in range(16)]
         rewrite(self, names, max_entries=7)
         start(self, workers=16)
-        done, answers = threading.Event(), []
-        asker = threading.Thread(target=compact_until, args=(self, done, answers))
-        asker.start()
-        with concurrent.futures.ThreadPoolExecutor(16) as pool:
-            found = list(pool.map(lambda number: many_changes(self, names[number], number), range(16)))
-        done.set()
-        asker.join()
+        orders = Orders(self, lambda turn: f"compact copy{turn}" if turn % 3 else "reload", GOOD.__contains__, PAUSE)
+        found = changed_amid(self, names, orders)
         others = {answer for it in found for answer in it} - {CHANGED, FULL}
-        self.tell("answers", ([len(it) for it in found], others), ([20] * 16, set()))
-        self.tell("compactions", (answers.count(OK) > 2, set(answers) - {OK, NO_GAIN}), (True, set()))
+        self.tell("answers", ([len(it) for it in found], others), ([CHANGES] * 16, set()))
+        self.tell("compactions", (orders.answers.count(OK) > 2, set(orders.answers) - GOOD), (True, set()))
         changed = {name: sum(answer == CHANGED for answer in it) for name, it in zip(names, found)}
         newest = {name: versions[0][0] for name, versions in held(self).items()}
         self.tell("what is held", newest, {name: 1 + number for name, number in changed.items()})
@@ -450,7 +416,7 @@ class Compactions(ServiceCase):
         private(self.server.journal)
         before, answered, made, cut, faults = held(self), 0, 0, 0, []
         for number in range(KILLS):
-            changers, answers, early = killed_amid(self, number, clock, Compactor(self, number))
+            changers, answers, early = killed_amid(self, number, clock, compactions(self, number))
             faults += [f"run {number}: before the kill: {it}" for it in early]
             start(self, CLOCK=clock.file)
             after = held(self)

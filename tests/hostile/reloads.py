@@ -5,7 +5,6 @@ written, while histories fill, behind a journal that has failed, and while the s
 stands still where a case sets it (machine.c). Needs gcc.
 """
 
-import concurrent.futures
 import itertools
 import os
 import re
@@ -21,9 +20,10 @@ from harness.journal import read_journal
 from harness.kept import wrong_in_journal
 from harness.killing import killed_amid
 from harness.log_lines import events
+from harness.orders import CHANGES, Orders, changed_amid
 from harness.sample_realm import SERVICE_KEY
 from harness.server import private
-from harness.serving import ALICES, CHANGED, REPLAYED, START, Client, Hold, SetClock, request, ServiceCase
+from harness.serving import ALICES, CHANGED, REPLAYED, START, Hold, SetClock, request, ServiceCase
 
 # a service key beside the sample's
 LATER_KEY = b"\x6b" * 32
@@ -31,7 +31,8 @@ FULL = "code 2 error 60 history full"
 JOURNAL_FAILED = "code 2 journal failed"
 # how often the service is killed
 KILLS = 20
-
+# seconds between two reloads
+PAUSE = 0.02
 
 # what is told of a record whose principal the configuration lacks
 MISSING = "but no such principal in the configuration, or removed before this record"
@@ -48,21 +49,6 @@ def numbered(name, records):
     """Each version of the principal is one above the one before it."""
     versions = [it.kvno for it in records if it.name == name]
     return versions == list(range(2, 2 + len(versions)))
-
-
-def reload_until(case, done, answers):
-    while not done.is_set():
-        answers.append(ask(case, "reload"))
-        time.sleep(0.02)
-
-
-def many_changes(case, name, number):
-    client = Client(case.server)
-    answers = []
-    for turn in range(20):
-        answers.append(client.ask(request_now(name, f"Pass-{turn:02}", 1 + 20 * number + turn)))
-    client.close()
-    return answers
 
 
 def write_in_pieces(path, text, cut_first):
@@ -90,26 +76,15 @@ def is_whole(answer):
     return not lines and last.startswith("error: ")
 
 
-class Reloader(threading.Thread):
+def reloads(case, texts):
     """Has one or the other of two configurations read until the service is gone."""
+    def order(turn):
+        whole = private(case.folder / "whole.toml")
+        whole.write_text(texts[turn % 2])
+        os.replace(whole, case.server.configuration)
+        return "reload"
 
-    def __init__(self, case, texts):
-        super().__init__()
-        self.case = case
-        self.texts = texts
-        self.answers = []
-        self.last = OK
-
-    def run(self):
-        while self.last.endswith(OK):
-            whole = private(self.case.folder / "whole.toml")
-            whole.write_text(self.texts[len(self.answers) % 2])
-            os.replace(whole, self.case.server.configuration)
-            try:
-                self.last = ask(self.case, "reload")
-            except OSError:
-                self.last = ""
-            self.answers.append(self.last)
+    return Orders(case, order, lambda it: it.endswith(OK))
 
 
 class Reloads(ServiceCase):
@@ -258,17 +233,12 @@ class Reloads(ServiceCase):
         names = [f"user{number}" for number in range(16)]
         rewrite(self, names, max_entries=7)
         start(self, workers=16)
-        done, answers = threading.Event(), []
-        reloader = threading.Thread(target=reload_until, args=(self, done, answers))
-        reloader.start()
-        with concurrent.futures.ThreadPoolExecutor(16) as pool:
-            found = list(pool.map(lambda number: many_changes(self, names[number], number), range(16)))
-        done.set()
-        reloader.join()
-        self.tell("each is answered", [len(it) for it in found], [20] * 16)
+        reloader = Orders(self, lambda _: "reload", lambda it: it == OK, PAUSE)
+        found = changed_amid(self, names, reloader)
+        self.tell("each is answered", [len(it) for it in found], [CHANGES] * 16)
         others = {answer for it in found for answer in it} - {CHANGED, FULL}
         self.tell("no other answers", others, set())
-        self.tell("reloads", (len(answers) > 2, set(answers)), (True, {OK}))
+        self.tell("reloads", (len(reloader.answers) > 2, set(reloader.answers)), (True, {OK}))
         records, torn = read_journal(self.server.journal.read_bytes())
         changed = {name: sum(answer == CHANGED for answer in it) for name, it in zip(names, found)}
         self.tell("the journal", {name: sum(it.name == name for it in records) for name in names}, changed)
@@ -417,7 +387,7 @@ class Reloads(ServiceCase):
         self.server.configuration.write_text(texts[1])
         before, answered, reloads, cut, faults = b"", 0, 0, 0, []
         for number in range(KILLS):
-            changers, answers, early = killed_amid(self, number, clock, Reloader(self, texts))
+            changers, answers, early = killed_amid(self, number, clock, reloads(self, texts))
             faults += [f"run {number}: before the kill: {it}" for it in early]
             self.server.configuration.write_text(texts[1])
             start(self, CLOCK=clock.file)
