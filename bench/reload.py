@@ -20,7 +20,7 @@ from bench.sync import Changer
 from harness import asking
 from harness.command import Parser
 from harness.report import Report
-from harness.sample_realm import SERVICE_KEY
+from harness.sample_realm import write_configuration
 from harness.server import Server
 
 CONNECTIONS = 4_294_967_295
@@ -35,31 +35,6 @@ OPTIONS = [
     ("held", 200, "limit: milliseconds that an answer waits longer among the reloads than in peace"),
     ("status", 50, "limit: milliseconds within which 99 of 100 are answered"),
 ]
-
-
-def configuration(path, names):
-    """Each with keys that nobody knows the password of."""
-    with path.open("w") as file:
-        file.write(f"""\
-[service]
-realm = "EXAMPLE.COM"
-[[service.key]]
-kvno = 3
-etype = 18
-key = "{SERVICE_KEY.hex()}"
-[policy]
-min_length = 6
-min_classes = 2
-depth = {KEYS}
-iterations = 4096
-set_needs_initial = false
-""")
-        for name in names:
-            file.write(f'[[principal]]\nname = "{name}"\n')
-            for kvno in range(KEYS, 0, -1):
-                file.write(f'[[principal.key]]\nkvno = {kvno}\niterations = 4096\n'
-                           f'aes128 = "{kvno:02x}{"11" * 15}"\naes256 = "{kvno:02x}{"22" * 31}"\n')
-    path.chmod(0o600)
 
 
 def ordered(folder, line):
@@ -163,7 +138,7 @@ def main():
         server = Server(words.server, folder, workers=4, options=["--control", "control"])
         names = ["asker", *(f"changer{it}" for it in range(words.changers))]
         names += [f"user{it:05}" for it in range(words.principals - len(names) - words.reloads)]
-        configuration(server.configuration, names)
+        write_configuration(server.configuration, names, versions=KEYS)
         server.launch(CONNECTIONS, cwd=folder)
         server.listens()
         changers = [Changer(server.port, f"changer{it}") for it in range(words.changers)]
@@ -186,7 +161,7 @@ def main():
 def reload(report, server, folder, names, words, spent):
     for number in range(words.reloads):
         names.append(f"later{number:05}")
-        configuration(server.configuration, names)
+        write_configuration(server.configuration, names, versions=KEYS)
         text, took = ordered(folder, "reload")
         spent.append(took)
         report.tell(f"reload {number}", text.strip(), "ok")

@@ -50,11 +50,16 @@ def restore_seconds(program, records, principals):
         return start_seconds(server) - empty
 
 
+def add_sizes(parser, records, principals):
+    """The words of the command line that say how long a journal is, and over how many principals; these by default."""
+    parser.add_argument("records", nargs="?", type=int, default=records, metavar="RECORDS", help=f"by default {records}")
+    parser.add_argument("principals", nargs="*", type=int, default=principals, metavar="PRINCIPALS",
+                        help="by default " + ", ".join(map(str, principals)))
+
+
 def main():
     parser = Parser(__doc__, "restored N records over M principals in S s", "it can't be measured")
-    parser.add_argument("records", nargs="?", type=int, default=RECORDS, metavar="RECORDS", help=f"by default {RECORDS}")
-    parser.add_argument("principals", nargs="*", type=int, default=PRINCIPALS, metavar="PRINCIPALS",
-                        help="by default " + ", ".join(map(str, PRINCIPALS)))
+    add_sizes(parser, RECORDS, PRINCIPALS)
     words = parser.parse_args()
     program = built("chpw_server")
     for principals in words.principals:

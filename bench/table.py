@@ -11,7 +11,7 @@ import tempfile
 import time
 
 from bench.build import built
-from bench.restore import names_of, write_journal
+from bench.restore import add_sizes, names_of, write_journal
 from harness.command import Parser
 from harness.sample_realm import write_configuration
 
@@ -58,9 +58,7 @@ def measure(program, records, principals):
 
 def main():
     parser = Parser(__doc__, "within the limits, or beyond a limit", "a limit is passed")
-    parser.add_argument("records", nargs="?", type=int, default=RECORDS, metavar="RECORDS", help=f"by default {RECORDS}")
-    parser.add_argument("principals", nargs="*", type=int, default=PRINCIPALS, metavar="PRINCIPALS",
-                        help="by default " + ", ".join(map(str, PRINCIPALS)))
+    add_sizes(parser, RECORDS, PRINCIPALS)
     words = parser.parse_args()
     program = built("chpw_server")
     good = [measure(program, words.records, principals) for principals in words.principals]

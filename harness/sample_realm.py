@@ -9,24 +9,34 @@ from harness.command import Parser
 
 SERVICE_KEY = b"\x5a" * 32
 
-PRINCIPAL = """\
-[[principal]]
-name = "{name}"
+KEYS = """\
 [[principal.key]]
-kvno = 1
+kvno = {kvno}
 iterations = {iterations}
 aes128 = "{aes128}"
 aes256 = "{aes256}"
 """
 
 
-def configuration(names, iterations=4096, max_entries=None):
-    """The text; at most `max_entries` decisions, by default as many as the service takes."""
+def principal(name, keys, iterations=4096):
+    """A principal with these keys, of each version its number and those of etypes 17 and 18, the newest first."""
+    text = f'[[principal]]\nname = "{name}"\n'
+    for kvno, aes128, aes256 in keys:
+        text += KEYS.format(kvno=kvno, iterations=iterations, aes128=aes128.hex(), aes256=aes256.hex())
+    return text
+
+
+def any_keys(versions=1):
+    """Keys that nobody knows the password of; those of version 1 are of bytes 11 and of bytes 22 alone."""
+    numbers = range(versions, 0, -1)
+    return [(kvno, bytes([0x10 + kvno]) + b"\x11" * 15, bytes([0x21 + kvno]) + b"\x22" * 31) for kvno in numbers]
+
+
+def configuration(names, iterations=4096, max_entries=None, versions=1):
+    """The text; at most `max_entries` decisions, by default as many as the service takes, and so many versions of each
+    principal's keys."""
     limit = "" if max_entries is None else f"max_entries = {max_entries}\n"
-    principals = "".join(
-        PRINCIPAL.format(name=name, iterations=iterations, aes128="11" * 16, aes256="22" * 32)
-        for name in names
-    )
+    principals = "".join(principal(name, any_keys(versions), iterations) for name in names)
     return f"""\
 [service]
 realm = "EXAMPLE.COM"

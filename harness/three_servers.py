@@ -19,7 +19,7 @@ from harness.configuration import read_keytab
 from harness.heimdal_realm import HeimdalRealm
 from harness.ports import free_ports
 from harness.realm import FETCH, REALM, SERVICE, Failed, Realm, packages_folder
-from harness.sample_realm import PRINCIPAL
+from harness.sample_realm import any_keys, principal
 from harness.server import Server
 
 KVNO, SERVICE_PASSWORD, OLD = 5, "Service-pass1", "Old-pass1"
@@ -55,10 +55,8 @@ class Ours:
             text += f'[[service.key]]\nkvno = {KVNO}\netype = {etype}\nkey = "{key.hex()}"\n'
         text += "[policy]\nmin_length = 6\nmin_classes = 2\ndepth = 3\niterations = 4096\nset_needs_initial = false\n"
         text += f'[[rule]]\nactor = "{ADMIN}"\ntarget = "*"\n'
-        any_keys = b"\x11" * 16, b"\x22" * 32
         for name in [ADMIN, *self.users]:
-            keys = keys_of(name) if name in self.remembered else any_keys
-            text += PRINCIPAL.format(name=name, iterations=4096, aes128=keys[0].hex(), aes256=keys[1].hex())
+            text += principal(name, [(1, *keys_of(name))] if name in self.remembered else any_keys())
         self.server.configuration.touch(mode=0o600)
         self.server.configuration.write_text(text)
         try:

@@ -7,6 +7,7 @@ answer, and no reply goes out whose change it hasn't confirmed. After whatever i
 again; no key changes by that, and no answer. What it may say changes the table: a new name, a newer version, a name that is gone.
 """
 
+import contextlib
 import time
 
 from harness.cases import add, main, named
@@ -33,6 +34,19 @@ def start(case, wait, connections=1, options=()):
     agent = Agent(case)
     case.start(connections, options=["--log", case.log, *agent.options(wait), *options])
     return agent
+
+
+@contextlib.contextmanager
+def asked_for_alice(case, agent):
+    """alice asks for a change, and the agent is asked for it: her client and her request, the agent's link, and a watch that
+    has run since she asked."""
+    alice, _ = both_requests()
+    client = case.client()
+    with agent.in_step() as link:
+        watch = Watch()
+        client.send(alice)
+        link.is_to_put("alice", 2)
+        yield client, alice, link, watch
 
 
 def tell_unconfirmed(case, tally, changes, *told):
@@ -74,13 +88,7 @@ def saying(case, said, is_fault, count, kvno=2):
 
 def keeping(case, said):
     """The agent says this, and no more: the reply comes once it has waited, and not much later."""
-    agent = start(case, SHORT)
-    alice, _ = both_requests()
-    client = case.client()
-    with agent.in_step() as link:
-        watch = Watch()
-        client.send(alice)
-        link.is_to_put("alice", 2)
+    with asked_for_alice(case, start(case, SHORT)) as (client, alice, link, watch):
         link.say(said)
         case.tell("the reply", client.told(alice), CHANGED)
         case.tell("not before 0.3 s", watch.spent() >= SHORT / 1_000, True)
@@ -97,17 +105,24 @@ def required(case, wait, connections):
 
 def required_and_refused(case, said):
     """The agent says this, so the KDC doesn't have the change: its connection ends at once, without a reply."""
-    agent = required(case, LONG, 1)
-    alice, _ = both_requests()
-    client = case.client()
-    with agent.in_step() as link:
-        watch = Watch()
-        client.send(alice)
-        link.is_to_put("alice", 2)
+    with asked_for_alice(case, required(case, LONG, 1)) as (client, alice, link, watch):
         link.say(said)
         case.tell("no reply", client.told(alice), "no reply")
         case.tell_within(SOON, watch)
     case.tell("its end", case.last_lines()[1], 0)
+
+
+def hanging_up(case, agent):
+    """The agent hangs up while a reply waits, and is there again: it is asked for the same, and the reply comes once it has
+    confirmed that."""
+    with asked_for_alice(case, agent) as (client, alice, _, _):
+        pass
+    with agent.called(before=f"put {ALICE} 2 {keys_of('alice', 'New-pass2')}") as link:
+        case.tell("no reply yet", client.is_silent(), True)
+        link.say(f"put {ALICE} 2\n")
+        case.tell("the reply", client.told(alice), CHANGED)
+        link.is_asked("list keys")
+        tell_unconfirmed(case, "entries 1 changes 1", 0, DOWN)
 
 
 # ---- what the KDC has
@@ -193,13 +208,7 @@ class Agents(ServiceCase):
 
     def test_an_agent_that_refuses(self):
         """The agent never writes this name: the reply comes at once, and that is told."""
-        agent = start(self, LONG)
-        alice, _ = both_requests()
-        client = self.client()
-        with agent.in_step() as link:
-            watch = Watch()
-            client.send(alice)
-            link.is_to_put("alice", 2)
+        with asked_for_alice(self, start(self, LONG)) as (client, alice, link, watch):
             link.say(f"refused {ALICE} lockdown\n")
             self.tell("the reply", client.told(alice), CHANGED)
             self.tell_within(SOON, watch)
@@ -232,20 +241,7 @@ class Agents(ServiceCase):
         tell_unconfirmed(self, "entries 1 changes 1", 1, DOWN, TOLD)
 
     def test_an_agent_that_hangs_up_and_comes_back(self):
-        """The agent hangs up while a reply waits, and is there again: it is asked for the same, and the reply comes once it has
-        confirmed that."""
-        agent = start(self, LONG)
-        alice, _ = both_requests()
-        client = self.client()
-        with agent.in_step() as link:
-            client.send(alice)
-            link.is_to_put("alice", 2)
-        with agent.called(before=f"put {ALICE} 2 {keys_of('alice', 'New-pass2')}") as link:
-            self.tell("no reply yet", client.is_silent(), True)
-            link.say(f"put {ALICE} 2\n")
-            self.tell("the reply", client.told(alice), CHANGED)
-            link.is_asked("list keys")
-            tell_unconfirmed(self, "entries 1 changes 1", 0, DOWN)
+        hanging_up(self, start(self, LONG))
 
     def test_an_agent_that_starts_again(self):
         """One writes a change and ends, another one the next change. Between the changes the first one is sent once more and
@@ -307,12 +303,8 @@ class Agents(ServiceCase):
     def test_a_required_agent_that_keeps_silent(self):
         """The agent doesn't answer: the connection ends without a reply once that has waited, and the next request is refused. Once
         the agent has answered, requests are decided; the former one is used up."""
-        agent = required(self, SHORT, 3)
-        alice, bob = both_requests()
-        with agent.in_step() as link:
-            client, watch = self.client(), Watch()
-            client.send(alice)
-            link.is_to_put("alice", 2)
+        _, bob = both_requests()
+        with asked_for_alice(self, required(self, SHORT, 3)) as (client, alice, link, watch):
             self.tell("no reply", client.told(alice), "no reply")
             self.tell("not before it has waited", watch.spent() >= SHORT / 1_000, True)
             self.tell_within(SOON, watch)
@@ -334,19 +326,7 @@ class Agents(ServiceCase):
         required_and_refused(self, f"none {ALICE}\n")
 
     def test_a_required_agent_that_hangs_up_and_comes_back(self):
-        """The agent hangs up while a reply waits, and is there again: the reply comes once the change is confirmed."""
-        agent = required(self, LONG, 1)
-        alice, _ = both_requests()
-        client = self.client()
-        with agent.in_step() as link:
-            client.send(alice)
-            link.is_to_put("alice", 2)
-        with agent.called(before=f"put {ALICE} 2 {keys_of('alice', 'New-pass2')}") as link:
-            self.tell("no reply yet", client.is_silent(), True)
-            link.say(f"put {ALICE} 2\n")
-            self.tell("the reply", client.told(alice), CHANGED)
-            link.is_asked("list keys")
-            tell_unconfirmed(self, "entries 1 changes 1", 0, DOWN)
+        hanging_up(self, required(self, LONG, 1))
 
     @named("a list that doesn't come")
     def test_a_list_that_doesn_t_come(self):
