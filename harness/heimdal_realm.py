@@ -1,47 +1,25 @@
 """A realm EXAMPLE.COM of Heimdal on loopback, in a temporary folder, and its clients."""
 
 import os
-import pathlib
 import re
-import shutil
-import subprocess
-import tempfile
 
-from harness.ports import free_ports, is_open
-from harness.realm import FETCH, REALM, SERVICE, Failed, Project, packages_folder
+from harness.ports import free_ports
+from harness.realm import REALM, SERVICE, AnyRealm, Failed
 
 
-class HeimdalRealm:
+class HeimdalRealm(AnyRealm):
     """`with HeimdalRealm(passwords) as realm` makes it and starts its KDC; both are gone afterwards."""
 
+    PREFIX = "chpw-heimdal-"
+
     def __init__(self, passwords, keep=False):
-        packages = packages_folder()
-        subprocess.run([FETCH, packages], check=True)
-        self.heimdal = Project(packages / "heimdal")
-        self.passwords = passwords
-        self.keep = keep
-        self.processes = []
+        super().__init__(passwords, keep)
         [self.kdc_port] = free_ports(1)
 
-    def __enter__(self):
-        self.folder = pathlib.Path(tempfile.mkdtemp(prefix="chpw-heimdal-"))
-        try:
-            self.write_configuration(0)
-            self.make_database()
-            self.start_kdc()
-        except BaseException:
-            self.__exit__()
-            raise
-        return self
-
-    def __exit__(self, *_):
-        for process in self.processes:
-            process.terminate()
-            process.wait()
-        if self.keep:
-            print(f"kept: {self.folder}")
-        else:
-            shutil.rmtree(self.folder)
+    def make(self):
+        self.write_configuration(0)
+        self.make_database()
+        self.start_kdc()
 
     def write_configuration(self, kpasswd_port, more=""):
         """Of the KDC and of the clients, whose server for changes is at that port.
@@ -86,15 +64,7 @@ class HeimdalRealm:
 
     def run(self, command, lines=(), variant="", **more):
         """Runs a program of Heimdal's without a terminal, the lines as its input."""
-        return subprocess.run(
-            [self.heimdal.program(command[0]), *command[1:]],
-            input="".join(line + "\n" for line in lines),
-            capture_output=True,
-            text=True,
-            env={**self.environment(variant), **more},
-            start_new_session=True,
-            timeout=60,
-        )
+        return self.ended([self.heimdal.program(command[0]), *command[1:]], lines, {**self.environment(variant), **more})
 
     def kadmin(self, *words):
         """What it prints; it says what went wrong, and its status may be 0."""
@@ -113,20 +83,8 @@ class HeimdalRealm:
 
     def start_kdc(self):
         program = self.heimdal.folder / "usr/lib/heimdal-servers/kdc"
-        words = ["--addresses=127.0.0.1", f"--ports={self.kdc_port}"]
-        log = self.folder / "kdc.out"
-        with log.open("w") as out:
-            process = subprocess.Popen(
-                [program, f"--config-file={self.folder}/krb5.conf", *words],
-                stdin=subprocess.DEVNULL,
-                stdout=out,
-                stderr=out,
-                env=self.environment(),
-                start_new_session=True,
-            )
-        self.processes.append(process)
-        if not is_open(self.kdc_port, process):
-            raise Failed(f"kdc doesn't listen: {log.read_text()}")
+        words = [f"--config-file={self.folder}/krb5.conf", "--addresses=127.0.0.1", f"--ports={self.kdc_port}"]
+        self.begin("kdc", [program, *words], self.kdc_port, self.environment())
 
     def keytab(self, names=None):
         """The bytes of a keytab with the keys of the service and of the principals, or of these."""

@@ -13,7 +13,16 @@ from harness.ports import free_ports, is_open
 REALM = "EXAMPLE.COM"
 SERVICE = "kadmin/changepw"
 MASTER = "Master-pass1"
-# of a client's krb5.conf: it takes the KDC's clock for no better one than its own
+# of a client's krb5.conf: DNS has nothing of the realm
+NO_DNS = f"""\
+[libdefaults]
+    default_realm = {REALM}
+    dns_lookup_kdc = false
+    dns_lookup_realm = false
+    dns_canonicalize_hostname = false
+    rdns = false
+"""
+# it takes the KDC's clock for no better one than its own
 AHEAD = """\
     kdc_timesync = 0
     clockskew = 900"""
@@ -71,8 +80,8 @@ class Project:
         return str(program)
 
 
-class Realm:
-    """`with Realm(passwords) as realm` makes it and starts its KDC; both are gone afterwards."""
+class AnyRealm:
+    """A realm in a folder of its own: `make` writes its files and starts its KDC; all is gone at the end."""
 
     def __init__(self, passwords, keep=False):
         packages = packages_folder()
@@ -82,16 +91,12 @@ class Realm:
         self.passwords = passwords
         self.keep = keep
         self.processes = []
-        self.kdc_port, self.kadmind_port, self.kpasswd_port = free_ports(3)
 
     def __enter__(self):
-        self.folder = pathlib.Path(tempfile.mkdtemp(prefix="chpw-realm-"))
+        self.folder = pathlib.Path(tempfile.mkdtemp(prefix=self.PREFIX))
         with contextlib.ExitStack() as undo:
             undo.push(self.__exit__)
-            self.write_kdc_configuration()
-            self.write_client_configuration(self.kpasswd_port)
-            self.make_database()
-            self.start("krb5kdc", ["-n"], self.kdc_port)
+            self.make()
             undo.pop_all()
         return self
 
@@ -103,6 +108,38 @@ class Realm:
             print(f"kept: {self.folder}")
         else:
             shutil.rmtree(self.folder)
+
+    def begin(self, name, command, port, environment):
+        """A process of the realm's, which listens at this port; its output is in NAME.out."""
+        log = self.folder / f"{name}.out"
+        with log.open("w") as out:
+            how = {"stdin": subprocess.DEVNULL, "stdout": out, "stderr": out, "start_new_session": True}
+            process = subprocess.Popen(command, env=environment, **how)
+        self.processes.append(process)
+        if not is_open(port, process):
+            raise Failed(f"{name} doesn't listen: {log.read_text()}")
+
+    @staticmethod
+    def ended(command, lines, environment):
+        """A program that has run without a terminal, the lines as its input."""
+        return subprocess.run(command, input="".join(line + "\n" for line in lines), capture_output=True, text=True,
+                              env=environment, start_new_session=True, timeout=60)
+
+
+class Realm(AnyRealm):
+    """`with Realm(passwords) as realm` makes it and starts its KDC; both are gone afterwards."""
+
+    PREFIX = "chpw-realm-"
+
+    def __init__(self, passwords, keep=False):
+        super().__init__(passwords, keep)
+        self.kdc_port, self.kadmind_port, self.kpasswd_port = free_ports(3)
+
+    def make(self):
+        self.write_kdc_configuration()
+        self.write_client_configuration(self.kpasswd_port)
+        self.make_database()
+        self.start("krb5kdc", ["-n"], self.kdc_port)
 
     # ---- configuration
 
@@ -138,13 +175,7 @@ class Realm:
         """Who changes passwords. The projects write a server over TCP in different ways."""
         for project, server in (("mit", f"127.0.0.1:{port}"), ("heimdal", f"tcp/127.0.0.1:{port}")):
             (self.folder / f"{project}.conf").write_text(f"""\
-[libdefaults]
-    default_realm = {REALM}
-    dns_lookup_kdc = false
-    dns_lookup_realm = false
-    dns_canonicalize_hostname = false
-    rdns = false
-    udp_preference_limit = 0
+{NO_DNS}    udp_preference_limit = 0
     plugin_base_dir = {self.mit.plugins()}
 [realms]
     {REALM} = {{
@@ -184,15 +215,7 @@ class Realm:
 
         `more` is of its environment.
         """
-        return subprocess.run(
-            [project.program(command[0]), *command[1:]],
-            input="".join(line + "\n" for line in lines),
-            capture_output=True,
-            text=True,
-            env={**self.environment(project, variant), **more},
-            start_new_session=True,
-            timeout=60,
-        )
+        return self.ended([project.program(command[0]), *command[1:]], lines, {**self.environment(project, variant), **more})
 
     def kadmin(self, *words):
         self.must(["kadmin.local", *words])
@@ -208,19 +231,7 @@ class Realm:
             self.kadmin("addprinc", "-pw", password, name)
 
     def start(self, name, words, port):
-        log = self.folder / f"{name}.out"
-        with log.open("w") as out:
-            process = subprocess.Popen(
-                [self.mit.program(name), *words],
-                stdin=subprocess.DEVNULL,
-                stdout=out,
-                stderr=out,
-                env=self.environment(self.mit),
-                start_new_session=True,
-            )
-        self.processes.append(process)
-        if not is_open(port, process):
-            raise Failed(f"{name} doesn't listen: {log.read_text()}")
+        self.begin(name, [self.mit.program(name), *words], port, self.environment(self.mit))
 
     def start_kadmind(self):
         """MIT's own password server, on `kpasswd_port`."""

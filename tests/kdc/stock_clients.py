@@ -13,7 +13,7 @@ import dataclasses
 import os
 import subprocess
 
-from harness.realm import REALM, Project, packages_folder
+from harness.realm import NO_DNS, REALM, Project, packages_folder
 from tests.kdc.realms import escaped
 
 
@@ -60,13 +60,7 @@ class Client:
         self.file = folder / f"{type(self).__name__}.conf"
         self.cache = folder / f"{type(self).__name__}.cache"
         self.file.write_text(f"""\
-[libdefaults]
-    default_realm = {REALM}
-    dns_lookup_kdc = false
-    dns_lookup_realm = false
-    dns_canonicalize_hostname = false
-    rdns = false
-{settings}[realms]
+{NO_DNS}{settings}[realms]
     {REALM} = {{
         kdc = {self.KDC_PREFIX}{host}:{kdc_port}
         kpasswd_server = {self.PREFIX}{host}:{port}
