@@ -3,7 +3,7 @@
 import os
 import re
 
-from harness.ports import free_ports
+from harness.ports import free_ports, is_open
 from harness.realm import REALM, SERVICE, AnyRealm, Failed
 
 
@@ -84,7 +84,7 @@ class HeimdalRealm(AnyRealm):
     def start_kdc(self):
         program = self.heimdal.folder / "usr/lib/heimdal-servers/kdc"
         words = [f"--config-file={self.folder}/krb5.conf", "--addresses=127.0.0.1", f"--ports={self.kdc_port}"]
-        self.begin("kdc", [program, *words], self.kdc_port, self.environment())
+        self.begin("kdc", [program, *words], self.environment(), lambda process: is_open(self.kdc_port, process))
 
     def keytab(self, names=None):
         """The bytes of a keytab with the keys of the service and of the principals, or of these."""

@@ -109,14 +109,14 @@ class AnyRealm:
         else:
             shutil.rmtree(self.folder)
 
-    def begin(self, name, command, port, environment):
-        """A process of the realm's, which listens at this port; its output is in NAME.out."""
+    def begin(self, name, command, environment, is_up):
+        """A process of the realm's, whose output is in NAME.out; `is_up` waits until it listens, and says whether it does."""
         log = self.folder / f"{name}.out"
         with log.open("w") as out:
             how = {"stdin": subprocess.DEVNULL, "stdout": out, "stderr": out, "start_new_session": True}
             process = subprocess.Popen(command, env=environment, **how)
         self.processes.append(process)
-        if not is_open(port, process):
+        if not is_up(process):
             raise Failed(f"{name} doesn't listen: {log.read_text()}")
 
     @staticmethod
@@ -231,7 +231,8 @@ class Realm(AnyRealm):
             self.kadmin("addprinc", "-pw", password, name)
 
     def start(self, name, words, port):
-        self.begin(name, [self.mit.program(name), *words], port, self.environment(self.mit))
+        command = [self.mit.program(name), *words]
+        self.begin(name, command, self.environment(self.mit), lambda process: is_open(port, process))
 
     def start_kadmind(self):
         """MIT's own password server, on `kpasswd_port`."""

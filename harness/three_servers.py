@@ -88,16 +88,11 @@ class MitServer(Realm):
         super().__init__({})
         self.users = users
 
-    def __enter__(self):
-        super().__enter__()
-        try:
-            self.fill()
-            self.start_kadmind()
-        except BaseException:
-            self.__exit__()
-            raise
+    def make(self):
+        super().make()
+        self.fill()
+        self.start_kadmind()
         self.udp = self.tcp = self.kpasswd_port
-        return self
 
     def write_kdc_configuration(self):
         """With the usual clock skew."""
@@ -138,15 +133,10 @@ class HeimdalServer(HeimdalRealm):
         [self.udp] = free_ports(1)
         self.tcp = None
 
-    def __enter__(self):
-        super().__enter__()
-        try:
-            self.fill()
-            self.start_kpasswdd()
-        except BaseException:
-            self.__exit__()
-            raise
-        return self
+    def make(self):
+        super().make()
+        self.fill()
+        self.start_kpasswdd()
 
     def start_kdc(self):
         """kpasswdd reads the database itself."""
@@ -171,13 +161,7 @@ class HeimdalServer(HeimdalRealm):
     def start_kpasswdd(self):
         program = self.heimdal.folder / "usr/lib/heimdal-servers/kpasswdd"
         words = [f"--config-file={self.folder}/krb5.conf", "--addresses=127.0.0.1", f"--port={self.udp}", f"--realm={REALM}"]
-        log = self.folder / "kpasswdd.out"
-        with log.open("w") as out:
-            process = subprocess.Popen([program, *words], stdin=subprocess.DEVNULL, stdout=out, stderr=out,
-                                       env=self.environment(), start_new_session=True)
-        self.processes.append(process)
-        if not self.is_up(process):
-            raise Failed(f"kpasswdd ends: {log.read_text()}")
+        self.begin("kpasswdd", [program, *words], self.environment(), self.is_up)
 
     def is_up(self, process):
         """Whether its port is taken within ten seconds; it prints nothing when it is."""

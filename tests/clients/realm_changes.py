@@ -170,6 +170,14 @@ def keys_of_a_word(service, word, kvno):
     return path
 
 
+def former_out(what, service, new, alice, bob):
+    """A ticket of before goes on beside the new keys, and then these are the only ones."""
+    service.report.tell(f"{what}: a ticket of before", alice.end(), "goes on")
+    service.keys = new
+    service.reload(f"{what}, the former out", (3, 1, 2))
+    bob.wait_for(2)
+
+
 def the_service_first(service, bob):
     """Nobody is refused at any moment."""
     realm, report = service.realm, service.report
@@ -184,10 +192,7 @@ def the_service_first(service, bob):
     realm.run(realm.mit, ["kadmin.local"], [f"cpw -pw {word} {SERVICE}"])
     report.tell("the service first: the KDC's version", realm.kvno(SERVICE), former + 1)
     bob.wait_for(2)
-    report.tell("the service first: a ticket of before", alice.end(), "goes on")
-    service.keys = new
-    service.reload("the service first, the former out", (3, 1, 2))
-    bob.wait_for(2)
+    former_out("the service first", service, new, alice, bob)
 
 
 def the_kdc_first(service, bob):
@@ -201,10 +206,7 @@ def the_kdc_first(service, bob):
         service.keys += new
         service.reload("the KDC first", (3, 1, 4))
     bob.wait_for(2)
-    report.tell("the KDC first: a ticket of before", alice.end(), "goes on")
-    service.keys = new
-    service.reload("the KDC first, the former out", (3, 1, 2))
-    bob.wait_for(2)
+    former_out("the KDC first", service, new, alice, bob)
 
 
 def rotated(service, bob):

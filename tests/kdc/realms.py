@@ -91,12 +91,11 @@ class Mit(Realm):
     LIFE = 30
     COUNT_REASON = "the KDC's clients know no iteration count but 4096"
 
-    def __enter__(self):
-        super().__enter__()
+    def make(self):
+        super().make()
         for name, password in STRANGERS.items():
             self.kadmin("addprinc", "-e", ETYPES, "-pw", password, name)
         self.kadmin("addpol", "-maxlife", f"{self.LIFE} days", "usual")
-        return self
 
     def start_kdc(self):
         self.start("krb5kdc", ["-n"], self.kdc_port)
@@ -159,13 +158,12 @@ class Heimdal(HeimdalRealm):
     LIFE = 365
     COUNT_REASON = "the KDC names no iteration count but 4096"
 
-    def __enter__(self):
-        super().__enter__()
+    def make(self):
+        super().make()
         for name, password in STRANGERS.items():
             self.kadmin("add", "--use-defaults", f"--password={password}", name)
         # of five minutes otherwise, which are over where a client's clock is five minutes ahead
         self.kadmin("modify", "--max-ticket-life=1h", SERVICE)
-        return self
 
     def point_clients_at(self, port):
         self.write_configuration(port)
