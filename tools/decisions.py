@@ -7,6 +7,7 @@ A page is a file of docs/decisions: a title, a line `SUBJECT, DATE`, and the par
 import re
 import sys
 
+from tools.made import add_check, make
 from tools.source import TOP
 from harness.command import Parser
 
@@ -52,16 +53,12 @@ def without_link(found):
 
 def main():
     parser = Parser(__doc__, None, "a page hasn't the form or no document links to it, or, with --check, the list differs")
-    parser.add_argument("--check", action="store_true", help="change nothing, and report whether the list differs")
+    add_check(parser, "whether the list differs")
     given = parser.parse_args()
     found = list(pages())
     if lost := without_link(found):
         sys.exit(f"no document links to {', '.join(str(it.relative_to(TOP)) for it in lost)}")
-    text = document(found)
-    if not given.check:
-        FILE.write_text(text)
-    elif not FILE.is_file() or FILE.read_text() != text:
-        sys.exit("docs/decisions/README.md differs from the pages: run python3 -m tools.decisions")
+    make(FILE, document(found), given.check, "docs/decisions/README.md differs from the pages: run python3 -m tools.decisions")
 
 
 if __name__ == "__main__":

@@ -8,6 +8,7 @@ import sys
 from html import escape
 
 from harness.command import Parser
+from tools.made import add_check, make
 from tools.source import TOP, crates
 
 FILE = TOP / "docs" / "layers.svg"
@@ -85,15 +86,11 @@ def document():
 
 def main():
     parser = Parser(__doc__, None, "a crate uses one of a higher layer, or, with --check, the file differs")
-    parser.add_argument("--check", action="store_true", help="change nothing, and report whether the file differs")
+    add_check(parser, "whether the file differs")
     given = parser.parse_args()
     if wrong := upward():
         sys.exit(f"crates.txt: a crate uses one that comes later: {', '.join(wrong)}")
-    text = document()
-    if not given.check:
-        FILE.write_text(text)
-    elif not FILE.is_file() or FILE.read_text() != text:
-        sys.exit("docs/layers.svg differs from crates.txt: run python3 -m tools.picture")
+    make(FILE, document(), given.check, "docs/layers.svg differs from crates.txt: run python3 -m tools.picture")
 
 
 if __name__ == "__main__":

@@ -15,6 +15,7 @@ import sys
 import textwrap
 
 from harness.command import Parser
+from tools.made import add_check, remake
 from tools.source import CRATES, TOP, Sources, clauses_of, contracts, count_of, items, rests_on
 
 QUOTE = re.compile(
@@ -43,20 +44,16 @@ def quoted(sources, kind, crate, words):
 
 def main():
     parser = Parser(__doc__, None, "a quote differs, with --check, or has no source")
-    parser.add_argument("--check", action="store_true", help="change nothing, and report a quote that differs")
+    add_check(parser, "a quote that differs")
     parser.add_argument("file", nargs="*", metavar="FILE", default=[TOP / "README.md", TOP / "docs" / "PROOFS.md"],
                         help="by default README.md and docs/PROOFS.md")
     given = parser.parse_args()
-    sources, wrong = Sources(), 0
-    for file in map(pathlib.Path, given.file):
-        text = file.read_text()
-        anew = QUOTE.sub(lambda it: it[1] + quoted(sources, it[2], it[3], it[4].split()) + "\n" + it[7], text)
-        if anew != text:
-            wrong += 1
-            print(f"{file}: a quote differs from the sources" if given.check else f"{file}: written anew")
-            if not given.check:
-                file.write_text(anew)
-    sys.exit(1 if given.check and wrong else 0)
+    sources = Sources()
+
+    def changed(text):
+        return QUOTE.sub(lambda it: it[1] + quoted(sources, it[2], it[3], it[4].split()) + "\n" + it[7], text)
+
+    sys.exit(remake(map(pathlib.Path, given.file), changed, given.check, "a quote differs from the sources"))
 
 
 if __name__ == "__main__":

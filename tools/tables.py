@@ -20,6 +20,7 @@ import sys
 
 from harness.command import TOP, Parser
 from tests.hostile import SCRIPTS
+from tools.made import add_check, remake
 
 DATA = TOP / "docs/results"
 DOCUMENTS = (TOP / "docs/RESULTS.md", TOP / "docs/TESTS.md")
@@ -111,18 +112,13 @@ def made(words):
 
 def main():
     parser = Parser(__doc__, None, "a table differs, with --check")
-    parser.add_argument("--check", action="store_true", help="change nothing, and report a table that differs")
+    add_check(parser, "a table that differs")
     given = parser.parse_args()
-    wrong = 0
-    for file in DOCUMENTS:
-        text = file.read_text()
-        anew = PART.sub(lambda it: f"{it[1]}\n{made(it[2])}\n\n{it[4]}", text)
-        if anew != text:
-            wrong += 1
-            print(f"{file.relative_to(TOP)}: {'a table differs from its data' if given.check else 'written anew'}")
-            if not given.check:
-                file.write_text(anew)
-    sys.exit(1 if given.check and wrong else 0)
+
+    def changed(text):
+        return PART.sub(lambda it: f"{it[1]}\n{made(it[2])}\n\n{it[4]}", text)
+
+    sys.exit(remake(DOCUMENTS, changed, given.check, "a table differs from its data"))
 
 
 if __name__ == "__main__":
