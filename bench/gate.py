@@ -1,7 +1,8 @@
 """Processor seconds that the gate's parts take of each crate, from nothing and one after the other.
 
 They are its proof, its tests, and its edits of must-fail/. By default all crates are measured, in the order of crates.txt. The
-libraries below them are built first. It works on a copy, and takes hours for all.
+libraries below them are built first. It works on a copy, and takes hours for all. With --note those of the proofs and tests
+are written into docs/results/crates.csv, by which `./prove` and the gate tell how long is left.
 """
 
 import pathlib
@@ -11,6 +12,7 @@ import subprocess
 import sys
 import tempfile
 
+from harness import durations
 from harness.command import TOP, Parser
 from tools.source import crates
 
@@ -70,18 +72,29 @@ def row(name, numbers):
     print(f"| {name} | {' | '.join(map(str, numbers))} |", flush=True)
 
 
+def note(found):
+    """Writes these crates' seconds into the table, the most first; what it has of others stays, unless they are gone."""
+    known = {it: seconds for it, seconds in durations.table(durations.CRATES).items() if it in crates()} | found
+    durations.write_table(durations.CRATES, "crate", dict(sorted(known.items(), key=lambda it: -it[1])))
+
+
 def main():
     uses = crates()
     parser = Parser(__doc__, "| all | PROOFS | TESTS | EDITS |, after such a row for each crate")
     parser.add_argument("crates", nargs="*", metavar="CRATE", default=list(uses), help="by default all")
-    names, total, failed = parser.parse_args().crates, [0, 0, 0], False
+    parser.add_argument("--note", action="store_true", help="write the seconds of proofs and tests into docs/results/crates.csv")
+    given = parser.parse_args()
+    names, total, failed, kept = given.crates, [0, 0, 0], False, {}
     with tempfile.TemporaryDirectory(prefix="gate-") as folder:
         copied(pathlib.Path(folder))
         for name in names:
             found = list(measured(pathlib.Path(folder), name, uses[name]))
             row(name, [seconds for seconds, _ in found])
+            kept[name] = found[0][0] + found[1][0]
             total = [one + seconds for one, (seconds, _) in zip(total, found)]
             failed = failed or any(is_wrong for _, is_wrong in found)
+    if given.note:
+        note(kept)
     row("all", total)
     return 1 if failed else 0
 

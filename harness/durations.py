@@ -25,6 +25,12 @@ def table(file):
         return {row[0]: float(row[1]) for row in list(csv.reader(opened))[1:]}
 
 
+def write_table(file, head, seconds):
+    """Writes such a file, of whole seconds, by this word for what each is of."""
+    with open(file, "w", newline="", encoding="utf-8") as opened:
+        csv.writer(opened, lineterminator="\n").writerows([(head, "seconds"), *((it, round(own)) for it, own in seconds.items())])
+
+
 def sources(crate):
     """What is known of each file that a crate's proof reads."""
     trees = [os.walk(TOP / "crates" / crate / it) for it in ("src", "specs", "proofs")]

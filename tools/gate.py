@@ -10,7 +10,6 @@ Before each step a line says about how long it takes, and all that is left, by .
 proof. After a step comes how long it took.
 """
 
-import csv
 import os
 import pathlib
 import re
@@ -92,7 +91,7 @@ def made(steps, expected):
         hear = Proofs(own, behind) if name == "rt ci" else None
         began = time.time()
         status = run(words, hear)
-        took[name] = round(time.time() - began)
+        took[name] = time.time() - began
         if status:
             sys.exit(status)
         say(f"{name} passed, {took[name] / 60:.1f} minutes")
@@ -111,8 +110,7 @@ def main():
         log.write_text(last)
         subprocess.run([*RECORD, "write", sources, log], cwd=TOP, check=True)
     if given.note:
-        with open(DURATIONS, "w", newline="") as file:
-            csv.writer(file, lineterminator="\n").writerows([("step", "seconds"), *took.items()])
+        durations.write_table(DURATIONS, "step", took)
     print(last, end="")
 
 
