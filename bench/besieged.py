@@ -29,7 +29,7 @@ NAMES = 5_000
 HOSTILE = "hostile"
 CHANGED = "code 0 password changed"
 FULL = b"history full"
-# unanswered requests behind which a run ends
+# unanswered requests after which a run ends
 MOST_UNANSWERED = 5
 # requests between two looks at the open files
 A_LOOK = 20

@@ -22,7 +22,7 @@ NAME = "alice"
 
 
 def processor_seconds(process):
-    """User's and system's time so far; in /proc/PID/stat, behind the name, fields 14 and 15."""
+    """User's and system's time so far; in /proc/PID/stat, after the name, fields 14 and 15."""
     stat = pathlib.Path(f"/proc/{process.pid}/stat").read_text()
     user, system = stat.rsplit(")", 1)[1].split()[11:13]
     return (int(user) + int(system)) / os.sysconf("SC_CLK_TCK")

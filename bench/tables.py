@@ -18,7 +18,7 @@ def found(pattern, text):
 
 
 def parts(head, lines):
-    """The groups of each line that is a head, with the lines behind it as one text."""
+    """The groups of each line that is a head, with the lines after it as one text."""
     places = [number for number, line in enumerate(lines) if re.fullmatch(head, line)]
     for place, end in zip(places, [*places[1:], len(lines)]):
         yield re.fullmatch(head, lines[place]).groups(), "\n".join(lines[place + 1 : end])

@@ -157,7 +157,7 @@ def told(data, error):
 
 
 def framed(*requests):
-    """Their messages behind their lengths, as they go over TCP."""
+    """Their messages after their lengths, as they go over TCP."""
     return b"".join(len(it.message).to_bytes(4, "big") + it.message for it in requests)
 
 

@@ -1,6 +1,6 @@
 """Reads a journal (docs/PROTOCOL.md), and writes records of one.
 
-Prints kvno, iteration count and name of each change, the same behind `base`, `adopt`, `lift` or `remove` of each other
+Prints kvno, iteration count and name of each change, the same after `base`, `adopt`, `lift` or `remove` of each other
 record that has them, the count of each raise, and the realm of a journal that begins with its record; no keys.
 """
 

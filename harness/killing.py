@@ -7,7 +7,7 @@ import time
 from harness.controlling import start
 from harness.serving import CHANGED, START, Client, request
 
-# how long behind the first answer a service is killed, at the most
+# how long after the first answer a service is killed, at the most
 LONGEST_RUN = 0.5
 # seconds of the service's quiet time
 QUIET = 300

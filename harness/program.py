@@ -107,7 +107,7 @@ def shown(answer, plain=PRINTED + b"\n"):
     return "".join(chr(byte) if byte in plain else f"\\x{byte:02x}" for byte in answer.encode())
 
 
-def behind_length(message):
+def with_length(message):
     return len(message).to_bytes(4, "big") + message
 
 

@@ -21,7 +21,7 @@ class Exchange:
 
 
 def message(reader):
-    """The next message behind its length; no bytes where the other end has ended."""
+    """The next message after its length; no bytes where the other end has ended."""
     return reader.read(int.from_bytes(reader.read(4), "big"))
 
 

@@ -80,7 +80,7 @@ class Server:
         raise RuntimeError(f"serve says: {lines} {self.process.stderr.read()}")
 
     def next_line(self):
-        """The next line that it prints, and nothing behind it: `last_words` doesn't see what was read ahead."""
+        """The next line that it prints, and nothing after it: `last_words` doesn't see what was read ahead."""
         line = b""
         while not line.endswith(b"\n") and (byte := os.read(self.process.stdout.fileno(), 1)):
             line += byte

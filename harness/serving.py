@@ -43,7 +43,7 @@ def parts_of(reply):
     return reply[6 : 6 + size], reply[6 + size :]
 
 
-def behind_length(message):
+def with_length(message):
     """As it goes over TCP."""
     return len(message).to_bytes(4, "big") + message
 
@@ -58,7 +58,7 @@ class Client(asking.Connection):
         self.socket.sendall(b"".join(texts))
 
     def send_messages(self, *messages):
-        self.send_bytes(*map(behind_length, messages))
+        self.send_bytes(*map(with_length, messages))
 
     def told(self, sent):
         """What the next reply says to a request."""

@@ -63,7 +63,7 @@ class Copy:
 
 
 def row_with(cell, planted):
-    """A row of a table, and behind it the same with another cell."""
+    """A row of a table, and after it the same with another cell."""
 
     def changed(match):
         cells = match[0].split("|")

@@ -62,12 +62,12 @@ def run(words, hear=None):
 class Proofs:
     """Hears what `rt ci` prints, and says after each proof what is left; `last` is its last line."""
 
-    def __init__(self, seconds, behind):
+    def __init__(self, seconds, later):
         took = durations.of_proofs(crates())
         processors = len(os.sched_getaffinity(0))
         share = seconds * processors / sum(took.values())
         self.left = durations.Left({it: share * own for it, own in took.items()}, processors)
-        self.behind = behind
+        self.later = later
         self.done = set()
         self.last = ""
 
@@ -78,17 +78,17 @@ class Proofs:
             self.done.add(found[1])
             rest = self.left.left(self.done)
             say(f"{len(self.done)} of {len(self.left.seconds)} crates: {found[1]}; {durations.spoken(rest)} left of this step, "
-                f"{durations.spoken(rest + self.behind)} of all")
+                f"{durations.spoken(rest + self.later)} of all")
 
 
 def made(steps, expected):
     """Makes the steps one after the other; the last line of `rt ci`, and how long each took. The first that fails ends all."""
     took, last = {}, ""
     for number, (name, words) in enumerate(steps.items(), 1):
-        behind = sum(expected.get(it, 0) for it in list(steps)[number:])
+        later = sum(expected.get(it, 0) for it in list(steps)[number:])
         own = expected.get(name, 0)
-        say(f"step {number} of {len(steps)}: {name}, {durations.spoken(own)}; {durations.spoken(own + behind)} left")
-        hear = Proofs(own, behind) if name == "rt ci" else None
+        say(f"step {number} of {len(steps)}: {name}, {durations.spoken(own)}; {durations.spoken(own + later)} left")
+        hear = Proofs(own, later) if name == "rt ci" else None
         began = time.time()
         status = run(words, hear)
         took[name] = time.time() - began

@@ -10,7 +10,7 @@ FUNCTION = re.compile(r"( *)(?:pub(?:\(\w+\))? )?(?:const )?(?:unsafe )?fn (\w+)
 BEGINS = re.compile(r"(?:pub(?:\(\w+\))? )?(?:impl|trait)\b")
 # What methods stand in: an impl of a trait, an impl of a type alone, or a trait.
 BLOCK = re.compile(r"(?:pub(?:\(\w+\))? )?(?:impl(?:<.*?>)? (?:(?:\w+::)*(\w+)(<.*>)? for )?(?:\w+::)*(\w+)|trait (\w+))")
-# The types that stand behind a trait's name: the prover writes them there too, but for a parameter.
+# The types that stand after a trait's name: the prover writes them there too, but for a parameter.
 TYPE = re.compile(r"\b[A-Z]\w+")
 # What is said of a function whose own proof fails.
 FAILED = re.compile(r"not proved|no proof: expected answers in ")
@@ -24,7 +24,7 @@ NAMES = re.compile(r"has no field|is not in scope|has no `|was not admitted")
 
 class Function(NamedTuple):
     """A function of a source: its name as the prover writes it, with its type; the line at which it begins, the first
-    one of its body and the one behind that."""
+    one of its body and the one after that."""
     name: str
     head: int
     opened: int

@@ -196,7 +196,7 @@ def the_service_first(service, bob):
 
 
 def the_kdc_first(service, bob):
-    """Nobody is refused whose ticket is of before, or of behind the reload."""
+    """Nobody is refused whose ticket is of before, or of after the reload."""
     realm, report = service.realm, service.report
     alice, former = OneTicket(realm, 2), realm.kvno(SERVICE)
     bob.wait_for(1)

@@ -192,7 +192,7 @@ class Addresses(ServiceCase):
         begin(self, 201, *BOTH)
         crowd = [Client(self.server) for _ in range(200)]
         alice, _ = both_requests()
-        self.tell("behind 200 at the other", self.client(host="::1").ask(alice), CHANGED)
+        self.tell("after 200 at the other", self.client(host="::1").ask(alice), CHANGED)
         for client in crowd:
             client.close()
         self.tell_end("entries 1 changes 1")

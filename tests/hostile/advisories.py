@@ -1,7 +1,7 @@
 """What advisories about other servers describe, sent to this one: it answers as docs/PROTOCOL says, and goes on.
 
 CVE-2020-28196: values within values, thousands deep, with lengths of either form. CVE-2009-0846: times that are none.
-CVE-2022-44640, CVE-2011-0285: messages that can't be read behind fields that could, and requests that fail at each check.
+CVE-2022-44640, CVE-2011-0285: messages that can't be read after fields that could, and requests that fail at each check.
 CVE-2022-32744: tickets under other keys that the service knows. CVE-2002-2443: its own errors, and answers to itself.
 The requests are those of harness/crafting.py; each case ends with a change that is made.
 """
@@ -43,7 +43,7 @@ def ask(case, what, wanted, **changes):
 
 
 def go_on(case):
-    ask(case, "a change behind it", DONE)
+    ask(case, "a change after it", DONE)
 
 
 def begin(case, **words):
@@ -82,11 +82,11 @@ def deep(case, form):
     ask(case, "in it", BAD_BODY, priv_cut=lambda _: wire.application(21, long))
     ask(case, "in its sealed part", BAD_BODY, priv_inner=wire.application(28, sealed))
     ask(case, "as the ChangePasswdData", BAD_BODY, data=sealed)
-    ask(case, "in a field behind its own, which is skipped", DONE, more=wire.field(3, sealed))
+    ask(case, "in a field after its own, which is skipped", DONE, more=wire.field(3, sealed))
     go_on(case)
 
 
-# ---- messages that can't be read behind a field that could
+# ---- messages that can't be read after a field that could
 
 
 @dataclasses.dataclass
@@ -203,7 +203,7 @@ class Advisories(ServiceCase):
             ("no AP-REQ", MALFORMED, {"ap_length": lambda *_: 0}),
             ("an AP-REQ that reaches past the end", MALFORMED, {"ap_length": lambda ap, private: len(ap) + len(private) + 1}),
             ("an AP-REQ that isn't whole", MALFORMED, {"ap_length": lambda ap, _: len(ap) - 1}),
-            ("nothing behind it", BAD_BODY, {"priv_cut": lambda _: b""}),
+            ("nothing after it", BAD_BODY, {"priv_cut": lambda _: b""}),
             ("a KRB-PRIV under another key", "code 3", {"priv_key": b"\x45" * 32}),
             ("a KRB-PRIV that isn't sealed", "code 3", {"priv_open": True}),
         ):

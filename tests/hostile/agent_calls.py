@@ -68,13 +68,13 @@ def is_given_up(link):
 
 
 class AgentCalls(ServiceCase):
-    def test_an_agent_that_misspeaks_behind_each_list(self):
+    def test_an_agent_that_misspeaks_after_each_list(self):
         seldom(self, misspeaking, True, True)
 
     def test_an_agent_that_hangs_up_before_each_list(self):
         seldom(self, hanging_up, False, False)
 
-    def test_an_agent_that_hangs_up_behind_each_list(self):
+    def test_an_agent_that_hangs_up_after_each_list(self):
         """The agent answers each list, and hangs up."""
         agent, client, watch = start(self), self.client(), Watch()
         for _ in range(OFTEN):

@@ -72,7 +72,7 @@ def left(case, before):
 
 def made(case):
     """The journal has one record of each key that is held and that the configuration doesn't have, and what is held
-    stays, also behind a restart. The copy is the configuration that is held."""
+    stays, also after a restart. The copy is the configuration that is held."""
     clock = SetClock(case.folder)
     start(case, CLOCK=clock.file)
     client = case.client()
@@ -92,12 +92,12 @@ def made(case):
     case.tell("a former request", client.ask(request("alice", START, "Pass-0", 0)), REPLAYED)
     case.tell("a held password", client.ask(request("alice", START, "Pass-2", 11)), USED)
     case.tell("one more change", client.ask(request("bob", START, "Pass-9", 12)), CHANGED)
-    case.tell("it goes on behind", records_of(case)[-1], ("change", "bob", 2))
+    case.tell("it goes on after", records_of(case)[-1], ("change", "bob", 2))
     held = table(case, "--as", "keys")
     tell_end(case, "entries 5 changes 5", "entries 3 changes 1")
     clock.set(START + QUIET + 1)
     start(case, CLOCK=clock.file)
-    case.tell("behind a restart", table(case, "--as", "keys"), held)
+    case.tell("after a restart", table(case, "--as", "keys"), held)
     clock.set(START + 2 * QUIET + 2)
     client = case.client()
     case.tell("a held password", client.ask(request("alice", START + 2 * QUIET + 2, "Pass-2", 1)), USED)
@@ -143,7 +143,7 @@ def compactions(case, number):
 
 
 def wrong_in_table(changers, before, after):
-    """What is wrong with what is held behind a run, a line each."""
+    """What is wrong with what is held after a run, a line each."""
     for it in changers:
         (newest, _), *_ = before[it.name]
         count = after[it.name][0][0] - newest
@@ -187,7 +187,7 @@ class Compactions(ServiceCase):
         answer = f"error: cannot read {self.server.configuration}\n"
         self.tell("no configuration", told(self, "compact", "copy"), (answer, 1))
         self.tell("it goes on", client.ask(request_now("alice", "Pass-9", 9)), CHANGED)
-        self.tell("behind the former records", records_of(self), [("change", "alice", 2 + turn) for turn in range(DEPTH + 2)])
+        self.tell("after the former records", records_of(self), [("change", "alice", 2 + turn) for turn in range(DEPTH + 2)])
         tell_stop(self)
 
     def test_a_changed_configuration(self):
@@ -260,7 +260,7 @@ class Compactions(ServiceCase):
         tell_stop(self)
 
     def test_a_named_journal(self):
-        """A journal that begins with the record of its realm keeps it, and its history goes on behind."""
+        """A journal that begins with the record of its realm keeps it, and its history goes on after."""
         record, clock, late = realm_record("EXAMPLE.COM"), SetClock(self.folder), START + QUIET + 1
         private(self.server.journal).write_bytes(record)
         start(self, CLOCK=clock.file)
@@ -281,7 +281,7 @@ class Compactions(ServiceCase):
     @named("a folder that can't be synced")
     def test_a_folder_that_can_t_be_synced(self):
         """A folder that can't be synced: for the copy and for the compact journal beside the present one all stays as it was;
-        behind the rename no further change is taken, and the next start finds what was held."""
+        after the rename no further change is taken, and the next start finds what was held."""
         # the first sync is that of the journal's own name
         for number, name, is_left, then in (
             (2, "copy", False, CHANGED), (3, self.server.journal, False, CHANGED), (4, self.server.journal, True, FAILED),
@@ -296,10 +296,10 @@ class Compactions(ServiceCase):
             self.tell("  one more", client.ask(request_now("alice", "Pass-1", 9 + 10 * number)), then)
             self.tell("  how it stands", status(self)["journal"], "good" if then == CHANGED else "failed: its name may be lost")
             if then == FAILED:
-                self.tell("  compact behind that", told(self, "compact", "other"), ("error: journal failed\n", 1))
+                self.tell("  compact after that", told(self, "compact", "other"), ("error: journal failed\n", 1))
                 self.tell("  its copy", (self.folder / "other").exists(), False)
             tell_stop(self)
-        self.tell("behind a restart", table(self, "--as", "keys"), held)
+        self.tell("after a restart", table(self, "--as", "keys"), held)
 
     def test_folders_that_are_synced(self):
         """What is synced is the folder of the file that is new there: the journal's, the copy's, and the journal's again for
@@ -323,7 +323,7 @@ class Compactions(ServiceCase):
     def test_no_rename_or_sync(self):
         """Where the copy can't be synced, or the compact journal not be synced or renamed, the caller is told so, the journal
         stays as it was, nothing is left, and changes go on. A later compact journal is made."""
-        # the syncs before are those of the changes, and behind them that of the copy
+        # the syncs before are those of the changes, and after them that of the copy
         made = DEPTH + 1
         for number, (fault, name) in enumerate((
             (f"sync {made + 1} 5", "copy"), (f"sync {made + 2} 28", self.server.journal), ("rename 1 5", self.server.journal),
@@ -336,7 +336,7 @@ class Compactions(ServiceCase):
             self.tell(fault, told(self, "compact", "copy"), (f"error: cannot write {name}\n", 1))
             self.tell("  what is left", (*left(self, before), beside(self)), (True, False, False))
             self.tell("  one more", client.ask(request_now("alice", "Pass-1", 9 + 10 * number)), CHANGED)
-            self.tell("  compact behind that", told(self, "compact", "copy"), (OK, 0))
+            self.tell("  compact after that", told(self, "compact", "copy"), (OK, 0))
             (self.folder / "copy").unlink()
             tell_stop(self)
 
@@ -360,7 +360,7 @@ class Compactions(ServiceCase):
             self.tell("the reply", client.told(sent[-1]), CHANGED)
             tell_stop(self)
 
-    def test_behind_replies(self):
+    def test_after_replies(self):
         """A compact journal while a reply waits for the KDC: the reply waits on, and comes when the KDC has the change."""
         agent = Agent(self)
         start(self, options=agent.options(60_000))

@@ -23,7 +23,7 @@ TWO_CHANGES = "entries 2 changes 2"
 # faults of Linux that pass: EINTR, ENOMEM, ENFILE, EMFILE, ECONNABORTED, ENOBUFS; and EINVAL, which doesn't
 PASSING = "4 12 23 24 103 105"
 LASTING = "22"
-# how often a client sends on behind its last reply, so that a slow machine has more than one try
+# how often a client sends on after its last reply, so that a slow machine has more than one try
 TRIES = 3
 # changes whose processor time is taken together, and the iterations of their keys: a few, and the default
 FIVE = 5
@@ -61,11 +61,11 @@ def address(case, client, wanted, tally):
 
 
 def sent_on(client):
-    """Seconds until the end comes behind a message that gets the last reply, and until nothing more can be sent."""
+    """Seconds until the end comes after a message that gets the last reply, and until nothing more can be sent."""
     watch = Watch()
     client.send_bytes(b"\x80\0\0\0")
     if not client.has_reply() or not client.is_closed():
-        raise ValueError("no reply, or more behind it")
+        raise ValueError("no reply, or more after it")
     ended = watch.spent()
     try:
         while watch.spent() < PATIENCE:
@@ -167,7 +167,7 @@ class Connections(ServiceCase):
         self.tell("its end", self.last_lines(), (["entries 0 changes 0", "cannot listen"], 1))
 
     def test_without_a_limit(self):
-        """It goes on behind each connection, and ends when it is told to."""
+        """It goes on after each connection, and ends when it is told to."""
         start(self, "unlimited")
         for sent in both_requests():
             client = self.client()
@@ -195,7 +195,7 @@ class Connections(ServiceCase):
         self.tell_end("entries 0 changes 0")
 
     def test_a_client_that_sends_on(self):
-        """The end comes with the last reply; what is sent behind it is read for a second."""
+        """The end comes with the last reply; what is sent after it is read for a second."""
         self.start(TRIES)
         ended, cut_off = map(min, zip(*(sent_on(self.client()) for _ in range(TRIES))))
         self.tell(f"the end at once ({ended:.2f})", ended < 0.5, True)

@@ -20,7 +20,7 @@ from harness.asking import request_now
 from harness.controlling import NO_CHANGE, OK, ONE_CHANGE, Caller, ask, logged, rewrite, start, status, tell_end, tell_stop, told
 from harness.controlling import wait_for
 from harness.server import private
-from harness.serving import ALICES, CHANGED, NO_REQUEST, START, Client, Hold, SetClock, Watch, behind_length, request, ServiceCase
+from harness.serving import ALICES, CHANGED, NO_REQUEST, START, Client, Hold, SetClock, Watch, with_length, request, ServiceCase
 
 NAMES = [
     "version", "since", "quiet-until", "quiet-reason", "principals", "iterations", "entries", "changes", "all-entries",
@@ -174,7 +174,7 @@ class Control(ServiceCase):
         time.sleep(IDLE)
         count = asked.stat().st_size - before
         self.tell(f"asks in {IDLE} s ({count})", 1 <= count <= 2 * IDLE, True)
-        self.tell("a status behind", status(self)["connections"], "0")
+        self.tell("a status after", status(self)["connections"], "0")
         tell_end(self, NO_CHANGE)
 
     def test_bad_lines(self):
@@ -330,7 +330,7 @@ class Control(ServiceCase):
         log.rename(old)
         self.tell("one before", client.ask(request_now("alice", "New-pass3", 2)), CHANGED)
         self.tell("reopen-log", told(self, "reopen-log"), (OK, 0))
-        self.tell("one behind", client.ask(request_now("alice", "New-pass4", 3)), CHANGED)
+        self.tell("one after", client.ask(request_now("alice", "New-pass4", 3)), CHANGED)
         self.tell("the moved one", [line.split(" ")[1] for line in old.read_text().splitlines()],
                   ["service", "worker", "worker"])
         lines = log.read_text().splitlines()
@@ -357,7 +357,7 @@ class Control(ServiceCase):
         hold.hold()
         silent, half, first, second = (self.client() for _ in range(4))
         sent = [request("alice"), request("bob")]
-        half.send_bytes(behind_length(request("alice", cusec=9).message)[:100])
+        half.send_bytes(with_length(request("alice", cusec=9).message)[:100])
         first.send(sent[0])
         hold.wait()
         second.send(sent[1])
@@ -374,7 +374,7 @@ class Control(ServiceCase):
     def test_amid_bytes_one_by_one(self):
         """A message whose bytes come one by one, each in a hundredth of a second, holds up nobody else: a connection has its
         turn and no more, whether the thread of the sockets reads it or the worker that has answered the message before."""
-        for what, before in (("a first message", []), ("a message behind a reply", [NO_REQUEST])):
+        for what, before in (("a first message", []), ("a message after a reply", [NO_REQUEST])):
             start(self, DRIPS=DRIP)
             client = self.client()
             client.send_messages(*before, bytes(DRIPS))

@@ -12,7 +12,7 @@ import threading
 import time
 
 from harness.cases import main
-from harness.serving import CHANGED, LONGEST, NO_REQUEST, Hold, Watch, behind_length, both_requests, ServiceCase
+from harness.serving import CHANGED, LONGEST, NO_REQUEST, Hold, Watch, with_length, both_requests, ServiceCase
 
 # milliseconds that a slow worker needs for its look at the clock
 SLOW = 5
@@ -36,7 +36,7 @@ def drip(client, turns):
 def send_almost(client, size):
     """A message of so many bytes but for the last one, as far as the service takes it."""
     try:
-        client.send_bytes(behind_length(bytes(size))[:-1])
+        client.send_bytes(with_length(bytes(size))[:-1])
     except ConnectionError:
         pass
 
@@ -88,14 +88,14 @@ def answered_or_ended(client):
 
 class Crowds(ServiceCase):
     def test_34_connections_at_one_worker(self):
-        """33 that keep silent, every second one in the midst of a message, and one behind them."""
+        """33 that keep silent, every second one in the midst of a message, and one after them."""
         alice, _ = both_requests()
         self.start(34)
         for number in range(33):
             silent = self.client()
             if number % 2 == 0:
                 silent.send_bytes(b"\0\0\1\0\1")
-        self.tell("one behind 33 silent ones", self.client().ask(alice), CHANGED)
+        self.tell("one after 33 silent ones", self.client().ask(alice), CHANGED)
         self.tell_end(ONE_CHANGE)
 
     def test_a_client_that_drips(self):
@@ -170,7 +170,7 @@ class Crowds(ServiceCase):
         self.tell_end(ONE_CHANGE)
 
     def test_answers_that_come_at_once(self):
-        """Thirty messages over one connection, each behind the reply to the one before, to a worker that is slow."""
+        """Thirty messages over one connection, each after the reply to the one before, to a worker that is slow."""
         self.start(1, TICK=SLOW)
         client = self.client()
         watch = Watch()
@@ -194,9 +194,9 @@ class Crowds(ServiceCase):
         self.tell_within(1, watch)
         self.tell_end(NO_CHANGE)
 
-    def test_the_end_behind_the_last_reply(self):
-        """A message that is too long: behind its reply the client sees at once that the service has closed its side. The
-        connection itself would be closed a second behind the reply."""
+    def test_the_end_after_the_last_reply(self):
+        """A message that is too long: after its reply the client sees at once that the service has closed its side. The
+        connection itself would be closed a second after the reply."""
         self.start(1)
         client = self.client()
         watch = Watch()

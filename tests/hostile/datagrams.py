@@ -25,7 +25,7 @@ TRIES = 50
 # silent connections: as many as `--clients` allows by default
 SILENT = 1_024
 ASKS = 10
-# datagrams behind which a request stands in the socket
+# datagrams after which a request stands in the socket
 BURST = 20
 # milliseconds for which a datagram is read, and after which the next one comes, where they come faster than that
 DRIP, FLOOD = 10, 2
@@ -34,7 +34,7 @@ TURN = 7
 
 
 def tailed(ap, tail=b""):
-    """A frame with this AP-REQ, and no KRB-PRIV behind it."""
+    """A frame with this AP-REQ, and no KRB-PRIV after it."""
     return wire.framed(0xFF80, ap, tail)
 
 
@@ -60,7 +60,7 @@ UNANSWERED = [
     ("no AP-REQ", "0008000100007e00"),
     ("an AP-REQ that is no DER", "000700010001" + "00"),
     ("an AP-REQ that is cut off", tailed(presenting()[:-1]).hex()),
-    ("a byte behind an AP-REQ", tailed(presenting() + b"\0").hex()),
+    ("a byte after an AP-REQ", tailed(presenting() + b"\0").hex()),
     ("an AP-REP in its place", tailed(b"\x6f" + presenting()[1:]).hex()),
     ("a ticket of another realm", tailed(presenting(realm=b"EXAMPLE.ORG")).hex()),
     ("a ticket of a longer realm", tailed(presenting(realm=b"EXAMPLE.COM.")).hex()),
@@ -144,12 +144,12 @@ class Datagrams(ServiceCase):
         for what in ("once", "twice"):
             client.socket.send(alice.message)
             self.tell(f"{what} again", client.later() == reply, True)
-            self.tell(f"{what} again, and nothing behind it", client.reply(b""), None)
-        self.tell("a change behind", said(bob, client.ask(bob)), CHANGED)
+            self.tell(f"{what} again, and nothing after it", client.reply(b""), None)
+        self.tell("a change after", said(bob, client.ask(bob)), CHANGED)
         self.tell_end("entries 2 changes 2")
 
     def test_datagrams_without_an_answer(self):
-        """None of them has an answer or a place; the service takes two, one before them and one behind, beside the one that
+        """None of them has an answer or a place; the service takes two, one before them and one after, beside the one that
         is decided."""
         alice, bob = both_requests()
         self.start(2 + DECIDED, options=["--udp"])
@@ -158,7 +158,7 @@ class Datagrams(ServiceCase):
         client = Client(self.server)
         for what, datagram in UNANSWERED:
             self.tell(what, client.reply(bytes.fromhex(datagram)), None)
-        self.tell("a change behind", said(bob, client.ask(bob)), CHANGED)
+        self.tell("a change after", said(bob, client.ask(bob)), CHANGED)
         self.tell_end("entries 2 changes 2")
 
     def test_an_answer_no_longer_than_its_question(self):
@@ -175,8 +175,8 @@ class Datagrams(ServiceCase):
         self.tell("a byte less", client.reply(tailed(presenting(), bytes(spare - 1))), None)
         self.tell_end("entries 0 changes 0")
 
-    def test_a_request_behind_junk(self):
-        """In one burst: what is dropped doesn't hold up what stands behind it, though that is sent once."""
+    def test_a_request_after_junk(self):
+        """In one burst: what is dropped doesn't hold up what stands after it, though that is sent once."""
         alice, _ = both_requests()
         self.start(1, options=["--udp"])
         client = Client(self.server)
@@ -229,7 +229,7 @@ class Datagrams(ServiceCase):
             self.tell("from port 464", Client(self.server, ("127.0.0.2", KPASSWD)).reply(alice.message), None)
         low = ("127.0.0.2", KPASSWD + 100) if os.geteuid() == 0 else ("127.0.0.2", 0)
         self.tell("from another one", said(alice, Client(self.server, low).ask(alice)), CHANGED)
-        self.tell("and a change behind", said(bob, Client(self.server).ask(bob)), CHANGED)
+        self.tell("and a change after", said(bob, Client(self.server).ask(bob)), CHANGED)
         self.tell_end("entries 2 changes 2")
 
     def test_beside_silent_connections(self):

@@ -7,7 +7,7 @@ import time
 from harness import wire
 from harness.cases import main
 from harness.ports import free_ports
-from harness.program import MISSING, PRINTED, Client, ProgramCase, answer_one, behind_length, fault_of, shown, unreadable
+from harness.program import MISSING, PRINTED, Client, ProgramCase, answer_one, with_length, fault_of, shown, unreadable
 
 LONGEST_PASSWORD = 60_000
 
@@ -31,7 +31,7 @@ def drip(listener, threads):
     """Sends a byte of a long message each second, as long as one of these runs."""
     connection, _ = listener.accept()
     with connection:
-        text = behind_length(bytes(60_000))
+        text = with_length(bytes(60_000))
         for place in range(60):
             if not any(thread.is_alive() for thread in threads):
                 break
@@ -82,7 +82,7 @@ class ClientEndings(ProgramCase):
         reply = wire.error_reply(4, 60, text.encode(), 1_764_052_310)
         server = self.new_server("alice")
         with socket.create_server(("127.0.0.1", server.port)) as listener:
-            answering = threading.Thread(target=answer_one, args=(listener, behind_length(reply)))
+            answering = threading.Thread(target=answer_one, args=(listener, with_length(reply)))
             answering.start()
             wanted = "code 4 error 60 " + shown(text, PRINTED.replace(b"\\", b""))
             Client(self, server).tell("an error with escapes", (wanted, "", 1))

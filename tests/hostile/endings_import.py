@@ -50,8 +50,8 @@ class ImportEndings(ProgramCase):
         self.tell_unwritten("key: a full disk", "key", *words)
         self.tell_ended("key: no file", unreadable("missing", MISSING), "key", *words[:-1], "missing")
 
-    def test_keys_behind_a_head(self):
-        """What `import` writes, joined behind a configuration's head, is read as both: the head's rule, and these keys."""
+    def test_keys_after_a_head(self):
+        """What `import` writes, joined after a configuration's head, is read as both: the head's rule, and these keys."""
         short, long = bytes(range(16)), bytes(range(32))
         service = [("EXAMPLE.COM", "kadmin/changepw", 2, 18, long), ("EXAMPLE.COM", "kadmin/changepw", 2, 17, short)]
         alice = [("EXAMPLE.COM", "alice", kvno, etype, key) for kvno in (3, 2) for etype, key in ((18, long), (17, short))]
@@ -59,10 +59,10 @@ class ImportEndings(ProgramCase):
         stanzas = self.ended("import", "--keytab", "keytab", "--realm", "EXAMPLE.COM", "--iterations", "8192")
         self.tell("import: the service and a user", stanzas[1:], ("imported 6, not imported 0", 0))
         (self.folder / "joined").write_text(HEAD.read_text() + stanzas[0] + "\n")
-        self.tell_ended("import: behind a head", ("ok: principals 1, rules 0, service keys 2", "", 0), "check", "--config", "joined")
+        self.tell_ended("import: after a head", ("ok: principals 1, rules 0, service keys 2", "", 0), "check", "--config", "joined")
         (self.folder / "journal").write_bytes(b"")
         lines = "alice kvno 3 counts 8192 8192\nprincipals 1 changes 0"
-        self.tell_ended("import: the keys behind a head", (lines, "", 0), "table", "--config", "joined", "--journal", "journal")
+        self.tell_ended("import: the keys after a head", (lines, "", 0), "table", "--config", "joined", "--journal", "journal")
 
 
 if __name__ == "__main__":

@@ -125,7 +125,7 @@ class FailingLists(ServiceCase):
             tell_lines(self, LATE, LATE)
 
     def test_names_that_join_at_once(self):
-        """They are there long before a sync for each could be over, and so is the change that comes behind them."""
+        """They are there long before a sync for each could be over, and so is the change that comes after them."""
         agent, client = start(self, SLOW=SLOW), self.client()
         with agent.called() as link:
             watch = Watch()
@@ -138,7 +138,7 @@ class FailingLists(ServiceCase):
             self.tell("the reply", client.told(alice), CHANGED)
             tell_lines(self)
 
-    def test_a_sync_behind_them_that_fails(self):
+    def test_a_sync_after_them_that_fails(self):
         """The first sync of the journal fails: it is that of the third of three names, and no change is taken any more."""
         agent, client = start(self, FAILS="sync 1 5"), self.client()
         with agent.called() as link:

@@ -43,7 +43,7 @@ def change(server, number):
 
 
 def said_at_start(server, to, **options):
-    """What is printed before `listening`, and behind one connection: with `--raise` to this count."""
+    """What is printed before `listening`, and after one connection: with `--raise` to this count."""
     server.options = ["--raise", to]
     server.start(connections=1, **options)
     server.connect()
@@ -141,7 +141,7 @@ class Faults(Case):
         torn = raise_record(8194)[:2]
         self.tell("in the journal then", read_journal(server.journal.read_bytes()), (raises, torn))
         cut = f"{tally}\n{server.journal}: a torn tail was cut off after 14 bytes"
-        self.tell("behind it", said_at_start(server, 8194), (["raised 8194"], cut))
+        self.tell("after it", said_at_start(server, 8194), (["raised 8194"], cut))
 
 
 if __name__ == "__main__":

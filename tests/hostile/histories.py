@@ -6,7 +6,7 @@ an earlier message again. Each has a principal of its own, and sends five messag
 one connection from the first message to the last, the others open a new one now and then. What was
 answered `history full` is sent again, over the same connection.
 
-A full history ends no connection. What comes behind its last entry is decided in the next one; only
+A full history ends no connection. What comes after its last entry is decided in the next one; only
 what its workers had under way may be answered `history full`, one message of each. Each other message has
 to be decided once and answered once, as what the client was answered before has it. The service prints
 `entries 1000 changes N` for each full history, and at the end the same of the last one; it goes on

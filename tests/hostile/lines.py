@@ -81,7 +81,7 @@ class Lines(Case):
         server.options = ["--raise", "8192"]
         server.start(connections=1)
         self.tell("a raise that fills its history", server.next_line(), "entries 1 changes 0\n")
-        self.tell("  a change behind it", change(server, NAMES[0], 1), CHANGED)
+        self.tell("  a change after it", change(server, NAMES[0], 1), CHANGED)
         self.tell("  its tally", server.last_words().splitlines()[0], "entries 1 changes 1")
 
     def test_tail_told(self):

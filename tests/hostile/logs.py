@@ -34,7 +34,7 @@ def change_logged(case, log):
 
 
 def gone_on_with(case, former, begins):
-    """A log that a former run left so begins so, and has the lines of one change behind that."""
+    """A log that a former run left so begins so, and has the lines of one change after that."""
     log = case.folder / "log"
     log.write_text(former)
     change_logged(case, "log")
@@ -70,7 +70,7 @@ LOGS = ["realm", "./realm", "hard", "seed", "soft", "journal", ".//journal"]
 JOURNALS = ["realm", "./hard", "seed", "soft"]
 
 
-# how many messages that don't open come at a second, of which the first has one that does behind them
+# how many messages that don't open come at a second, of which the first has one that does after them
 FLOOD = [(0, 30), (1, 2), (2, 1), (3, 15)]
 TEXTS = [
     *10 * ["malformed"],
@@ -82,7 +82,7 @@ TEXTS = [
 ]
 
 
-# how often a message comes again at a second, and one behind it that is too old
+# how often a message comes again at a second, and one after it that is too old
 AGAIN = [(0, 30), (1, 2)]
 STALE = "code 3 error 37 clock skew too great"
 AGAIN_TEXTS = [

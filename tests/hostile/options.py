@@ -124,7 +124,7 @@ class Options(ServiceCase):
     @named("strict modes, the order")
     def test_strict_modes_the_order(self):
         """Of several files the configuration is named first, then the seed, the log and the journal; a configuration or a seed
-        that can't be read comes before, a port that is taken behind."""
+        that can't be read comes before, a port that is taken after."""
         log, port = self.folder / "log", self.server.port
         files = [(self.server.configuration, None), (self.server.seed, None), (log, "log"), (self.server.journal, None)]
         for file, _ in files:
@@ -283,8 +283,8 @@ class Options(ServiceCase):
         self.tell("another version", client.ask(Request(START, 0, bytes.fromhex("000600020000"))), BAD_VERSION)
         self.tell("RFC 3244", client.ask(request("alice")), CHANGED)
         self.tell("reload", told(self, "reload"), (OK, 0))
-        self.tell("the earlier protocol, behind it", client.ask(old_request(b"bob", 2)), BAD_VERSION)
-        self.tell("RFC 3244, behind it", client.ask(request("bob")), CHANGED)
+        self.tell("the earlier protocol, after it", client.ask(old_request(b"bob", 2)), BAD_VERSION)
+        self.tell("RFC 3244, after it", client.ask(request("bob")), CHANGED)
         self.tell("stop", told(self, "stop"), (OK, 0))
         lines, status = self.last_lines()
         self.tell("its end", (lines, status), (["entries 1 changes 1", "entries 1 changes 1"], 0))
@@ -316,7 +316,7 @@ class Options(ServiceCase):
         self.start(1, options=["--strict-messages", "--control", "control"], CLOCK=clock.file)
         client = self.client()
         changes = []
-        for again in ("", ", behind a reload"):
+        for again in ("", ", after a reload"):
             for what, parts in LOOSE_PARTS.items():
                 cusec = 100 + len(changes)
                 changes.append(0)

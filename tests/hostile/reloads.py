@@ -1,7 +1,7 @@
 """A configuration that is read anew while the service runs.
 
 What a reload is answered and what it keeps is what docs/PROTOCOL has (Reload). A configuration is read while it is being
-written, while histories fill, behind a journal that has failed, and while the service is killed. The clock of the day
+written, while histories fill, after a journal that has failed, and while the service is killed. The clock of the day
 stands still where a case sets it (machine.c). Needs gcc.
 """
 
@@ -52,7 +52,7 @@ def numbered(name, records):
 
 
 def write_in_pieces(path, text, cut_first):
-    """Writes a file anew in its place, some bytes at a time: over what stands there, or behind cutting it off."""
+    """Writes a file anew in its place, some bytes at a time: over what stands there, or after cutting it off."""
     with open(path, "wb" if cut_first else "r+b", buffering=0) as file:
         for place in range(0, len(text), 60):
             file.write(text[place : place + 60].encode())
@@ -101,7 +101,7 @@ class Reloads(ServiceCase):
         self.tell("reload", told(self, "reload"), (OK, 0))
         self.tell("the change again", client.ask(first), REPLAYED)
         self.tell("carol's again", client.ask(carol), REPLAYED)
-        self.tell("carol, behind it", client.ask(request("carol", cusec=8)), CHANGED)
+        self.tell("carol, after it", client.ask(request("carol", cusec=8)), CHANGED)
         self.tell("alice's old password", client.ask(request("alice", START, "New-pass2", 9)),
                   "code 4 password used before")
         values = status(self)
@@ -164,7 +164,7 @@ class Reloads(ServiceCase):
 
     @named("a refused reload's history")
     def test_a_refused_reload_s_history(self):
-        """What is found to stand against a reload once the history is closed: the next one begins as behind a full one,
+        """What is found to stand against a reload once the history is closed: the next one begins as after a full one,
         with the table as it was."""
         start(self, options=["--log", "log"])
         client = self.client()
@@ -283,7 +283,7 @@ class Reloads(ServiceCase):
         self.tell("a later start", status(self)["principals"], "3")
         tell_end(self, NO_CHANGE)
 
-    def test_a_history_that_fills_behind(self):
+    def test_a_history_that_fills_after(self):
         """A history fills with what its worker has in hand when the configuration was read already: the next one opens with
         the new configuration, and there is none between."""
         hold, clock = Hold(self.folder, "worker"), SetClock(self.folder)
@@ -306,7 +306,7 @@ class Reloads(ServiceCase):
         tell_end(self, ONE_CHANGE, ONE_CHANGE)
         self.tell("the log", logged(self)[1:], ["reloaded principals 3 iterations 4", "ended entries 2 changes 2"])
 
-    def test_a_change_behind_the_reading(self):
+    def test_a_change_after_the_reading(self):
         """A change that comes when the journal has been read, but before the rest of it is looked for, is part of that rest:
         the reload is done, and the change is held."""
         seek = Hold(self.folder, "seek")
@@ -317,7 +317,7 @@ class Reloads(ServiceCase):
         caller = Caller(self)
         caller.send("reload\n")
         seek.wait()
-        self.tell("a change behind", client.ask(request_now("alice", "Pass-2", 2)), CHANGED)
+        self.tell("a change after", client.ask(request_now("alice", "Pass-2", 2)), CHANGED)
         seek.free()
         self.tell("reload", caller.answer(), OK)
         self.tell("its password again", client.ask(request_now("alice", "Pass-2", 3)), "code 4 password used before")
@@ -335,7 +335,7 @@ class Reloads(ServiceCase):
 
     def test_a_failed_journal(self):
         """A journal that takes one record and a part of the next, by a limit on the file's length, has failed: a reload is
-        done and keeps that, and so does one behind a file that is refused."""
+        done and keeps that, and so does one after a file that is refused."""
         self.server.options = ["--control", "control", "--log", "-"]
         unlimited = resource.getrlimit(resource.RLIMIT_FSIZE)
         resource.setrlimit(resource.RLIMIT_FSIZE, (ALICES + 20, unlimited[1]))
@@ -363,7 +363,7 @@ class Reloads(ServiceCase):
         self.tell("the journal", ([it.kvno for it in records], len(torn)), ([2], 20))
 
     def test_a_pipe_for_a_journal(self):
-        """A journal whose name a pipe has by now holds up no reload, and nobody behind it; changes go on in the journal."""
+        """A journal whose name a pipe has by now holds up no reload, and nobody after it; changes go on in the journal."""
         start(self, options=["--log", "log"])
         self.tell("a change", self.client().ask(request_now("alice", "New-pass2", 1)), CHANGED)
         self.server.journal.rename(self.folder / "moved")

@@ -84,7 +84,7 @@ def refused_start(case, clock, path, *lines):
 
 
 def unfit(journal, good):
-    """Texts that don't fit the next start behind this journal, and why; `good` is the one that was left."""
+    """Texts that don't fit the next start after this journal, and why; `good` is the one that was left."""
     ids = [id_of("alice")]
 
     def other(**fields):
@@ -151,8 +151,8 @@ class Resumes(ServiceCase):
         self.tell("and then not", self.client().ask(request("bob", START + SECONDS + 1)), CHANGED)
         stop(self, "entries 2 changes 1")
 
-    def test_behind_a_compact_journal(self):
-        """A clean end behind `compact` is of the compact journal."""
+    def test_after_a_compact_journal(self):
+        """A clean end after `compact` is of the compact journal."""
         clock = SetClock(self.folder)
         start(self, clock)
         client = self.client()

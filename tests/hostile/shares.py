@@ -57,7 +57,7 @@ class Shares(ServiceCase):
         other = self.client(SECOND, host=HERE)
         crowd = [self.client(FIRST, host=HERE) for _ in range(200)]
         self.tell("one that was there", other.ask(alice), CHANGED)
-        self.tell("one that comes behind them", self.client(SECOND, host=HERE).ask(bob), CHANGED)
+        self.tell("one that comes after them", self.client(SECOND, host=HERE).ask(bob), CHANGED)
         self.tell("of the crowd are ended", sum(not client.is_silent() for client in crowd), 196)
         self.tell_within(5, watch)
         self.tell_end(TWO_CHANGES)

@@ -10,7 +10,7 @@ Then a quarter as many silent ones connect where 64 may be there at a time, with
 soon, those that have waited the longest are ended to make room, and 64 stay.
 
 In the end a worker is kept busy: a message whose connection is reset before that worker takes it isn't decided, and one
-whose client closes its writing side behind it is answered.
+whose client closes its writing side after it is answered.
 """
 
 import contextlib
@@ -261,7 +261,7 @@ def waiting_ones(count):
 
 
 def with_real_ones(waiting, every):
-    """The clients, a real one behind every so many."""
+    """The clients, a real one after every so many."""
     clients = []
     for number, client in enumerate(waiting, 1):
         clients.append(client)
@@ -421,13 +421,13 @@ class SilentClients(Case):
     def test_few(self):
         few(self, self.started, self.words.silent // 4, max(1, self.words.every // 4))
 
-    def test_behind_a_busy_worker(self):
+    def test_after_a_busy_worker(self):
         behind_a_busy_worker(self, self.started)
 
 
 def add_options(parser):
     parser.add_argument("--silent", type=int, default=2_000, metavar="N", help="clients that keep it waiting, by default 2000")
-    parser.add_argument("--every", type=int, default=200, metavar="N", help="a real client behind so many, by default 200")
+    parser.add_argument("--every", type=int, default=200, metavar="N", help="a real client after so many, by default 200")
 
 
 if __name__ == "__main__":

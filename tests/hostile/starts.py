@@ -15,7 +15,7 @@ from harness.journal import Raise, plain_record, read_journal, realm_record
 from harness.machine import machine
 from harness.server import private
 from harness.serving import ALICES, BOBS, CHANGED, NO_REQUEST, REPLAYED, START
-from harness.serving import Hold, SetClock, behind_length, parts_of, request, ServiceCase
+from harness.serving import Hold, SetClock, with_length, parts_of, request, ServiceCase
 
 QUIET = "code 3 error 37 clock skew too great"
 FULL = "code 2 error 60 history full"
@@ -76,7 +76,7 @@ def deaf_one(case):
     """A client that sends as many messages as its socket takes, and reads no reply."""
     client = case.client()
     client.socket.setblocking(False)
-    hundred = 100 * behind_length(NO_REQUEST)
+    hundred = 100 * with_length(NO_REQUEST)
     try:
         for _ in range(400):
             client.send_bytes(hundred)
@@ -159,7 +159,7 @@ class Starts(ServiceCase):
         self.tell_end("entries 3 changes 1")
         tell_size(self, 2 * ALICES)
 
-    def test_a_second_start_behind_a_raise(self):
+    def test_a_second_start_after_a_raise(self):
         """The first run raises the count from 4 to 8 before it listens; the second has no such option, and the third asks
         for the same count. All that is changed after the raise is changed under 8."""
         for number, (later, options, said, tally) in enumerate(RAISES):
@@ -226,7 +226,7 @@ class Starts(ServiceCase):
                                   capture_output=True, text=True, timeout=60)
             self.tell(f"at second {second}", (done.stdout, done.stderr.strip(), done.returncode), ("", line, status))
 
-    def test_a_start_that_is_read_behind_the_lock(self):
+    def test_a_start_that_is_read_after_the_lock(self):
         """What a start is quiet about depends on its moment, and other processes may have had the journal before: so its
         moment is read once it has the journal's lock, here ten seconds later."""
         clock, lock = SetClock(self.folder), Hold(self.folder, "lock")
@@ -282,7 +282,7 @@ class Starts(ServiceCase):
             self.tell(f"{command[0]}: another realm", ran(self, *command), ("", ["journal: J5", *told], 1))
         configuration.write_text(text)
         journal.write_bytes(plain_record("alice", 2) + record)
-        self.tell("behind a record", ran(self, *table), ("", ["journal: J1 at 2"], 1))
+        self.tell("after a record", ran(self, *table), ("", ["journal: J1 at 2"], 1))
         journal.write_bytes(record[:-1])
         self.tell("a part of it", ran(self, *table), ("", ["journal: J1 at 1"], 1))
         away = self.folder / "away" / "journal"

@@ -118,7 +118,7 @@ class MitDatabase:
         self.edit(name, lambda line: re.sub(r"\t8\t2\t[0-9a-f]{4}\t", "\t8\t2\t9900\t", line))
 
     def set_kvno(self, name, kvno):
-        """The version of its keys of AES, which stand behind two words of their form."""
+        """The version of its keys of AES, which stand after two words of their form."""
         self.edit(name, lambda line: re.sub(r"\t1\t\d+\t(1[78]\t\d+\t)", rf"\t1\t{kvno}\t\1", line))
 
     def add_salted(self, name, password):

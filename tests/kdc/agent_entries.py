@@ -293,7 +293,7 @@ class HeimdalEntries(Entries):
             return [line.partition("=")[0].strip() for line in record.splitlines()[1:]]
 
         def mask():
-            """What the last record of the log names as changed: its body's first number; the length stands behind the body."""
+            """What the last record of the log names as changed: its body's first number; the length stands after the body."""
             data = (self.realm.folder / "log").read_bytes()
             length = int.from_bytes(data[-8:-4], "big")
             return data[-8 - length :][:4].hex()

@@ -120,8 +120,8 @@ class AgentFaults(AgentCase):
         self.tell("  none is made", {it for it in set(self.kdc.listed()) - known if not it.startswith("agentfaults")}, set())
 
     def refused(self, case, whole):
-        """The case with each allocation refused that a request asks for: it alone, or with all behind it."""
-        self.whole, self.what = whole, "and all behind it" if whole else "alone"
+        """The case with each allocation refused that a request asks for: it alone, or with all after it."""
+        self.whole, self.what = whole, "and all after it" if whole else "alone"
         control = self.realm.folder / "refusing"
         control.write_bytes(bytes(24))
         self.more = {"LD_PRELOAD": preload(self.realm, "agent_refusing"), "REFUSING": str(control)}

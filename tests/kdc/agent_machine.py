@@ -58,7 +58,7 @@ class AgentMachine(AgentCase):
             self.tell("  the answers are whole", sum(it.startswith("end ") for it in found), MANY)
 
     def test_changes_while_nobody_reads(self):
-        """Somebody writes again and again while an answer is under way: `changed` is said once, behind one."""
+        """Somebody writes again and again while an answer is under way: `changed` is said once, after one."""
         name = self.name()
         with self.talking() as line:
             line.send(b"list keys\n" * MANY)
@@ -256,7 +256,7 @@ class Running:
         end = time.monotonic() + 20
         while not (path.exists() and stat.S_ISSOCK(path.stat().st_mode)) and time.monotonic() < end:
             time.sleep(0.01)
-        # until it listens behind that
+        # until it listens after that
         time.sleep(0.3)
 
     def __enter__(self):

@@ -206,7 +206,7 @@ class MitOddities(Oddities):
         with self.elsewhere() as more:
             database = pathlib.Path(more["KRB5_KDC_PROFILE"]).parent / "principal"
             data = database.read_bytes()
-            # the number of notes in the record behind the name, which begins with its length 38
+            # the number of notes in the record after the name, which begins with its length 38
             key = f"{name}@{REALM}".encode() + b"\0"
             place = data.index(key + b"\x26\0") + len(key)
             with database.open("r+b") as file:
@@ -219,7 +219,7 @@ class MitOddities(Oddities):
                 self.tell("  another", line.ask(f"get {hexed('alice')}").split()[0], "has")
 
     def test_a_locked_log(self):
-        """It is written behind the database: a change of which there is no record isn't taken for done."""
+        """It is written after the database: a change of which there is no record isn't taken for done."""
         name, more = self.name(), self.logging()
         self.realm.run(self.realm.mit, ["kadmin.local", "modprinc", "-maxlife", "3 hours", name], **more)
         before = self.records(name, more)
@@ -300,7 +300,7 @@ class MitOddities(Oddities):
         self.tell("  the KDC's keys", self.held(name), self.of(name, 3, "Logged-pass3"))
 
     def test_a_log_that_comes_later(self):
-        """Without its log the database isn't open, neither at the start nor behind a failure."""
+        """Without its log the database isn't open, neither at the start nor after a failure."""
         name, folder = self.name(), self.realm.folder / "logs"
         more = self.logging(f" iprop_logfile = {folder}/changes\n")
         with Agent(self.realm, **more) as agent, agent.connected() as line:
@@ -321,7 +321,7 @@ class HeimdalOddities(Oddities):
         with self.elsewhere() as more:
             database = pathlib.Path(more["KRB5_CONFIG"]).parent / "heimdal.db"
             data = bytearray(database.read_bytes())
-            # the length of the version, which stands behind the name and the realm
+            # the length of the version, which stands after the name and the realm
             place = data.index(f"{REALM}".encode() + b"\xa1\x03\x02\x01", data.index(name.encode() + b"\xa1")) + len(REALM) + 3
             data[place] = 9
             database.write_bytes(data)

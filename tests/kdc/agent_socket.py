@@ -79,7 +79,7 @@ class AgentSocket(AgentCase):
         with Agent(self.realm) as agent:
             for count, bad in enumerate(lines, 1):
                 with agent.connected() as line:
-                    # what comes behind it isn't read any more
+                    # what comes after it isn't read any more
                     line.send(bad + b"\nlist\n")
                     answer = line.line()
                 if answer != "" or agent.told("a connection was closed: a line is no request", count) != count:

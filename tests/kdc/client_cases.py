@@ -1,4 +1,4 @@
-"""Stock clients of both projects against the service with `--kdc`, and the KDC at once behind it.
+"""Stock clients of both projects against the service with `--kdc`, and the KDC at once after it.
 
 Each case is tried so many times in a row, for a user of its own. What a client's user sees of the first
 time is printed, as docs/RESULTS.md has it.

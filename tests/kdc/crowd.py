@@ -61,7 +61,7 @@ class Crowd:
         self.port = port
         self.users = {name: User(name) for name in names}
         self.selector = selectors.DefaultSelector()
-        # seconds by which the clients' clocks are ahead, and for which each rests at most behind a reply
+        # seconds by which the clients' clocks are ahead, and for which each rests at most after a reply
         self.ahead = self.rest = 0
         self.cusec = 0
         self.read = 0

@@ -1,7 +1,7 @@
 """Faults while sixteen users change their passwords: of the agent, the database and the service.
 
 Behind each of them the journal has each change that was answered, and the KDC the table's keys. No reply
-comes later behind its record than `--kdc-wait`, `--later` and what it takes where nobody
+comes later after its record than `--kdc-wait`, `--later` and what it takes where nobody
 listens at the socket, which is tried first. crowd.py has how that is seen.
 """
 

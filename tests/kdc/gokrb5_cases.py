@@ -70,7 +70,7 @@ class Gokrb5(Client):
         return self.has
 
     def kpasswd(self, name, old, new):
-        """Whether the change was made, whatever came of the login behind it."""
+        """Whether the change was made, whatever came of the login after it."""
         seen = self.call(name, old, new)
         return Seen("ChangePasswd: true, <nil>" in seen, seen.text)
 

@@ -151,7 +151,7 @@ class LdapService(InDirectory, RealmCases):
     # ---- at the end
 
     def told(self):
-        """What the service told of it on standard error; behind a list that fails each request that succeeds is news."""
+        """What the service told of it on standard error; after a list that fails each request that succeeds is news."""
         lines = [line.removeprefix(f"{self.served.socket}: ") for line in self.served.ended()]
         failed = [line for line in lines if line.startswith(FAILED)]
         away = list(itertools.takewhile(lambda line: LIMIT not in line, failed))

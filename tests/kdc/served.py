@@ -13,7 +13,7 @@ UNCONFIRMED = "not confirmed by the KDC"
 TOLD = "the KDC did not have a change in time; more are not reported until one is confirmed"
 DOWN = "no connection to the KDC's agent; it is tried again"
 MISSPOKEN = "the KDC's agent said what it may not; it is called again"
-# seconds in which no further line comes behind the last reply
+# seconds in which no further line comes after the last reply
 SETTLES = 0.1
 # connections: it doesn't end by itself
 MOST = 1_000_000
@@ -101,7 +101,7 @@ class Served:
         return comes(is_so, seconds)
 
     def unconfirmed(self):
-        """How many changes were answered without the KDC's word; a line may come a moment behind its reply."""
+        """How many changes were answered without the KDC's word; a line may come a moment after its reply."""
         text, before = self.log.read_text(), None
         while text != before:
             time.sleep(SETTLES)

@@ -98,7 +98,7 @@ class Client:
         return Seen(done.returncode == 0, done.stdout)
 
     def expired(self, name, password, *typed):
-        """The same with a password that has to be changed: what is asked behind it is typed."""
+        """The same with a password that has to be changed: what is asked after it is typed."""
         return self.ticket(name, password, *typed)
 
     def has_ticket(self, name):

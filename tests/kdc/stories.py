@@ -42,7 +42,7 @@ class Story:
         is_next = record.kvno == self.version + 1 or kind is not Record and record.kvno > self.version
         if found not in self.possible(kind) or not is_next:
             what = f"{kind.__name__.lower()} of version {record.kvno} has {found.text if found else 'no password'}"
-            self.faults.append(f"{record.name}: {what} behind version {self.version} with {self.newest.text}")
+            self.faults.append(f"{record.name}: {what} after version {self.version} with {self.newest.text}")
         self.look_for_overtaken(found)
         self.newest, self.version = found or self.newest, record.kvno
 

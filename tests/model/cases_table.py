@@ -79,7 +79,7 @@ def number(text):
 
 
 def name_of(text):
-    """The components behind their number; None where they don't end with the text."""
+    """The components after their number; None where they don't end with the text."""
     parts, rest = [], text[1:]
     while rest:
         size = rest[0]
@@ -139,7 +139,7 @@ def put_back(table, body):
 
 
 def behind_heading(table, journal):
-    """Where the records begin: behind that of the realm, if the journal begins with one."""
+    """Where the records begin: after that of the realm, if the journal begins with one."""
     size = number(journal[:2])
     if len(journal) < 3 or journal[2] != REALM or size not in REALM_LENGTHS:
         return 0
@@ -333,7 +333,7 @@ SETTINGS = {
 
 
 def made_answer(case):
-    """So many principals, each with so many changes behind version 1."""
+    """So many principals, each with so many changes after version 1."""
     principals, changes = map(int, case.split())
     table = Table(SETTINGS, {}, 4096, principals * changes)
     versions = [Key(kvno, 4096, "33" * 16, "44" * 32) for kvno in range(changes + 1, 1, -1)]

@@ -27,7 +27,7 @@ def changed(what, text, place):
 
 
 def census(answers):
-    """Each answer behind its count and its places, in the order in which they first came."""
+    """Each answer after its count and its places, in the order in which they first came."""
     places = {}
     for place, answer in enumerate(answers):
         runs = places.setdefault(answer, [])

@@ -4,11 +4,11 @@ A block whose info string is `sh sample` is run by bash in a copy of samples/ th
 on the PATH as chpw_server; `samples/FILE` is `FILE` there. A port that is named is replaced by a free one. There are two
 forms:
 
-- Commands and what they print, in one block. A line that begins with `$ ` is a command, and goes on behind a backslash. The
+- Commands and what they print, in one block. A line that begins with `$ ` is a command, and goes on after a backslash. The
   lines up to the next one are what it prints, on standard output and on standard error. `status N` as the last of them is
-  its status; 0 where there is none. A command that ends with `&` goes on: what it prints later stands behind the command
+  its status; 0 where there is none. A command that ends with `&` goes on: what it prints later stands after the command
   that was run then.
-- Commands alone, run as `bash -eu` runs a script, which has to end with status 0. The block `text` behind it has what
+- Commands alone, run as `bash -eu` runs a script, which has to end with status 0. The block `text` after it has what
   stands on standard output then.
 
 A block whose info string is `toml sample` says what samples/realm.toml says.
@@ -70,7 +70,7 @@ def is_realm(text):
 
 
 def commands(block):
-    """The commands of a block, each with the lines behind it and the status."""
+    """The commands of a block, each with the lines after it and the status."""
     found, goes_on = [], False
     for line in block:
         if goes_on:

@@ -207,7 +207,7 @@ class Row:
         self.check_definitions(faults)
 
     def groups(self):
-        """Calls with their clauses, and the fields of a clause's definition, which stand behind a colon."""
+        """Calls with their clauses, and the fields of a clause's definition, which stand after a colon."""
         calls, clauses = self.calls.split(";"), self.clauses.split(";")
         if len(calls) != len(clauses):
             calls, clauses = [self.calls], [self.clauses]
@@ -216,7 +216,7 @@ class Row:
             yield [it for it in ticked(call) if it not in self.tree.crates], TICKED.findall(head), TICKED.findall(tail)
 
     def joined_groups(self):
-        """The same where calls and clauses stand in one cell: behind a colon, or what is no call."""
+        """The same where calls and clauses stand in one cell: after a colon, or what is no call."""
         for part in self.calls.split(";"):
             head, colon, tail = part.partition(": ")
             names = list(ticked(head))
