@@ -26,7 +26,8 @@ INNER = ("tests/kdc/sssd.sh", "tests/clients/suites/")
 FOLDERS = ("tools", "trials", "harness", "tests", "bench")
 # seconds that an answer may take, on whatever machine
 PATIENCE = 300
-EVERY_CHECK = ("links", "names", "tables", "prose", "counts", "made", "reading", "lines", "rooted", "tasks", "samples", "dates", "papers", "versions", "widths")
+EVERY_CHECK = ("links", "names", "tables", "prose", "counts", "made", "reading", "lines", "rooted", "tasks", "samples", "dates", "papers",
+               "versions", "widths", "first")
 
 
 class Copy:
@@ -154,6 +155,21 @@ def in_sources(copy):
     yield rf"{proof}:\d+: has 163 characters"
 
 
+def in_first_lines(copy):
+    """First lines of another form, with another layer, a caller too many, one too few, and where a crate has callers."""
+    for crate, expression, planted, words in (
+        ("chpw_rules", r"\A//! Layer: ", "//! Planted: ", r"isn't //! Layer: "),
+        ("krb_aes", r"\A//! Layer: [^.]+", "//! Layer: planted", "has the layer planted, and crates.txt has standards and codecs"),
+        ("krb_keytab", r"chpw_import\.$", "chpw_import and krb_aes.", "is called by krb_aes, which doesn't use it"),
+        ("krb_keys", r"chpw_table and others above\.$", "chpw_table.", "doesn't name chpw_book, which uses it"),
+        ("chpw_blocks", r"Called by: .*", "Called by: nobody.", "nobody calls it, and chpw_resume uses it"),
+        ("chpw_resume", r"chpw_desks\.$", "chpw_desks and others above.", "has others above that call it, and there are none"),
+    ):
+        source = f"crates/{crate}/src/lib.rt"
+        copy.change(source, expression, lambda _, text=planted: text)
+        yield rf"{source}:1: {words}"
+
+
 def in_commands(copy):
     for command in ("cp planted.toml /var/lib/boddrelyn/", "runuser -u boddrelyn -- true > /run/boddrelyn/planted"):
         copy.append("docs/ADMIN.md", f"```sh\n{command}\n```")
@@ -177,7 +193,8 @@ def planted(program):
     """Each fault that has to be found, and whether it is."""
     with tempfile.TemporaryDirectory(prefix="documents-") as top:
         copy = Copy(top)
-        kinds = [in_words, in_counts, in_tables, in_made, in_sources, in_commands, in_tasks] + [in_samples] * (program is not None)
+        kinds = [in_words, in_counts, in_tables, in_made, in_sources, in_first_lines, in_commands, in_tasks]
+        kinds += [in_samples] * (program is not None)
         wanted = [it for kind in kinds for it in kind(copy)]
         command = [sys.executable, "-m", "tools.documents", *(["--program", program] if program else [])]
         only = [word for it in EVERY_CHECK for word in ("--only", it)]

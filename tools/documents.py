@@ -22,6 +22,7 @@ checks:
     papers    no file cites a paper by its number
     versions  the version and the toolchain that the program prints are those of CHANGELOG.md, of the documents, and of rt
     widths    no source, definition or proof has a line of more than 160 characters
+    first     each crate's first line has its layer and its callers as crates.txt has them
 
 A line is printed for each fault, `PLACE: what is wrong`. tools.check shows that such faults are found.
 """
@@ -29,7 +30,8 @@ A line is printed for each fault, `PLACE: what is wrong`. tools.check shows that
 import sys
 
 from harness.command import Parser
-from tools.doccheck import commands, counts, dates, lines, links, made, names, pages, papers, prose, reading, rooted, samples, tables, tasks, versions, widths
+from tools.doccheck import (commands, counts, dates, first_lines, lines, links, made, names, pages, papers, prose, reading, rooted, samples,
+                            tables, tasks, versions, widths)
 from tools.doccheck.tree import Faults, Tree
 
 CHECKS = {
@@ -50,6 +52,7 @@ CHECKS = {
     "papers": papers.check,
     "versions": versions.check,
     "widths": widths.check,
+    "first": first_lines.check,
 }
 
 
