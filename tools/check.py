@@ -131,7 +131,7 @@ def in_tables(copy):
 def in_made(copy):
     copy.change("docs/PROOFS.md", r"(<!-- (?:clause|definition) .* -->\n+```\w+\n)", lambda it: it[1] + "-- planted\n")
     yield r"tools.quotes --check: docs/PROOFS\.md: a quote differs"
-    copy.change("docs/decisions/torn-tail.md", r"\A# ", lambda it: "# Planted ")
+    copy.change("docs/decisions/torn-tail.md", r"^journal,", lambda _: "keys,")
     yield r"tools.decisions --check: docs/decisions/README\.md differs"
     copy.append("docs/layers.svg", "<!-- planted -->")
     yield r"tools\.picture --check: docs/layers\.svg differs"

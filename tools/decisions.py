@@ -1,7 +1,7 @@
 """Writes docs/decisions/README.md: the decisions by subject, from the heads of their pages.
 
-A page is a file of docs/decisions: a title, a line `SUBJECT, DATE`, and the paragraphs **Question.**, **Decision.** and
-**Why.**. Some other document links to each.
+A page is a file of docs/decisions: a title, a line `SUBJECT, DATE`, a paragraph with what was chosen, and **Why.** with
+the reason. The list has the words of its name. Some other document links to each.
 """
 
 import re
@@ -13,7 +13,7 @@ from harness.command import Parser
 
 FOLDER = TOP / "docs" / "decisions"
 FILE = FOLDER / "README.md"
-FORM = re.compile(r"# (.+)\n\n([a-z]+), (\d{4}-\d\d-\d\d)\n\n\*\*Question\.\*\* .+\n\n\*\*Decision\.\*\* .+\n\n\*\*Why\.\*\* .+\n")
+FORM = re.compile(r"# (.+)\n\n([a-z]+), (\d{4}-\d\d-\d\d)\n\n.+\n\n\*\*Why\.\*\* .+\n")
 SUBJECTS = {
     "structure": "Structure", "decision": "The decision", "keys": "Keys", "messages": "Messages", "connections": "Connections",
     "service": "The service", "journal": "The journal", "lookups": "The book and lookups", "kdc": "The KDC",
@@ -22,6 +22,7 @@ SUBJECTS = {
 HEAD = """# Decisions
 
 What the standards and our own rules leave open, what was chosen, and why. `tools.decisions` makes this list.
+
 """
 
 
@@ -36,12 +37,12 @@ def pages():
 
 
 def document(found):
-    """The list: under each subject its pages, in the order of their titles."""
+    """The list: of each subject its pages, in the order of their names."""
     parts = [HEAD]
     for subject, heading in SUBJECTS.items():
-        rows = sorted((title, file.name) for file, title, its, _ in found if its == subject)
-        parts.append(f"## {heading}\n\n" + "".join(f"- [{title}]({name})\n" for title, name in rows))
-    return "\n".join(parts)
+        links = (f"[{file.stem.replace('-', ' ')}]({file.name})" for file, _, its, _ in found if its == subject)
+        parts.append(f"- {heading}: {', '.join(links)}\n")
+    return "".join(parts)
 
 
 def without_link(found):
