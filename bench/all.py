@@ -1,14 +1,16 @@
-"""Measures everything that docs/results/bench.md shows of speed, on this machine, in one run and one after the other.
+"""Measures everything that docs/results shows of speed, on this machine, in one run and one after the other.
 
 The scripts of bench/ run as they are (keys.py beside OpenSSL); then the service, MIT's kadmind and Heimdal's kpasswdd take
 turns: changes a second by clients, processor and system calls a change, and an honest client's wait beside silent and
-dripping connections. The tables go into docs/results/bench.md, of which tools.tables puts some into docs/RESULTS.md, and the
-pictures into docs/results/; or both with --out into a folder.
+dripping connections. Each table goes into docs/results/bench_NAME.csv, and what it shows into docs/results/bench.csv;
+tools.tables puts some into docs/RESULTS.md. The pictures stand beside them. With --out all is one file of a folder.
 
 The packages are those of harness/fetch.sh; without them the service is measured alone. A figure that can't be had is a dash,
 and its reason stands below. Let nothing else run on the machine. --quick does each part once and small, to try the script.
 """
 
+import csv
+import dataclasses
 import os
 import pathlib
 import platform
@@ -20,11 +22,9 @@ import time
 from bench import beside, scripts, svg, tables
 from harness import three_servers
 from harness.command import TOP, Parser
-from harness.document_part import write_part
 
 NAMES = {kind: it.NAME for kind, it in three_servers.KINDS.items()}
-RESULTS = TOP / "docs/results/bench.md"
-PICTURES = TOP / "docs/results"
+RESULTS = TOP / "docs/results"
 
 
 def output_of(*words):
@@ -42,17 +42,26 @@ def machine():
     yield "Sources", output_of("git", "log", "-1", "--format=%h")
 
 
-def table(heads, rows):
-    yield "| " + " | ".join(heads) + " |"
-    yield "|" + "---|" * len(heads)
-    for row in rows:
-        yield "| " + " | ".join(str(it) for it in row) + " |"
-    yield ""
+@dataclasses.dataclass
+class Table:
+    """A table: the name of its file, its heading, what it shows, its head and its rows."""
 
+    name: str
+    heading: str
+    words: str
+    heads: list
+    rows: list
 
-def heading(words):
-    yield f"### {words}"
-    yield ""
+    def cells(self):
+        return [[str(it) for it in row] for row in (self.heads, *self.rows)]
+
+    def markdown(self):
+        head, *rows = (" | ".join(it).join(("| ", " |")) for it in ([cell.replace("|", "\\|") for cell in row] for row in self.cells()))
+        return "\n".join([f"### {self.heading}", "", self.words, "", head, "|---" * len(self.heads) + "|", *rows, ""])
+
+    def write(self, file):
+        with open(file, "w", newline="") as opened:
+            csv.writer(opened, lineterminator="\n").writerows(self.cells())
 
 
 def figure(value, form="{:,.0f}"):
@@ -111,85 +120,59 @@ class Measured:
 
     # ---- tables
 
-    def text(self, folder):
-        yield from table(["What", "Value"], [*self.head, ("Last line", f"`{self.last_line()}`")])
-        yield from self.servers()
-        yield from self.shown(folder, "rates", "cost", "calls", "waits", "lost")
+    def tables(self):
+        yield Table("run", "The run", "The run, and what it lacks.", ["What", "Value"], [
+            *self.head, ("Last line", f"`{self.last_line()}`"), *((f"not had: {what}", why) for what, why in self.missing.items())])
+        if any(self.beside.values()):
+            yield from self.servers()
         yield from self.costs()
-        yield from self.shown(folder, "principals", "events")
         yield from self.long_scripts()
         yield from self.kdcs()
-        yield from self.shown(folder, "kdc")
-        if self.missing:
-            reasons = ((what, why.replace("|", "\\|")) for what, why in self.missing.items())
-            yield from table(["Not had, or beyond a limit", "Reason"], reasons)
 
-    def shown(self, folder, *names):
-        for name in names:
-            if name in self.pictures:
-                yield f"![{self.titles[name]}]({folder}{name}.svg)"
-                yield ""
+    def text(self, names):
+        """All tables, and the pictures of these names, as one document."""
+        return "\n".join([*(it.markdown() for it in self.tables()), *(f"![{self.titles[it]}]({it}.svg)\n" for it in names)])
 
     def servers(self):
-        if not any(self.beside.values()):
-            return
-        kinds, found = list(NAMES), self.beside
-        yield from heading("Beside kadmind and kpasswdd")
-        yield "Changes a second, by clients; the best round."
-        yield ""
+        kinds, found, heading = list(NAMES), self.beside, "Beside kadmind and kpasswdd"
         rates = [found["rates"].get(kind, {}) for kind in kinds]
-        yield from table(["Clients", *NAMES.values()],
-                         ([clients, *(figure(it.get(clients)) for it in rates)] for clients in self.sizes.clients))
-        yield "What a change costs the server, one client."
-        yield ""
+        yield Table("rates", heading, "Changes a second, by clients; the best round.", ["Clients", *NAMES.values()],
+                    [[clients, *(figure(it.get(clients)) for it in rates)] for clients in self.sizes.clients])
         costs = [found["cost"].get(kind) or (None, None) for kind in kinds]
-        yield from table(["A change", *NAMES.values()], (
+        yield Table("cost", heading, "What a change costs the server, one client.", ["A change", *NAMES.values()], [
             ["processor of its own, ms", *(figure(it[0], "{:.2f}") for it in costs)],
             ["of the system's, ms", *(figure(it[1], "{:.2f}") for it in costs)],
-            ["system calls", *(figure(found["calls"].get(kind), "{:,.1f}") for kind in kinds)]))
-        yield "An honest client's wait, ms: median, longest; how many of its changes weren't made within 3 s, if any."
-        yield "Of the hostile connections half are silent, and half send a byte a second."
-        yield ""
-        yield from table(["Hostile", *NAMES.values()], (
-            [f"{hostile:,}", *(wait(found["waits"].get((kind, hostile)), self.sizes.honest) for kind in kinds)]
-            for hostile in self.sizes.hostile))
+            ["system calls", *(figure(found["calls"].get(kind), "{:,.1f}") for kind in kinds)]])
+        yield Table("waits", heading, "An honest client's wait, ms: median, longest; how many of its changes weren't made within 3 s, "
+                    "if any. Of the hostile connections half are silent, and half send a byte a second.", ["Hostile", *NAMES.values()],
+                    [[f"{hostile:,}", *(wait(found["waits"].get((kind, hostile)), self.sizes.honest) for kind in kinds)]
+                     for hostile in self.sizes.hostile])
 
     def costs(self):
         """The figures of the short scripts, as they print them."""
         rows = []
         for script, lines in self.lines.items():
-            if script.words[0] in tables.TABLES or script.words[0] == tables.KDC:
-                continue
-            told, first = f"`{script.told(self.is_quick)}`", script.what
-            for line in lines or ["-"]:
-                rows.append([first, line.replace("|", "\\|"), told])
-                first = told = ""
+            if script.words[0] not in tables.TABLES and script.words[0] != tables.KDC:
+                rows += [[script.what, line, f"`{script.told(self.is_quick)}`"] for line in lines or ["-"]]
         if rows:
-            yield from heading("What it costs, and how that grows")
-            yield from table(["What", "Figures", "Command"], rows)
+            yield Table("scripts", "What it costs, and how that grows", "The lines of the short scripts.", ["What", "Figures", "Command"], rows)
 
     def long_scripts(self):
         for script, lines in self.lines.items():
-            if script.words[0] in tables.TABLES:
-                title, words, work = tables.TABLES[script.words[0]]
-                yield from heading(title)
-                yield f"`{script.told(self.is_quick)}`. {words}"
-                yield ""
-                yield from table(*tables.rows_of(lines, work))
-                if script.words[0] in tables.MORE:
-                    words, work = tables.MORE[script.words[0]]
-                    yield from [words, ""]
-                    yield from table(*tables.rows_of(lines, work))
-                yield from (f"Last line: `{line}`.\n" for line in lines if line.startswith("limits "))
+            name = script.words[0]
+            if name in tables.TABLES:
+                title, words, work = tables.TABLES[name]
+                last = "".join(f" Last line: `{line}`." for line in lines if line.startswith("limits "))
+                yield Table(name, title, f"`{script.told(self.is_quick)}`. {words}{last}", *tables.rows_of(lines, work))
+            if name in tables.MORE:
+                words, work = tables.MORE[name]
+                yield Table(f"{name}_more", title, words, *tables.rows_of(lines, work))
 
     def kdcs(self):
         found = {script: lines for script, lines in self.lines.items() if script.words[0] == tables.KDC and lines}
         if found:
-            yield from heading(tables.OF_KDCS[0])
-            yield f"`bench.kdc`. {tables.OF_KDCS[1]}"
-            yield ""
             work = lambda _: (tables.OF_KDCS[2], [tables.kdc(lines, it.where) for it, lines in found.items()])
-            yield from table(*tables.rows_of(sum(found.values(), []), work))
+            yield Table("kdc", tables.OF_KDCS[0], f"`bench.kdc`. {tables.OF_KDCS[1]}", *tables.rows_of(sum(found.values(), []), work))
 
     # ---- pictures
 
@@ -227,8 +210,7 @@ class Measured:
                 name: scripts.to_the_kdc(self.lines_of("kdc", *scripts.OF_THE_PROGRAM, "--kind", kind))
                 for kind, name in (("mit", "MIT"), ("heimdal", "Heimdal"))}),
         }
-        self.pictures = {name: text for name, text in drawn.items() if text}
-        return self.pictures
+        return {name: text for name, text in drawn.items() if text}
 
 
 def wait(found, asked):
@@ -242,15 +224,19 @@ def wait(found, asked):
 
 def write(measured, out):
     """The tables and pictures of what there is so far."""
-    folder = out or PICTURES
+    folder = out or RESULTS
     folder.mkdir(parents=True, exist_ok=True)
-    for name, text in measured.draw().items():
+    pictures = measured.draw()
+    for name, text in pictures.items():
         (folder / f"{name}.svg").write_text(text)
-    text = "\n".join(measured.text(""))
     if out:
-        (out / "results.md").write_text(text)
-    else:
-        write_part(RESULTS, "bench.all", text)
+        (out / "results.md").write_text(measured.text(pictures))
+        return
+    found = list(measured.tables())
+    for it in found:
+        it.write(folder / f"bench_{it.name}.csv")
+    index = Table("", "", "", ["Table", "What it shows"], [[f"bench_{it.name}.csv", it.words] for it in found])
+    index.write(folder / "bench.csv")
 
 
 def main():

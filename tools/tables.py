@@ -3,13 +3,13 @@
 Such a table stands between a line `<!-- made by tools.tables WORDS -->` and a line `<!-- end of tools.tables -->`. WORDS are
 
     runs TABLE           the newest row of each run of that table in docs/results/runs.csv
+    brief TABLE          how many of these there are, and what came of those that didn't pass at once
     csv NAME             docs/results/NAME.csv
-    part NAME HEADING    what stands below a heading of docs/results/NAME.md
     scripts GROUP        the scripts of that group, each with the first sentence of what it says of itself
 
 In runs.csv a row is a run, and one further down is the newer one of the same `table` and `run`. `result` has the last line that was
 printed, or the figures; `program` says whether it was proved, `load` whether anything else ran beside it; what isn't known is left
-empty. Rows of a table that no document names, such as `once`, are kept as a record. bench.all and tests.clients.compare write their own parts
+empty. Rows of a table that no document names, such as `once`, are kept as a record. bench.all and tests.clients.compare write their own files
 of docs/results/.
 """
 
@@ -27,6 +27,8 @@ DOCUMENTS = (TOP / "docs/RESULTS.md", TOP / "docs/TESTS.md")
 PART = re.compile(r"(^<!-- made by tools.tables (.*?) -->\n)(.*?)(^<!-- end of tools.tables -->$)", re.DOTALL | re.MULTILINE)
 # The last line of a script of cases, of which the tables have the number alone.
 CASES = re.compile(r"`cases (\d+) failed 0`")
+# The last line of a script of which nothing failed.
+PASSED = re.compile(r"`[^`]*\b(?:failed 0|0 (?:failed|not|wrong))`")
 # The scripts of docs/TESTS.md by groups, as modules.
 GROUPS = {"gate": [f"tests.hostile.{name}" for name in SCRIPTS]}
 
@@ -61,30 +63,35 @@ def said(row):
     return f"{row['run']} {found[1]}" if found else f"{row['run']}: {row['result']}"
 
 
-def runs(name):
-    """What came of the runs, those of one day, one source, one program and one machine together."""
-    groups = {}
+def groups(name, columns):
+    """The runs of a table, those of one day and one source with the same in these columns together."""
+    found = {}
     for row in newest(name):
-        how = ", ".join(it for it in (row["program"], row["machine"], row["load"], row["cost"]) if it)
-        groups.setdefault((row["date"], row["commit"], how), []).append(said(row))
-    if not any(date for date, _, _ in groups):
+        how = ", ".join(row[it] for it in columns if row[it])
+        found.setdefault((row["date"], row["commit"], how), []).append(row)
+    return found
+
+
+def runs(name):
+    """What came of the runs."""
+    found = groups(name, ("program", "machine", "load", "cost"))
+    if not any(date for date, _, _ in found):
         return table(["What", "Cost"], [[row["run"], row["cost"]] for row in reversed(newest(name))])
-    return table(["Date", "Sources", "How", "Result"], [[*group, "; ".join(sorted(its))] for group, its in groups.items()])
+    return table(["Date", "Sources", "How", "Result"], [[*group, "; ".join(sorted(map(said, its)))] for group, its in found.items()])
 
 
-# ---- data, and parts of other documents
+def brief(name):
+    """How many runs there are of each kind, and what came of those that didn't pass at once."""
+    rows = [[*group, str(len(its)), "; ".join(sorted(said(it) for it in its if not PASSED.fullmatch(it["result"]))) or "all passed"]
+            for group, its in groups(name, ("program",)).items()]
+    return table(["Date", "Sources", "How", "Scripts", "But"], rows)
+
+
+# ---- data
 
 def whole(name):
     head, *rows = rows_of(name)
     return table(head, rows)
-
-
-def part(name, heading):
-    """What stands below a heading, without pictures and further headings."""
-    found = re.search(rf"^#+ {re.escape(heading)}\n(.*?)(?=^#|\Z)", (DATA / f"{name}.md").read_text(), re.DOTALL | re.MULTILINE)
-    if found is None:
-        sys.exit(f"docs/results/{name}.md has no heading {heading}")
-    return re.sub(r"^!\[.*\n", "", found[1], flags=re.MULTILINE).strip()
 
 
 # ---- scripts
@@ -101,13 +108,12 @@ def scripts(group):
     return table(["Script", "What it tries"], [[f"`{name}`", sentence(name)] for name in GROUPS[group]])
 
 
-KINDS = {"runs": runs, "csv": whole, "part": part, "scripts": scripts}
+KINDS = {"runs": runs, "brief": brief, "csv": whole, "scripts": scripts}
 
 
 def made(words):
-    kind, _, rest = words.partition(" ")
-    arguments = rest.split(" ", 1) if kind == "part" else [rest]
-    return KINDS[kind](*arguments)
+    kind, _, name = words.partition(" ")
+    return KINDS[kind](name)
 
 
 def main():

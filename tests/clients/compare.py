@@ -5,10 +5,16 @@ row of compare_rows.py is asked by a user of its own, over UDP and, where the se
 code, with a KRB-ERROR's error code in brackets, and `changed` where the key changed at the end; `silent` is no answer
 within three seconds, `closed` a connection that ended without one, `it ends` that the service's process did. What TCP
 answers is told where it differs. A cell that isn't what the row's rule asks ends in `!`. Packages that can't be had give a
-dash. --write puts the table into docs/results/compare.md.
+dash. What the rule asks is `changed`; `refused`, which means that no key changes; a code or an error code; or a dash where
+the RFCs leave it to the server. --write puts the table into docs/results/compare.csv, and what the rules say into
+compare_rules.csv there.
+
+The policy is six bytes, two classes and three passwords kept, where Heimdal has a rule of its own. All tickets are forged with
+the key of kadmin/changepw, so a row can have a fault that no KDC makes.
 """
 
 import concurrent.futures
+import csv
 import dataclasses
 import re
 import signal
@@ -17,10 +23,9 @@ import time
 
 from harness import crafting, three_servers
 from harness.command import TOP, Parser
-from harness.document_part import write_part
 from tests.clients.compare_rows import RULES, rows
 
-RESULTS = TOP / "docs/results/compare.md"
+RESULTS = TOP / "docs/results"
 WAYS = {"udp": "u", "tcp": "t"}
 
 
@@ -130,28 +135,29 @@ def measured(arguments, every):
     return list(columns.values()), table, len(servers)
 
 
-def markdown(every, heads, table):
-    """The rows, and what their rules say."""
-    yield "| Part | Request | " + " | ".join(heads) + " | Asked | Rule |"
-    yield "|---|---|" + "---|" * (len(heads) + 2)
-    part = None
+def compared(every, heads, table):
+    """The rows, with what each asks and by which rule."""
+    yield ["Part", "Request", *heads, "Asked", "Rule"]
     for row, cells in zip(every, table):
-        asks = "-" if row.asks == "open" else row.asks.removesuffix(" once")
-        yield f"| {row.part if row.part != part else ''} | {row.what} | {' | '.join(cells)} | {asks} | {row.rule} |"
-        part = row.part
-    yield from ("", "| Rule | RFC | What it says, in short |", "|---|---|---|")
+        yield [row.part, row.what, *cells, "-" if row.asks == "open" else row.asks.removesuffix(" once"), row.rule]
+
+
+def rules(every):
+    """What the rules of the rows say."""
+    yield ["Rule", "RFC", "What it says, in short"]
     for rule in dict.fromkeys(row.rule for row in every):
-        place, says = RULES[rule]
-        yield f"| {rule} | {place} | {says} |"
-    yield ""
+        yield [rule, *RULES[rule]]
+
+
+def write(name, rows):
+    with open(RESULTS / f"{name}.csv", "w", newline="") as file:
+        csv.writer(file, lineterminator="\n").writerows(rows)
 
 
 def main():
     parser = Parser(__doc__, "rows N, servers S, differing D", "the service isn't there")
     parser.add_program("--program")
-    form = parser.add_mutually_exclusive_group()
-    form.add_argument("--markdown", action="store_true", help="tables in Markdown")
-    form.add_argument("--write", action="store_true", help="these tables go into docs/results/compare.md")
+    parser.add_argument("--write", action="store_true", help="the table goes into docs/results/compare.csv, the rules beside it")
     parser.add_argument("--servers", nargs="+", choices=three_servers.KINDS, default=list(three_servers.KINDS),
                         help="these alone")
     arguments = parser.parse_args()
@@ -161,10 +167,8 @@ def main():
     heads, table, servers = measured(arguments, every)
     last = f"rows {len(every)}, servers {servers}, differing {sum(map(differs, table))}"
     if arguments.write:
-        text = "\n".join([*markdown(every, heads, table), f"Last line: `{last}`."])
-        write_part(RESULTS, "tests.clients.compare", text)
-    elif arguments.markdown:
-        print(*markdown(every, heads, table), sep="\n")
+        write("compare", compared(every, heads, table))
+        write("compare_rules", rules(every))
     else:
         for row, cells in zip(every, table):
             place, says = RULES[row.rule]
