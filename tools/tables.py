@@ -1,11 +1,10 @@
-"""Makes the tables of docs/RESULTS.md and docs/TESTS.md that come from data or from scripts.
+"""Makes the tables of docs/RESULTS.md that come from data.
 
 Such a table stands between a line `<!-- made by tools.tables WORDS -->` and a line `<!-- end of tools.tables -->`. WORDS are
 
     runs TABLE           the newest row of each run of that table in docs/results/runs.csv
     brief TABLE          how many of these there are, and what came of those that didn't pass at once
     csv NAME             docs/results/NAME.csv
-    scripts GROUP        the scripts of that group, each with the first sentence of what it says of itself
 
 In runs.csv a row is a run, and one further down is the newer one of the same `table` and `run`. `result` has the last line that was
 printed, or the figures; `program` says whether it was proved, `load` whether anything else ran beside it; what isn't known is left
@@ -13,24 +12,20 @@ empty. Rows of a table that no document names, such as `once`, are kept as a rec
 of docs/results/.
 """
 
-import ast
 import csv
 import re
 import sys
 
 from harness.command import TOP, Parser
-from tests.hostile import SCRIPTS
 from tools.made import add_check, remake
 
 DATA = TOP / "docs/results"
-DOCUMENTS = (TOP / "docs/RESULTS.md", TOP / "docs/TESTS.md")
+DOCUMENT = TOP / "docs/RESULTS.md"
 PART = re.compile(r"(^<!-- made by tools.tables (.*?) -->\n)(.*?)(^<!-- end of tools.tables -->$)", re.DOTALL | re.MULTILINE)
 # The last line of a script of cases, of which the tables have the number alone.
 CASES = re.compile(r"`cases (\d+) failed 0`")
 # The last line of a script of which nothing failed.
 PASSED = re.compile(r"`[^`]*\b(?:failed 0|0 (?:failed|not|wrong))`")
-# The scripts of docs/TESTS.md by groups, as modules.
-GROUPS = {"gate": [f"tests.hostile.{name}" for name in SCRIPTS]}
 
 
 def rows_of(name):
@@ -94,21 +89,7 @@ def whole(name):
     return table(head, rows)
 
 
-# ---- scripts
-
-def sentence(module):
-    """The first sentence of what a script says of itself."""
-    words = ast.get_docstring(ast.parse((TOP / f"{module.replace('.', '/')}.py").read_text()))
-    first = " ".join(words.partition("\n\n")[0].split())
-    return re.split(r"(?<=[a-z`)])\. (?=[A-Z`])", first)[0].rstrip(".")
-
-
-def scripts(group):
-    """The scripts of a group, in the order in which the gate runs them."""
-    return table(["Script", "What it tries"], [[f"`{name}`", sentence(name)] for name in GROUPS[group]])
-
-
-KINDS = {"runs": runs, "brief": brief, "csv": whole, "scripts": scripts}
+KINDS = {"runs": runs, "brief": brief, "csv": whole}
 
 
 def made(words):
@@ -124,8 +105,8 @@ def main():
     def changed(text):
         return PART.sub(lambda it: f"{it[1]}\n{made(it[2])}\n\n{it[4]}", text)
 
-    sys.exit(remake(DOCUMENTS, changed, given.check, "a table differs from its data"))
+    sys.exit(remake((DOCUMENT,), changed, given.check, "a table differs from its data"))
 
 
 if __name__ == "__main__":
-    main()
+    sys.exit(main())

@@ -1,9 +1,8 @@
-"""Numbers of what is in the tree: crates, edits, tests, cases, samples; and that docs/TESTS.md has each of them."""
+"""Numbers of what is in the tree: crates, edits, tests, cases, samples; and that docs/TESTS.md has the programs of these."""
 
 import re
 
 from harness.topic import lines_of, parts_of
-from tests.hostile import SCRIPTS
 
 from .tree import TOP
 
@@ -78,12 +77,11 @@ def answering():
 
 
 def check_whole(document, faults):
-    """No program of cases, no crate of tests and no script of tests.hostile is left out."""
+    """No program of cases and no crate of tests is left out."""
     if document is None:
         return
     wanted = [f"| `{name}`: {topic} | " if topic else f"| `{name}` | " for name, topic in answering()]
     wanted += [f"| `{it.name}` (" for it in CRATES.iterdir() if tests(it.name)]
-    wanted += [f"| `tests.hostile.{it}` | " for it in SCRIPTS]
     for row in wanted:
         faults.check(f"\n{row}" in document.text, document.name, f"no row {row.strip('| (')}")
 
