@@ -96,7 +96,7 @@ def check_control_documents(commands, faults):
     there = {word: bool(file) for word, file in re.findall(r"^\| `([\w-]+)( FILE)?` \|", table, re.MULTILINE)}
     admin.same("the commands of control", commands, {it: there[it] for it in commands if it in there} | there)
     protocol = Place(PROTOCOL, faults)
-    line = part(protocol.text, r"\n- \*\*The line\*\* is ", r", byte by byte")
+    line = part(protocol.text, r"\n- \*\*The line\*\*: ", r", byte by byte")
     there = {word: bool(file) for word, file in re.findall(r"`([\w-]+)( FILE)?`", line)}
     protocol.same("the commands of a line", commands, there)
 
