@@ -1,6 +1,7 @@
 use Rattle.std.proofs.Common.{inl, inr, subst, sym}
-use Rattle.std.proofs.lemmas.Result.{err_from_is_err_and, on_ok_weaker}
+use Rattle.std.proofs.lemmas.Result.{IfErr-weaker, err_from_is_err_and, on_ok_weaker}
 use Rattle.chpw_book.specs.Starting.{table_of}
+use Rattle.chpw_start.specs.Faults.{IsLate}
 use Rattle.chpw_service.specs.Faults.{IsOfService}
 use Rattle.chpw_service.proofs.FaultLemmas.{late_of_service}
 use Rattle.chpw_service.proofs.WholeRunLemmas.{whole_run}
@@ -29,3 +30,9 @@ returns-clause-run g c =
     c.in_ok-table.field-0.table c.in_ok-config.field-0.seed (table_of c.first_opening-opening.result.unnamed) settings.rules
     c.new-clock.ensures.start c.in_ok-table.ensures.opened c.first_opening-opening.ensures.table served)
     c.serve_opened-ended.ensures.served
+
+-- what ends the service later
+pub returns-clause-fault : goal.returns-clause-fault
+returns-clause-fault g c =
+    IfErr-weaker c.serve_opened-ended.result IsLate (IsOfService c.args.options) (late_of_service c.args.options)
+    c.serve_opened-ended.ensures.fault
