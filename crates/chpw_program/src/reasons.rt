@@ -127,7 +127,7 @@ impl<'a> Named<'a> {
 
     // What a command names that reads a configuration, and nothing else that may be at fault.
     fn by_config(config: &'a str) -> Named<'a>
-        ensures value { result ≡ record { config = Some config; seed = None; locked = None; listen = None; port = 0 } }
+        ensures value { result ≡ record { config = Some config.entry; seed = None; locked = None; listen = None; port = 0 } }
     {
         Named {
             config: Some(config),
