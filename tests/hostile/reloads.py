@@ -76,7 +76,7 @@ def is_whole(answer):
     return not lines and last.startswith("error: ")
 
 
-def reloads(case, texts):
+def reloading(case, texts):
     """Has one or the other of two configurations read until the service is gone."""
     def order(turn):
         whole = private(case.folder / "whole.toml")
@@ -387,7 +387,7 @@ class Reloads(ServiceCase):
         self.server.configuration.write_text(texts[1])
         before, answered, reloads, cut, faults = b"", 0, 0, 0, []
         for number in range(KILLS):
-            changers, answers, early = killed_amid(self, number, clock, reloads(self, texts))
+            changers, answers, early = killed_amid(self, number, clock, reloading(self, texts))
             faults += [f"run {number}: before the kill: {it}" for it in early]
             self.server.configuration.write_text(texts[1])
             start(self, CLOCK=clock.file)
