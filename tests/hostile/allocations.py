@@ -97,7 +97,7 @@ def lacking(line, fell):
     """What should have occurred and did not."""
     wanted = [] if FREE.match(line) else ["refused"]
     if STREAM.match(line):
-        wanted += ["refused after its entry"]
+        wanted += ["refused behind its entry"]
     return [kind for kind in wanted if not fell[kind]]
 
 
