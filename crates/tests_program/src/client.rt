@@ -11,7 +11,9 @@ use std::fs::{File, Files};
 use std::io::{Read, Write};
 use std::net::{Net, TcpListener, TcpStream};
 use std::process::Abort;
-use std::thread::join;
+use std::rt::Env;
+use std::sync::Wait;
+use std::thread::{Threads, join};
 use std::time::{Clock, Duration};
 use std::{fs, io, thread};
 
@@ -259,6 +261,24 @@ where
     address.ok().expect(rt, "an address").port()
 }
 
+// Serves as `serve` does. The bounds of `Machine` are written out, since a caller of one type has to name what they speak of.
+fn run_service<'a, R>(rt: &R, options: ServeOptions<'a>) -> Result<(), ServeFault<'a>>
+where
+    R: Files<File = File>
+        + Net<Listener = TcpListener, Stream = TcpStream>
+        + Threads
+        + Wait
+        + Clock
+        + Env
+        + Print
+        + Eprint
+        + AllocGlobal
+        + Sync,
+    R::Dir: Send + Sync,
+{
+    serve(rt, options)
+}
+
 // The bytes of a file.
 fn size_of<R: Files + AllocGlobal + Abort>(rt: &R, file: &str) -> usize {
     fs::read(rt, file).ok().expect(rt, "a file").len()
@@ -291,7 +311,7 @@ fn client_asks_a_service(rt: HostRuntime) {
     let options_of_it = serving(port, 8, LOG_FILE);
     let (served, ()) = join(
         &rt,
-        || serve(&rt, options_of_it).is_ok(),
+        || run_service(&rt, options_of_it).is_ok(),
         || {
             ask_all(&rt, port);
             send_malformed(&rt, port);
@@ -319,13 +339,13 @@ fn client_asks_a_service(rt: HostRuntime) {
 #[test]
 fn log_that_cannot_be_written(rt: HostRuntime) {
     let port = prepare(&rt);
-    let ended = serve(&rt, serving(port, 1, "."));
+    let ended = run_service(&rt, serving(port, 1, "."));
     assert!(rt; matches!(ended, Err(ServeFault::CannotWrite("."))));
     assert!(rt; fs::read(&rt, JOURNAL_FILE).is_err());
     let full = serving(port, 1, "/dev/full");
     let (served, changed) = join(
         &rt,
-        || serve(&rt, full).is_ok(),
+        || run_service(&rt, full).is_ok(),
         || matches!(ask_soon(&rt, options(port, own("New-pass1"))), Ending::Good),
     );
     assert!(rt; served && changed);
@@ -349,7 +369,7 @@ fn passwords_of_files(rt: HostRuntime) {
     let options_of_it = serving(port, 4, LOG_FILE);
     let (served, ()) = join(
         &rt,
-        || serve(&rt, options_of_it).is_ok(),
+        || run_service(&rt, options_of_it).is_ok(),
         || {
             for (bytes, changes) in [
                 (b"newpass1\n".as_slice(), true),
