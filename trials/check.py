@@ -22,7 +22,7 @@ from trials.verdicts import Verdict
 
 CRATE = "chpw_read_fully"
 # what trials.run needs of it
-SCRIPTS = ("__init__", "run", "callees", "guards", "share", "states", "together", "verdicts")
+SCRIPTS = ("__init__", "run", "callees", "caught", "guards", "share", "states", "together", "toolchain", "verdicts")
 FILES = ("crates.txt", "HANDLES", "prove", *(f"harness/{it}.py" for it in ("__init__", "command", "durations", "topic")),
          *(f"trials/{it}.py" for it in SCRIPTS))
 FOLDERS = (f"crates/{CRATE}", "trials/self_test")
