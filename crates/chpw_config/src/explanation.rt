@@ -277,7 +277,7 @@ fn key_fault(
     }
     let kvno = table.get("kvno").and_then(|kvno| kvno.as_integer());
     match (newer, kvno) {
-        (Some(newer), Some(kvno)) if newer.checked_sub(1) != Some(kvno) => {
+        (Some(newer), Some(kvno)) if kvno >= newer => {
             let wrong = "kvno must be less than that of the key before it";
             Ok(Some(String::from_str(alloc, wrong)?))
         }

@@ -153,7 +153,7 @@ impl<
     {
         match question {
             Command::Status => self.tell_status(slot),
-            _ => self.stop(),
+            Command::Stop | Command::Reload | Command::ReopenLog | Command::Compact(_) => self.stop(),
         }
     }
 
