@@ -1,3 +1,4 @@
+pub mod CountLemmas
 pub mod EvictionLemmas
 pub mod FinalLemmas
 pub mod LifeLemmas

@@ -4,13 +4,14 @@ use Rattle.std.proofs.Common.{append_assoc}
 use Rattle.std.proofs.Math.Logic.{⊎_elim}
 use Rattle.std.proofs.lemmas.Bool.{cases_lt}
 use Rattle.std.proofs.lemmas.Bool.Decides.{nat_tests}
-use Rattle.std.proofs.lemmas.List.{take-append-drop, length-append, length-map, append-nil, map-append, nil_from_length}
+use Rattle.std.proofs.lemmas.List.{take-append-drop, length-append, append-nil, map-append, nil_from_length}
 use Rattle.std.proofs.lemmas.List.Elements.{All-append, All-cons}
 use Rattle.chpw_connection.specs.Messages.{wanted_after, IsPiece}
 use Rattle.chpw_connection.specs.Stages.{Stage, reading, queued, answering, confirming, writing, lingering, abandoned, ended, Event, came, taken, replied}
 use Rattle.chpw_connection.specs.Stages.{deferred, unanswered, released, wrote, closed, failed, received, read_to, written_to, is_over, is_last_reply}
 use Rattle.chpw_connection.specs.Lives.{Life, accepted, behind, life, joined, messages_of, replies_of, IsOrderly, Orderly}
 use Rattle.chpw_connection.proofs.PieceLemmas.{piece_is_whole}
+use Rattle.chpw_connection.proofs.CountLemmas.{joined-append, as_many, none_is_few, one_is_few, bool_cases}
 
 -- what waits is a whole message, and what is read isn't yet
 abbrev IsWaiting : Stage → Type 0
@@ -35,22 +36,6 @@ record Holds (l : Life) : Type 0 where
 
 abbrev pub made : List ℕ → List (List ℕ) → List (List ℕ × List ℕ) → List ℕ → ℕ → Stage → Life
 made c h r w n s = record { came = c; handed = h; turns = r; written = w; count = n; stage = s }
-
-joined-append : (xs ys : List (List ℕ)) → joined (xs ++ ys) ≡ joined xs ++ joined ys
-joined-append [] ys = refl
-joined-append (x ∷ xs) ys = ap (λ (l : List ℕ). x ++ l) (joined-append xs ys) ∙ sym (append_assoc x (joined xs) (joined ys))
-
--- as many messages were handed on as were replied to and weren't
-as_many : (h : List (List ℕ)) (r : List (List ℕ × List ℕ)) (u : List (List ℕ)) → h ≡ messages_of r ++ u → length h ≡ length r + length u
-as_many h r u is =
-    ap length is ∙ (length-append (messages_of r) u ∙ ap (λ (k : ℕ). k + length u) (length-map r (λ (t : List ℕ × List ℕ). t.0)))
-
--- no message, and one, is no more than one
-none_is_few : (u : List (List ℕ)) → u ≡ [] → length u ≤ 1
-none_is_few u is = let none : length u ≡ 0 = ap length is in omega arith
-
-one_is_few : (u : List (List ℕ)) (m : List ℕ) → u ≡ m ∷ [] → length u ≤ 1
-one_is_few u m is = let one : length u ≡ 1 = ap length is in omega arith
 
 -- nothing came of it
 same : (c : List ℕ) (h : List (List ℕ)) (r : List (List ℕ × List ℕ)) (w : List ℕ) (n : ℕ) (s : Stage) → Holds (made c h r w n s)
@@ -148,10 +133,6 @@ takes c h r w n m o =
     rw (append-nil c, append-nil r, append-nil w) step
 
 -- either value of a test
-bool_cases : (P : Bool → Type 0) (b : Bool) → (b ≡ true → P true) → (b ≡ false → P false) → P b
-bool_cases P true yea nay = yea refl
-bool_cases P false yea nay = nay refl
-
 -- after a reply that isn't the last
 below_last : (n : ℕ) (last : Bool) → is_last_reply n last ≡ false → n + 1 ≤ 65535
 below_last n true is = absurd cc

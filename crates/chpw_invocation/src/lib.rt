@@ -12,6 +12,7 @@ mod options;
 mod program;
 mod refusing;
 mod texts;
+mod values;
 
 pub use invocation::{
     ClientOptions, ConnectionLimit, ControlOptions, DEFAULT_BUFFERS, DEFAULT_CLIENTS,

@@ -11,7 +11,8 @@ ghost use Rattle.chpw_invocation.specs.Program.{serve};
 ghost use Rattle.chpw_invocation.specs.Refusals.{kind_for, text_for};
 
 use crate::invocation::LONGEST_REALM;
-use crate::matching::{is_given, listen_of, text_of};
+use crate::matching::listen_of;
+use crate::values::{is_given, text_of};
 use chpw_control::Command;
 use clap::ArgMatches;
 use clap::error::ErrorKind;

@@ -5,4 +5,5 @@ pub mod HoldsLemmas
 pub mod OrderLemmas
 pub mod PeerLemmas
 pub mod QueueLemmas
+pub mod QuietLemmas
 pub mod WaitLemmas

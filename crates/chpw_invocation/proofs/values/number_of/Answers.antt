@@ -3,7 +3,7 @@ use Rattle.std.specs.Str.Parse.{ParsesUnsigned, ExplainsUnsignedError, HasUnsign
 use Rattle.clap.specs.Words.{found_of, one_text}
 use Rattle.clap.proofs.WalkLemmas.{one_text-rows}
 use Rattle.chpw_invocation.proofs.PortLemmas.{number_found, number_read, number_taken}
-use Rattle.chpw_invocation.proofs.matching.number_of.Goals as goal
+use Rattle.chpw_invocation.proofs.values.number_of.Goals as goal
 
 pub returns-in-Some-clause-number : goal.returns-in-Some-clause-number
 returns-in-Some-clause-number c =

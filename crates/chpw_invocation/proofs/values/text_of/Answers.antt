@@ -1,7 +1,7 @@
 use Rattle.std.proofs.Common.{◌∙◌}
 use Rattle.clap.specs.Words.{found_of}
 use Rattle.clap.proofs.WalkLemmas.{first_value-rows}
-use Rattle.chpw_invocation.proofs.matching.text_of.Goals as goal
+use Rattle.chpw_invocation.proofs.values.text_of.Goals as goal
 
 pub returns : goal.returns
 returns c = record { value = c.get_str.ensures ∙ first_value-rows (found_of c.args.options.now) c.args.name.now }

@@ -1,7 +1,7 @@
 use Rattle.std.proofs.Common.{◌∙◌}
 use Rattle.clap.specs.Words.{found_of}
 use Rattle.clap.proofs.WalkLemmas.{one_text-rows}
-use Rattle.chpw_invocation.proofs.matching.is_given.Goals as goal
+use Rattle.chpw_invocation.proofs.values.is_given.Goals as goal
 
 pub returns : goal.returns
 returns c =
