@@ -26,8 +26,8 @@ INNER = ("tests/kdc/sssd.sh", "tests/clients/suites/")
 FOLDERS = ("tools", "trials", "harness", "tests", "bench")
 # seconds that an answer may take, on whatever machine
 PATIENCE = 300
-EVERY_CHECK = ("links", "names", "tables", "prose", "counts", "made", "reading", "lines", "rooted", "tasks", "samples", "dates", "papers",
-               "versions", "widths", "first")
+EVERY_CHECK = ("links", "names", "tables", "prose", "counts", "made", "reading", "lines", "replies", "rooted", "tasks", "samples", "dates",
+               "papers", "versions", "widths", "first")
 
 
 class Copy:
@@ -170,6 +170,16 @@ def in_first_lines(copy):
         yield rf"{source}:1: {words}"
 
 
+def in_replies(copy):
+    """An error code of a row, a row's text, and the code of an update's answer."""
+    copy.change("docs/PROTOCOL.md", r"^Expired .*32 ", lambda it: it[0].replace("32", "33"))
+    yield r"docs/PROTOCOL\.md:\d+: Expired is 3 32 ticket expired"
+    copy.change("docs/PROTOCOL.md", r"^Reused .*before ", lambda it: it[0].replace("before", "sooner"))
+    yield r"docs/PROTOCOL\.md:\d+: Reused is 4  password used before"
+    copy.change("docs/PROTOCOL.md", r"^NotNewer +2", lambda it: it[0].replace("2", "3"))
+    yield r"crates/chpw_table/specs/Replies\.antt: docs/PROTOCOL\.md lacks the answer NotNewer: 2 not newer"
+
+
 def in_commands(copy):
     for command in ("cp planted.toml /var/lib/boddrelyn/", "runuser -u boddrelyn -- true > /run/boddrelyn/planted"):
         copy.append("docs/ADMIN.md", f"```sh\n{command}\n```")
@@ -193,7 +203,7 @@ def planted(program):
     """Each fault that has to be found, and whether it is."""
     with tempfile.TemporaryDirectory(prefix="documents-") as top:
         copy = Copy(top)
-        kinds = [in_words, in_counts, in_tables, in_made, in_sources, in_first_lines, in_commands, in_tasks]
+        kinds = [in_words, in_counts, in_tables, in_made, in_sources, in_first_lines, in_replies, in_commands, in_tasks]
         kinds += [in_samples] * (program is not None)
         wanted = [it for kind in kinds for it in kind(copy)]
         command = [sys.executable, "-m", "tools.documents", *(["--program", program] if program else [])]

@@ -13,6 +13,7 @@ checks:
     made      what other scripts of tools/ write into the documents is as they would write it now
     reading   how many lines there are to read for a contract is what tools.believe prints
     lines     each line that the program prints on standard error stands in docs/ADMIN.md
+    replies   the rows of PROTOCOL's decision have the codes and texts of the definition
     commands  the program's commands and options, and those for a running service, are the same wherever they are written
     pages     the manual pages in packaging/man have the options and defaults of each command's help, and no others
     rooted    no command that is printed for root meets a name that the service's user could have made
@@ -30,8 +31,8 @@ A line is printed for each fault, `PLACE: what is wrong`. tools.check shows that
 import sys
 
 from harness.command import Parser
-from tools.doccheck import (commands, counts, dates, first_lines, lines, links, made, names, pages, papers, prose, reading, rooted, samples,
-                            tables, tasks, versions, widths)
+from tools.doccheck import (commands, counts, dates, first_lines, lines, links, made, names, pages, papers, prose, reading, replies, rooted,
+                            samples, tables, tasks, versions, widths)
 from tools.doccheck.tree import Faults, Tree
 
 CHECKS = {
@@ -43,6 +44,7 @@ CHECKS = {
     "made": made.check,
     "reading": reading.check,
     "lines": lines.check,
+    "replies": replies.check,
     "commands": commands.check,
     "pages": pages.check,
     "rooted": rooted.check,
