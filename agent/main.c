@@ -130,6 +130,13 @@ static int listen_at(const char *path, uid_t user) {
            listen(listener, 16) == 0;
 }
 
+static void take_signals(void) {
+    signal(SIGTERM, take_signal);
+    signal(SIGINT, take_signal);
+    signal(SIGALRM, take_signal);
+    signal(SIGPIPE, SIG_IGN);
+}
+
 int main(int count, char **words) {
     const char *path = NULL, *name = NULL, *fault = NULL;
     int at;
@@ -153,10 +160,7 @@ int main(int count, char **words) {
         tell("%s: no such user", name);
         return 1;
     }
-    signal(SIGTERM, take_signal);
-    signal(SIGINT, take_signal);
-    signal(SIGALRM, take_signal);
-    signal(SIGPIPE, SIG_IGN);
+    take_signals();
     /* keys go into no core, and nobody but root can look into the program */
     if (prctl(PR_SET_DUMPABLE, 0, 0, 0, 0) < 0 || !listen_at(path, user->pw_uid)) {
         tell("%s: %s", path, strerror(errno));
