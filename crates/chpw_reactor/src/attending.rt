@@ -153,7 +153,8 @@ impl<
     {
         match question {
             Command::Status => self.tell_status(slot),
-            Command::Stop | Command::Reload | Command::ReopenLog | Command::Compact(_) => self.stop(),
+            Command::Stop | Command::Reload | Command::ReopenLog | Command::Compact(_) =>
+                self.stop(),
         }
     }
 
