@@ -58,14 +58,15 @@ fn learn<D: DeskName>(alloc: Global, passes: &mut [Pass<D>], learner: u32) -> io
     Ok(format!(in alloc; "front {}", front.len())?)
 }
 
-/// `RAISES NAME MICROS PASSWORD`: the first worker's answer, where the second one raises the count before each of its first
-/// decisions; how many raises were made, and how often the request was decided, and with its keys derived under the lock.
+/// `RAISES NAME MICROS PASSWORD`: what the first of two workers answers, where the second raises the count before each of its
+/// first decisions; how many raises were made, and how often the request was decided, and with its keys derived under the
+/// lock.
 fn overtaken<D: DeskName, R: Wait>(
     scene: &Scene<'_, D, R>,
     passes: &mut [Pass<D>],
     text: &str,
 ) -> io::Result<String> {
-    let [first, second, ..] = passes else {
+    let [first, second] = passes else {
         return Err(no_case());
     };
     let (raises, text) = first_word(text);

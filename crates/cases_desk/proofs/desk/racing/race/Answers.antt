@@ -11,8 +11,6 @@ use Rattle.chpw_journal.specs.contracts.memory_sink.MemorySinkJournalSink.TheImp
 use Rattle.chpw_journal.proofs.memory_sink.MemorySink.TheSendSync as memory
 use Rattle.chpw_messages.specs.contracts.service.Service as Service
 use Rattle.chpw_messages.proofs.service.Service.TheSendSync as service
-use Rattle.chpw_client.specs.contracts.request.SentRequest as SentRequest
-use Rattle.chpw_client.proofs.request.SentRequest.TheSendSync as sent
 use Rattle.cases_desk.specs.contracts.desk.racing.Told as Told
 use Rattle.cases_desk.proofs.desk.racing.Told.TheSendSync as told
 use Rattle.cases_desk.proofs.SendLemmas.{seven_sync}
@@ -22,6 +20,6 @@ pub for_each_mut-requires-sync-F : goal.for_each_mut-requires-sync-F
 for_each_mut-requires-sync-F g c κs within =
     let desk = Desk.the_row (param 0 g.row.D) MemorySink.the_row g.D.DeskName g.D.Ledger g.D.LogName sink.ghosts in
     seven_sync _ _ _ _ _ _ _ _ _ _ (shr_sync _ _ (param 1 g.row.R) (search sendable)) (shr_sync _ _ Barrier.the_row (search (barrier.the_sync, sendable)))
-    (shr_sync _ _ Told.the_row (search (told.the_sync, sendable))) (shr_sync _ _ Global.the_row (search (global.the_sync, sendable)))
-    (shr_sync _ _ Service.the_row (search (service.the_sync, sendable))) (shr_sync _ _ desk (search (desk_sync, memory.the_send, sendable)))
-    (shr_sync _ _ SentRequest.the_row (search (sent.the_sync, sendable)))
+    (shr_sync _ _ Global.the_row (search (global.the_sync, sendable))) (shr_sync _ _ Service.the_row (search (service.the_sync, sendable)))
+    (shr_sync _ _ desk (search (desk_sync, memory.the_send, sendable))) (shr_sync _ _ Told.the_row (search (told.the_sync, sendable)))
+    (search sendable)
