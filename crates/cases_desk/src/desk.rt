@@ -6,6 +6,7 @@ mod closing;
 mod lacking;
 mod opening;
 mod overtaken;
+mod pool;
 mod racing;
 mod running;
 mod scene;
@@ -15,20 +16,19 @@ mod words;
 
 use crate::desk::alone::alone_text;
 use crate::desk::opening::Opening;
+pub use crate::desk::pool::Machine;
 use crate::desk::running::{End, run};
 use std::alloc::Global;
 use std::io::{self, Write};
-use std::sync::Wait;
-use std::thread::Threads;
 use support_cases::Blocks;
 
 /// The blocks of the topic.
 #[derive(Drop)]
-pub struct Cases<'a, R: Threads + Wait + Sync> {
+pub struct Cases<'a, R: Machine> {
     pub rt: &'a R,
 }
 
-impl<R: Threads + Wait + Sync> Blocks for Cases<'_, R> {
+impl<R: Machine> Blocks for Cases<'_, R> {
     fn print<W: Write>(
         &mut self,
         alloc: Global,

@@ -8,18 +8,21 @@
 
 mod desk;
 
+use desk::Machine;
 use std::alloc::Global;
 use std::io::{self, Write};
+use std::net::{Net, TcpListener, TcpStream};
 use std::sync::Wait;
 use std::thread::Threads;
+use std::time::Clock;
 use support_cases::{Topics, answer_blocks, print_topics, refuse_lines};
 
 #[derive(Drop)]
-struct Cases<'a, R: Threads + Wait + Sync> {
+struct Cases<'a, R: Machine> {
     rt: &'a R,
 }
 
-impl<R: Threads + Wait + Sync> Topics for Cases<'_, R> {
+impl<R: Machine> Topics for Cases<'_, R> {
     fn has(&self, topic: &str) -> bool {
         topic == "desk"
     }
@@ -39,5 +42,20 @@ impl<R: Threads + Wait + Sync> Topics for Cases<'_, R> {
 }
 
 fn main(rt: HostRuntime) -> io::Result<()> {
-    print_topics(&rt, &mut Cases { rt: &rt })
+    print_desks(&rt)
+}
+
+// The bounds of `Machine` are written out, since a caller of one type has to name what they speak of.
+fn print_desks<R>(rt: &R) -> io::Result<()>
+where
+    R: Threads
+        + Wait
+        + Clock
+        + Sync
+        + AllocGlobal
+        + Net<Listener = TcpListener, Stream = TcpStream>
+        + Input
+        + Print,
+{
+    print_topics(rt, &mut Cases { rt })
 }

@@ -1,9 +1,7 @@
 //! Requests of clients, and what they print for the replies.
-ghost use Rattle.std.specs.Prelude.{◌≡◌, ◌<◌, ◌≤ℤ◌, pos};
-ghost use Rattle.chpw_client.specs.Questions.{latest_second};
 
 use crate::desk::words::{first_word, no_case, number};
-use chpw_client::{LONGEST_PASSWORD, SentRequest, client_line, client_request};
+use chpw_client::{LAST_START, LONGEST_PASSWORD, SentRequest, client_line, client_request};
 use chpw_decider::Decider;
 use chpw_endpoints::Endpoints;
 use chpw_messages::Service;
@@ -27,15 +25,30 @@ const WORDS: [u32; 9] = [1, 2, 3, 4, 5, 6, 7, 8, 9];
 pub fn request(alloc: Global, text: &str) -> io::Result<SentRequest> {
     let (client, text) = first_word(text);
     let (micros, password) = first_word(text);
+    request_at(alloc, sent_at(number(Some(micros))), client, password)
+}
+
+/// The request of a client that asks at this moment for a new password of its own.
+pub fn request_at(
+    alloc: Global,
+    now: Moment,
+    client: &str,
+    password: &str,
+) -> io::Result<SentRequest> {
     let config = config(alloc, Vec::new(alloc), 4, 1)?;
-    if password.len() > LONGEST_PASSWORD || config.service.as_slice().is_empty() {
+    if now.seconds < 0
+        || now.seconds > LAST_START
+        || now.micros >= 1_000_000
+        || password.len() > LONGEST_PASSWORD
+        || config.service.as_slice().is_empty()
+    {
         return Err(no_case());
     }
     let client = name(alloc, client)?;
     let sent = client_request(
         alloc,
         &config,
-        sent_at(number(Some(micros))),
+        now,
         &client,
         password.as_bytes(),
         None,
@@ -46,14 +59,10 @@ pub fn request(alloc: Global, text: &str) -> io::Result<SentRequest> {
     Ok(sent?)
 }
 
-fn sent_at(micros: u32) -> Moment
-    ensures start { pos 0 ≤ℤ result.seconds }
-    ensures end { result.seconds ≤ℤ pos latest_second }
-    ensures micros { result.micros < 1000000 }
-{
+fn sent_at(micros: u32) -> Moment {
     Moment {
         seconds: NOW.seconds,
-        micros: if micros < 1_000_000 { micros } else { 0 },
+        micros,
     }
 }
 

@@ -4,6 +4,7 @@ ghost use Rattle.chpw_book.specs.Starting.{IsNamed};
 
 use crate::desk::closing::{closed_text, finish};
 use crate::desk::opening::Opening;
+use crate::desk::pool::Machine;
 use crate::desk::scene::Scene;
 use crate::desk::several::answers_text;
 use crate::desk::words::no_case;
@@ -14,7 +15,6 @@ use std::alloc::Global;
 use std::io::{self, Error, ErrorKind};
 use std::marker::Brand;
 use std::sync::Wait;
-use std::thread::Threads;
 
 /// How many bytes the journal has room for.
 const ROOM: usize = 4000;
@@ -46,7 +46,7 @@ impl End {
 }
 
 /// The answer to each of these lines, in which workers decide at a desk, and what the desk leaves.
-pub fn run<R: Threads + Wait + Sync>(
+pub fn run<R: Machine>(
     rt: &R,
     alloc: Global,
     opening: Opening<'_>,
@@ -62,7 +62,7 @@ pub fn run<R: Threads + Wait + Sync>(
     run_at::<Brand, R>(rt, alloc, unnamed, &service, opening, lines, end)
 }
 
-fn run_at<D: DeskName + Send + Sync, R: Threads + Wait + Sync>(
+fn run_at<D: DeskName + Send + Sync, R: Machine>(
     rt: &R,
     alloc: Global,
     unnamed: UnnamedDesk,

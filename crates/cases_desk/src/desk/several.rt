@@ -2,6 +2,7 @@
 
 use crate::desk::asking::{printed_answer, request};
 use crate::desk::overtaken::Overtaken;
+use crate::desk::pool::{Machine, pool};
 use crate::desk::racing::together;
 use crate::desk::scene::Scene;
 use crate::desk::words::{first_word, no_case, number};
@@ -13,14 +14,18 @@ use std::sync::Wait;
 use std::thread::Threads;
 
 /// The answer to each of these lines.
-pub fn answers_text<D: DeskName + Send + Sync, R: Threads + Wait + Sync>(
+pub fn answers_text<D: DeskName + Send + Sync, R: Machine>(
     scene: &Scene<'_, D, R>,
-    passes: &mut [Pass<D>],
+    passes: &mut Vec<Pass<D>>,
     lines: &str,
 ) -> io::Result<String> {
     let mut text = String::new(scene.alloc);
     for line in lines.lines() {
-        text.push_str(answer(scene, passes, line)?.as_str())?;
+        let said = match line.strip_prefix("pool ") {
+            Some(requests) => pool(scene, passes, requests)?,
+            None => answer(scene, passes, line)?,
+        };
+        text.push_str(said.as_str())?;
         text.push_str("\n")?;
     }
     Ok(text)
