@@ -1,189 +1,108 @@
-//! Decisions, repeated when memory was refused.
+//! Decisions, made again when memory was refused.
 
 use crate::page::Page;
-use crate::stop::{Fell, Stop};
-use crate::world::{complete, opened_request, password};
-use chpw_table::{DecideFault, Opened, Refused, Verdict};
+use crate::seen::put_seen;
+use crate::stop::{Fell, NO_CALL, Stop, beside, stop_of, verdict_of};
+use crate::streams::serve;
+use crate::world::{NOW, password, request};
+use chpw_decider::Decider;
+use chpw_messages::Service;
+use chpw_serve::Ended;
+use chpw_table::{Opened, Refused};
 use std::alloc::Global;
 
-/// A decider whose state can be shown.
-pub trait Decides {
-    /// Decides a request that has its keys; or the keys are derived from the password that is given.
-    fn ask(&mut self, opened: Opened, password: Option<&[u8]>) -> Result<Verdict, Refused>;
-
-    /// Writes all that can be seen of it.
-    fn show(&mut self, page: &mut Page);
+/// A decider that serves streams.
+pub trait Seen: Decider {
+    /// Serves a stream.
+    fn serve(
+        &mut self,
+        alloc: Global,
+        service: &Service,
+        stream: &[u8],
+        written: &mut Vec<u8>,
+    ) -> Ended;
 }
 
-/// Only want of memory may refuse.
-const ANOTHER: Stop = Stop::Wrong("another refusal");
-
-/// All that can be seen.
-pub fn visible_state<D: Decides>(alloc: Global, decider: &mut D) -> Result<Page, Stop> {
-    let mut page = Page::new(alloc);
-    decider.show(&mut page);
-    page.whole()?;
-    Ok(page)
-}
-
-/// Checks that all that can be seen is unchanged.
-pub fn check_unchanged<D: Decides>(decider: &mut D, was: &Page) -> Result<(), Stop> {
-    let now = visible_state(was.alloc(), decider)?;
-    if now.text() == was.text() {
-        Ok(())
-    } else {
-        Err(Stop::Wrong("the table isn't as it was"))
-    }
-}
-
-/// The verdict of a request outside the call.
-fn decided_beside<D: Decides>(
+/// `decide`, `derive` or `serve` after this many changes, and what can then be seen.
+pub fn run_step<D: Seen>(
+    page: &mut Page,
     decider: &mut D,
-    opened: Opened,
-    password: Option<&[u8]>,
-) -> Result<Verdict, Stop> {
-    match decider.ask(opened, password) {
-        Ok(verdict) => Ok(verdict),
-        Err(refused) => Err(stop_beside(&refused)),
-    }
-}
-
-/// Why a line gives nothing when its set-up was refused.
-fn stop_beside(refused: &Refused) -> Stop {
-    match refused.fault {
-        DecideFault::Memory => Stop::Beside,
-        _ => ANOTHER,
-    }
+    call: &str,
+    before: u32,
+) -> Result<Fell, Stop> {
+    change_often(page.alloc(), decider, before)?;
+    let fell = match call {
+        "decide" => decide(page, decider, before)?,
+        "derive" => derive(page, decider, before)?,
+        "serve" => serve(page, decider, before)?,
+        _ => return Err(NO_CALL),
+    };
+    page.put("; ");
+    put_seen(page, decider);
+    Ok(fell)
 }
 
 /// This many changes, each to another password.
-pub fn change_often<D: Decides>(alloc: Global, decider: &mut D, count: u32) -> Result<(), Stop> {
+pub fn change_often<D: Decider>(alloc: Global, decider: &mut D, count: u32) -> Result<(), Stop> {
     for number in 0..count {
-        let opened = complete(alloc, number)?;
-        decided_beside(decider, opened, None)?;
+        let opened = request(alloc, number, true)?;
+        beside(verdict_of(decider.decide(NOW, opened)))?;
     }
     Ok(())
 }
 
-/// The verdict of a request after this many changes, with its keys or with keys to be derived.
-pub fn decide_after_changes<D: Decides>(
-    page: &mut Page,
-    decider: &mut D,
-    before: u32,
-    derives: bool,
-) -> Result<Fell, Stop> {
-    let alloc = page.alloc();
-    change_often(alloc, decider, before)?;
-    let (fell, verdict) = if derives {
-        verdict_deriving(alloc, decider, before)?
-    } else {
-        verdict_of(alloc, decider, complete(alloc, before)?, None)?
+/// Decides a request that has its keys.
+fn decide<D: Decider>(page: &mut Page, decider: &mut D, number: u32) -> Result<Fell, Stop> {
+    let opened = request(page.alloc(), number, true)?;
+    let refused = match decider.decide(NOW, opened) {
+        Ok(verdict) => {
+            page.put(verdict.text());
+            return Ok(Fell::Nowhere);
+        }
+        Err(refused) => refused,
     };
+    let verdict = verdict_of(decider.decide(NOW, handed_back(refused)?))?;
     page.put(verdict.text());
-    page.put("; ");
-    decider.show(page);
-    Ok(fell)
+    Ok(Fell::Call)
 }
 
-/// The verdict of a request whose keys are derived.
-fn verdict_deriving<D: Decides>(
-    alloc: Global,
+/// Decides a request whose keys are to be derived.
+fn derive<D: Decider>(page: &mut Page, decider: &mut D, number: u32) -> Result<Fell, Stop> {
+    let password = password(page.alloc(), number)?;
+    let password = password.as_str().as_bytes();
+    let opened = request(page.alloc(), number, false)?;
+    let refused = match decider.decide_deriving(NOW, opened, password) {
+        Ok(verdict) => {
+            page.put(verdict.text());
+            return Ok(Fell::Nowhere);
+        }
+        Err(refused) => refused,
+    };
+    let opened = handed_back(refused)?;
+    let verdict = verdict_of(decider.decide_deriving(NOW, opened, password))?;
+    page.put(verdict.text());
+    Ok(Fell::Call)
+}
+
+/// The request that want of memory refused.
+fn handed_back(refused: Refused) -> Result<Opened, Stop> {
+    match stop_of(&refused) {
+        Stop::Call => Ok(refused.opened),
+        stop => Err(stop),
+    }
+}
+
+/// Decides a request, and not again if it was refused.
+pub fn decide_once<D: Decider>(
+    page: &mut Page,
     decider: &mut D,
     number: u32,
-) -> Result<(Fell, Verdict), Stop> {
-    let password = password(alloc, number)?;
-    let password = Some(password.as_str().as_bytes());
-    verdict_of(alloc, decider, opened_request(alloc, number)?, password)
-}
-
-/// What a refused request is compared with.
-#[derive(Drop)]
-struct Before {
-    opened: Opened,
-    seen: Page,
-}
-
-fn looked_at<D: Decides>(alloc: Global, decider: &mut D, opened: &Opened) -> Result<Before, Stop> {
-    let seen = visible_state(alloc, decider)?;
-    let opened = opened.clone()?;
-    Ok(Before { opened, seen })
-}
-
-/// The verdict of a request, and where the refused allocation fell.
-fn verdict_of<D: Decides>(
-    alloc: Global,
-    decider: &mut D,
-    opened: Opened,
-    password: Option<&[u8]>,
-) -> Result<(Fell, Verdict), Stop> {
-    let was = looked_at(alloc, decider, &opened)?;
-    verdict_from(decider, opened, password, &was)
-}
-
-fn verdict_from<D: Decides>(
-    decider: &mut D,
-    opened: Opened,
-    password: Option<&[u8]>,
-    was: &Before,
-) -> Result<(Fell, Verdict), Stop> {
-    match decider.ask(opened, password) {
-        Ok(verdict) => Ok((Fell::Nowhere, verdict)),
-        Err(refused) => asked_again(decider, refused, password, was),
-    }
-}
-
-/// The verdict of a request that was refused, made again.
-fn asked_again<D: Decides>(
-    decider: &mut D,
-    refused: Refused,
-    password: Option<&[u8]>,
-    was: &Before,
-) -> Result<(Fell, Verdict), Stop> {
-    left_alone(decider, &refused, password, was)?;
-    match decided_beside(decider, refused.opened, password) {
-        Ok(verdict) => Ok((Fell::Call, verdict)),
-        Err(stop) => Err(stop),
-    }
-}
-
-/// Checks that a refusal has left everything unchanged, its request too.
-fn left_alone<D: Decides>(
-    decider: &mut D,
-    refused: &Refused,
-    password: Option<&[u8]>,
-    was: &Before,
-) -> Result<(), Stop> {
-    handed_back(refused, password, was)?;
-    check_unchanged(decider, &was.seen)
-}
-
-/// Checks that want of memory refused a request, and returned it unchanged; if its keys are to be derived it may have
-/// them.
-fn handed_back(refused: &Refused, password: Option<&[u8]>, was: &Before) -> Result<(), Stop> {
-    match refused.fault {
-        DecideFault::Memory => {}
-        _ => return Err(ANOTHER),
-    }
-    if password.is_some() || refused.opened.is_same(&was.opened) {
-        Ok(())
-    } else {
-        Err(Stop::Wrong("the request isn't as it was"))
-    }
-}
-
-/// A request decided after this many changes, and not again if it was refused.
-pub fn decided_once<D: Decides>(
-    page: &mut Page,
-    decider: &mut D,
-    before: u32,
 ) -> Result<Fell, Stop> {
-    let alloc = page.alloc();
-    change_often(alloc, decider, before)?;
-    let opened = complete(alloc, before)?;
+    let opened = request(page.alloc(), number, true)?;
     page.put("left");
-    match decided_beside(decider, opened, None) {
+    match verdict_of(decider.decide(NOW, opened)) {
         Ok(_) => Ok(Fell::Nowhere),
-        Err(Stop::Beside) => Ok(Fell::Call),
+        Err(Stop::Call) => Ok(Fell::Call),
         Err(stop) => Err(stop),
     }
 }

@@ -1,67 +1,42 @@
-//! Layer: tests. Touches: standard input and output, files and sockets. Called by: nobody, it is run.
+//! Layer: tests. Touches: standard input and output. Called by: nobody, it is run.
 //!
 //! Calls that take memory, one a line on standard input, with what each gives on standard output.
 //!
 //! The program is run with one of its allocations refused (`tests.hostile.allocations`). A call that then answers want of
-//! memory is made again, after a check of what the refusal left; if memory was refused outside the call, everything is
-//! set up again. So a line prints the same whichever allocation was refused, unless a call answers something else, or
-//! leaves something changed: that prints `wrong` and what it was.
+//! memory is made again; if memory was refused outside the call, or in one of a table, whose clauses say what a refusal
+//! leaves, everything is set up again. So a line prints the same whichever allocation was refused, unless a call answers
+//! something else, or leaves something changed.
 //!
 //! `where` before a call prints in front of its line where the refused allocation fell, in brackets. `refused` means
-//! that the call answered so, `refused behind its entry` that its entry stands; after `beside` the call was not made,
+//! that the call answered so, `refused after its entry` that its entry stands; after `beside` the call was not made,
 //! and `nowhere` says that nothing was noticed. README.md lists the calls. A line that begins with `#`, or is empty, is
 //! copied. Neither reading nor printing takes memory.
 #![tactic(auto)]
 
-mod calls;
-mod client;
-mod commands;
+mod alone;
 mod deciding;
 mod desks;
-mod frames;
-mod keys;
-mod making;
-mod messages;
 mod page;
-mod pools;
-mod records;
 mod seen;
 mod stop;
 mod streams;
 mod tables;
-mod workers;
 mod world;
 
-use calls::run_call;
 use chpw_read_fully::{FillOutcome, fill};
 use page::Page;
-use pools::Machine;
 use std::io::{self, Error, ErrorKind, Write};
-use std::net::{Net, TcpListener, TcpStream};
 use std::sync::Wait;
-use std::thread::Threads;
-use std::time::Clock;
-use stop::{Fell, Stop};
+use stop::{Fell, NO_CALL, Stop};
 
 /// The longest input.
-const INPUT: usize = 32_768;
+const INPUT: usize = 4_096;
 
 fn main(rt: HostRuntime) -> io::Result<()> {
     print_lines(&rt)
 }
 
-// The bounds of `Machine` are written out, since a caller of one type has to name what they speak of.
-fn print_lines<R>(rt: &R) -> io::Result<()>
-where
-    R: Threads
-        + Wait
-        + Clock
-        + Sync
-        + AllocGlobal
-        + Net<Listener = TcpListener, Stream = TcpStream>
-        + Input
-        + Print,
-{
+fn print_lines<R: Wait + AllocGlobal + Input + Print>(rt: &R) -> io::Result<()> {
     let mut input = [0; INPUT];
     let mut reads = u64::MAX;
     let count = match fill(&mut rt.reader(), &mut input, &mut reads) {
@@ -75,7 +50,7 @@ where
     Ok(())
 }
 
-fn print_line<R: Machine + Print>(rt: &R, line: &str) -> io::Result<()> {
+fn print_line<R: Wait + AllocGlobal + Print>(rt: &R, line: &str) -> io::Result<()> {
     if line.is_empty() || line.starts_with('#') {
         return println!(rt; "{line}");
     }
@@ -105,7 +80,7 @@ fn print_said(
 
 /// Writes what a line gives; if memory was refused outside the call, everything is set up again. Returns where the
 /// refused allocation fell.
-fn twice<R: Machine>(rt: &R, page: &mut Page, line: &str) -> Result<Fell, Stop> {
+fn twice<R: Wait>(rt: &R, page: &mut Page, line: &str) -> Result<Fell, Stop> {
     let fell = match once(rt, page, line) {
         Err(Stop::Call) => Fell::Call,
         Err(Stop::Beside) => Fell::Beside,
@@ -116,8 +91,21 @@ fn twice<R: Machine>(rt: &R, page: &mut Page, line: &str) -> Result<Fell, Stop> 
     Ok(fell)
 }
 
-fn once<R: Machine>(rt: &R, page: &mut Page, line: &str) -> Result<Fell, Stop> {
+fn once<R: Wait>(rt: &R, page: &mut Page, line: &str) -> Result<Fell, Stop> {
     let fell = run_call(rt, page, line)?;
     page.whole()?;
     Ok(fell)
+}
+
+/// `KIND CALL N`: writes what the call gives, after N changes.
+fn run_call<R: Wait>(rt: &R, page: &mut Page, line: &str) -> Result<Fell, Stop> {
+    let (kind, text) = line.split_once(' ').unwrap_or((line, ""));
+    let (call, number) = text.split_once(' ').unwrap_or((text, "0"));
+    let before = number.parse().unwrap_or(0);
+    match kind {
+        "table" => tables::run_call(page, call, before),
+        "alone" => alone::run_call(page, call, before),
+        "desk" => desks::run_call(rt, page, call, before),
+        _ => Err(NO_CALL),
+    }
 }

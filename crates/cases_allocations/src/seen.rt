@@ -1,77 +1,52 @@
-//! Tables, receipts and passes, shown as text.
+//! Tables, receipts and lookups, shown as text.
 
 use crate::page::Page;
-use crate::world::known_name;
-use chpw_book::{Desk, DeskName, Pass};
-use chpw_decider::{Alone, Decider};
+use crate::world::{ALICE, BOB, known_name};
+use chpw_decider::Decider;
 use chpw_journal::MemorySink;
-use chpw_table::{Entry, Event, KdcUpdate, KeyRow, Lookup, Receipt, Table};
+use chpw_table::{Entry, Event, KeyRow, Lookup, Table};
 
-/// The principals.
-const NAMES: [&str; 2] = ["alice", "bob"];
-
-/// The changes accepted, how many ids are held, and each principal's keys, newest first.
-pub fn put_table(page: &mut Page, table: &Table) {
+/// What a table and its journal hold: the changes accepted, how many ids are held, each principal's keys, newest first, and
+/// the journal's bytes.
+pub fn put_kept(page: &mut Page, table: &Table, sink: &MemorySink) {
     page.put("seen ");
     page.number(table.changes_accepted());
     page.put(" ids ");
     page.number(table.ids_held());
-    for principal in NAMES {
-        put_principal(page, table, principal);
-    }
+    put_principal(page, table, ALICE);
+    put_principal(page, table, BOB);
+    page.put(" journal ");
+    page.hexadecimal(sink.bytes());
 }
 
 fn put_principal(page: &mut Page, table: &Table, principal: &str) {
     page.put(" ");
     page.put(principal);
     match known_name(page.alloc(), principal) {
-        Ok(name) => {
-            for key in table.keys_of(&name).unwrap_or(&[]) {
-                put_key(page, key);
-            }
-        }
+        Ok(name) => put_keys(page, table.keys_of(&name).unwrap_or(&[])),
         Err(_) => page.leave_out(),
     }
 }
 
-fn put_key(page: &mut Page, key: &KeyRow) {
-    page.put(" ");
-    page.number(key.kvno);
-    page.put(":");
-    page.number(key.count);
-    page.put(":");
-    page.hexadecimal(&key.aes128);
-    page.put(":");
-    page.hexadecimal(&key.aes256);
-}
-
-/// What a table and its journal hold.
-pub fn put_kept(page: &mut Page, table: &Table, sink: &MemorySink) {
-    put_table(page, table);
-    page.put(" journal ");
-    page.hexadecimal(sink.bytes());
-}
-
-/// What an event is about, and its verdict.
-fn event_words(event: &Event) -> (&'static str, u32, &'static str) {
-    match event {
-        Event::Ask { opened, verdict } => (" of ", opened.cusec, verdict.text()),
-        Event::Raise { count, verdict } => (" to ", *count, verdict.text()),
-        Event::Update { update, verdict } => (" from ", version_in(update), verdict.text(update)),
-    }
-}
-
-/// The version that an update has; 0 for none.
-fn version_in(update: &KdcUpdate) -> u32 {
-    match update {
-        KdcUpdate::Adopt { key, .. } => key.kvno,
-        KdcUpdate::Lift { kvno, .. } => *kvno,
-        KdcUpdate::Remove { .. } => 0,
+fn put_keys(page: &mut Page, keys: &[KeyRow]) {
+    for key in keys {
+        page.put(" ");
+        page.number(key.kvno);
+        page.put(":");
+        page.number(key.count);
+        page.put(":");
+        page.hexadecimal(&key.aes128);
+        page.put(":");
+        page.hexadecimal(&key.aes256);
     }
 }
 
 fn put_entry(page: &mut Page, entry: &Entry) {
-    let (word, about, verdict) = event_words(&entry.event);
+    let (word, about, verdict) = match &entry.event {
+        Event::Ask { opened, verdict } => (" of ", opened.cusec, verdict.text()),
+        Event::Raise { count, verdict } => (" to ", *count, verdict.text()),
+        Event::Update { update, verdict } => (" an update", 0, verdict.text(update)),
+    };
     page.put(" ");
     page.number(u32::from(entry.worker));
     page.put(".");
@@ -91,64 +66,32 @@ pub fn put_history(page: &mut Page, history: &[Entry]) {
     }
 }
 
-/// A worker's receipts.
-pub fn put_receipts(page: &mut Page, receipts: &[Receipt]) {
+/// All that can be seen of a decider: its receipts, and what lookups show of each principal.
+pub fn put_seen<D: Decider>(page: &mut Page, decider: &mut D) {
     page.put("receipts");
-    for receipt in receipts {
+    for receipt in decider.receipts() {
         page.put(" ");
         page.number(receipt.position);
         page.put(" after ");
         page.number(receipt.basis);
         put_entry(page, &receipt.entry);
     }
-}
-
-/// All that can be seen of a table that one thread owns.
-pub fn put_alone(page: &mut Page, alone: &Alone<MemorySink>) {
-    put_receipts(page, alone.receipts());
-    page.put(" ");
-    put_kept(page, alone.table(), alone.sink());
-}
-
-/// All that can be seen with a pass: its receipts and front, and what lookups show of each principal.
-pub fn put_pass<D: DeskName>(page: &mut Page, desk: &Desk<D, MemorySink>, pass: &mut Pass<D>) {
-    put_receipts(page, pass.receipts());
-    if let Some(front) = pass.front() {
-        page.put(" front ");
-        page.number(front.len());
-    }
-    if pass.was_full() {
-        page.put(" full");
-    }
-    for principal in NAMES {
-        put_shown(page, desk, pass, principal);
-    }
+    put_shown(page, decider, ALICE);
+    put_shown(page, decider, BOB);
 }
 
 /// What a lookup of a principal shows.
-fn put_shown<D: DeskName>(
-    page: &mut Page,
-    desk: &Desk<D, MemorySink>,
-    pass: &mut Pass<D>,
-    principal: &str,
-) {
-    let Ok(name) = known_name(page.alloc(), principal) else {
-        return page.leave_out();
-    };
-    match desk.lookup(pass, &name) {
-        Ok(found) => put_lookup(page, &found),
+fn put_shown<D: Decider>(page: &mut Page, decider: &mut D, principal: &str) {
+    match known_name(page.alloc(), principal) {
+        Ok(name) => put_lookup(page, decider.lookup(&name)),
         Err(_) => page.leave_out(),
     }
 }
 
-pub fn put_lookup(page: &mut Page, found: &Option<Lookup>) {
-    match found {
-        None => page.put(" none"),
-        Some(found) => put_found(page, found),
-    }
-}
-
-fn put_found(page: &mut Page, found: &Lookup) {
+fn put_lookup(page: &mut Page, found: Option<Lookup>) {
+    let Some(found) = found else {
+        return page.put(" none");
+    };
     page.put(" kvno ");
     page.number(found.kvno);
     page.put(" seen ");

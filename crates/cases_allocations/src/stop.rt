@@ -1,7 +1,6 @@
 //! What a line gives, and why it gives nothing.
 
-use krb_der::ReadError;
-use krb_msgs::OpenError;
+use chpw_table::{DecideFault, Refused, Verdict};
 use std::alloc::{AllocError, AllocFailed};
 use std::io::{self, ErrorKind};
 
@@ -15,9 +14,7 @@ pub enum Fell {
     /// The call answered want of memory.
     Call,
     /// The call answered want of memory, and its entry stands.
-    Behind,
-    /// A connection ended without a reply.
-    Connection,
+    AfterEntry,
 }
 
 impl Fell {
@@ -26,8 +23,7 @@ impl Fell {
             Fell::Nowhere => "nowhere",
             Fell::Beside => "beside",
             Fell::Call => "refused",
-            Fell::Behind => "refused behind its entry",
-            Fell::Connection => "a connection ended",
+            Fell::AfterEntry => "refused after its entry",
         }
     }
 }
@@ -42,6 +38,8 @@ pub enum Stop {
     /// The call answered something else, or something has changed.
     Wrong(&'static str),
 }
+
+pub const NO_CALL: Stop = Stop::Wrong("no such call");
 
 impl From<AllocError> for Stop {
     fn from(_: AllocError) -> Stop {
@@ -64,15 +62,6 @@ impl From<io::Error> for Stop {
     }
 }
 
-impl From<ReadError> for Stop {
-    fn from(error: ReadError) -> Stop {
-        match error {
-            ReadError::Memory => Stop::Beside,
-            ReadError::Fault(_) => Stop::Wrong("a text of the set-up isn't read"),
-        }
-    }
-}
-
 /// The result of a call whose refusal is `AllocError`.
 pub fn called<T>(answer: Result<T, AllocError>) -> Result<T, Stop> {
     match answer {
@@ -81,17 +70,19 @@ pub fn called<T>(answer: Result<T, AllocError>) -> Result<T, Stop> {
     }
 }
 
-/// Want of memory, in the call or outside it.
-pub fn wanting(in_call: bool) -> Stop {
-    if in_call { Stop::Call } else { Stop::Beside }
+/// A verdict; only want of memory may refuse one.
+pub fn verdict_of(answer: Result<Verdict, Refused>) -> Result<Verdict, Stop> {
+    match answer {
+        Ok(verdict) => Ok(verdict),
+        Err(refused) => Err(stop_of(&refused)),
+    }
 }
 
-/// The result of a call that opens a message.
-pub fn open_result<T, F: Drop>(answer: Result<T, OpenError<F>>) -> Result<T, Stop> {
-    match answer {
-        Ok(value) => Ok(value),
-        Err(OpenError::Memory) => Err(Stop::Call),
-        Err(OpenError::Fault(_)) => Err(Stop::Wrong("a fault of the message")),
+/// Why a line gives nothing when its decision was refused.
+pub fn stop_of(refused: &Refused) -> Stop {
+    match refused.fault {
+        DecideFault::Memory => Stop::Call,
+        _ => Stop::Wrong("another refusal"),
     }
 }
 
