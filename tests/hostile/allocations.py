@@ -64,9 +64,9 @@ def swept_service(made, program):
 
 def sweeps(given, made, port):
     """What is swept, the longest first."""
+    script = SCRIPT.read_text()
     yield functools.partial(swept_service, made, given.server)
     for command in allocation_runs.COMMANDS:
-        script = SCRIPT.read_text()
         yield functools.partial(allocation_runs.swept_command, made, given.server, script, port, command)
     for case in allocation_runs.cases():
         yield functools.partial(allocation_runs.swept_case, made, *case)
