@@ -5,6 +5,7 @@ from its beginning. So it is with programs of cases, each on the first case of a
 """
 
 import itertools
+import re
 import tempfile
 
 from harness.command import TOP
@@ -44,8 +45,8 @@ COMMANDS = [
     "client --help",
     "serve --port 0",
 ]
-# How a program ends that wants memory, and what it says where it only leaves warnings out.
-ENDS = {"Error: Kind(OutOfMemory)", "memory"}
+# What a program says that ends for want of memory, and where it only leaves warnings out.
+WANTING = re.compile(r"memory|Error: .*OutOfMemory.*")
 LEFT_OUT = "realm.toml: memory: warnings are left out"
 
 
@@ -70,9 +71,10 @@ def place(run, whole):
     if run[:3] == whole[:3]:
         return "nowhere", None
     said = run.errors.splitlines()
-    rest = [line for line in said if line not in ENDS and line != LEFT_OUT]
+    ends = [line for line in said if WANTING.fullmatch(line)]
+    rest = [line for line in said if line not in ends and line != LEFT_OUT]
     fault = None if is_part(rest, whole.errors.splitlines()) else f"says {run.errors.strip()[:200]!r}"
-    if ENDS.intersection(said):
+    if ends:
         if run.status != 1 or not whole.out.startswith(run.out):
             fault = f"ends with {run.status} after {run.out.strip()[:200]!r}"
         return "refused", fault
