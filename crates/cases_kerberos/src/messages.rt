@@ -12,6 +12,7 @@ mod parts;
 mod privates;
 mod refusal;
 mod replies;
+pub mod world;
 
 use crate::messages::refusal::Refusal;
 use std::alloc::Global;

@@ -1,15 +1,15 @@
-//! The answers, a function for each kind of case. Byte strings are written in hexadecimal.
+//! The answers, a function for each kind of case or for two that are opposites. Byte strings are written in hexadecimal.
 
 ghost use Rattle.std.specs.Prelude.{◌≤◌, ◌↔◌, IsTrue, IfOk};
 
 use crate::keys::refusal::Refusal;
-use crate::keys::words::{bytes, cipher, etype, key, number, sixteen};
+use crate::keys::words::{bytes, cipher, etype, key, number, sixteen, two};
 use krb_aes::{BLOCK_LEN, cts_decrypt, cts_encrypt};
 use krb_keys::{
-    FOLD_MAX_LEN, Key, PBKDF2_MAX_LEN, derive_key, hmac_sha1, nfold, pbkdf2, seal, string_to_key,
+    FOLD_MAX_LEN, PBKDF2_MAX_LEN, derive_key, hmac_sha1, nfold, pbkdf2, seal, string_to_key,
     string_to_keys, unseal,
 };
-use std::alloc::{AllocError, Global};
+use std::alloc::Global;
 
 type Answer = Result<String, Refusal>;
 
@@ -20,15 +20,12 @@ pub fn answer(alloc: Global, line: &str) -> Answer {
         return Err(Refusal::NoSuchCase);
     };
     match *name {
-        "aes" => enciphered_block(alloc, words),
-        "unaes" => deciphered_block(alloc, words),
-        "cts" => enciphered_text(alloc, words),
-        "uncts" => deciphered_text(alloc, words),
+        "aes" | "unaes" => block(alloc, *name, words),
+        "cts" | "uncts" => text(alloc, *name, words),
         "hmac" => hmac(alloc, words),
         "pbkdf2" => stretched_bytes(alloc, words),
         "nfold" => folded_bytes(alloc, words),
-        "key" => named_key(alloc, words),
-        "show" => shown_key(alloc, words),
+        "key" | "show" => shown_key(alloc, *name, words),
         "derive" => derived_key(alloc, words),
         "string-to-key" => password_key(alloc, words),
         "string-to-keys" => password_keys(alloc, words),
@@ -38,28 +35,23 @@ pub fn answer(alloc: Global, line: &str) -> Answer {
     }
 }
 
-// aes KEY BLOCK
-fn enciphered_block(alloc: Global, words: &[&str]) -> Answer {
+// aes KEY BLOCK, unaes KEY BLOCK
+fn block(alloc: Global, name: &str, words: &[&str]) -> Answer {
     let [key, block] = words else {
         return Err(Refusal::WordCount);
     };
     let mut block = sixteen(block)?;
-    cipher(alloc, key)?.encrypt_block(&mut block);
-    Ok(hex::encode(alloc, block)?)
+    let cipher = cipher(alloc, key)?;
+    if name == "aes" {
+        cipher.encrypt_block(&mut block);
+    } else {
+        cipher.decrypt_block(&mut block);
+    }
+    hexadecimal(alloc, &block)
 }
 
-// unaes KEY BLOCK
-fn deciphered_block(alloc: Global, words: &[&str]) -> Answer {
-    let [key, block] = words else {
-        return Err(Refusal::WordCount);
-    };
-    let mut block = sixteen(block)?;
-    cipher(alloc, key)?.decrypt_block(&mut block);
-    Ok(hex::encode(alloc, block)?)
-}
-
-// cts KEY TEXT
-fn enciphered_text(alloc: Global, words: &[&str]) -> Answer {
+// cts KEY TEXT, uncts KEY TEXT
+fn text(alloc: Global, name: &str, words: &[&str]) -> Answer {
     let [key, text] = words else {
         return Err(Refusal::WordCount);
     };
@@ -68,22 +60,12 @@ fn enciphered_text(alloc: Global, words: &[&str]) -> Answer {
     if text.len() <= BLOCK_LEN {
         return Err(Refusal::BadLength);
     }
-    cts_encrypt(&cipher, &mut text);
-    Ok(hex::encode(alloc, text)?)
-}
-
-// uncts KEY TEXT
-fn deciphered_text(alloc: Global, words: &[&str]) -> Answer {
-    let [key, text] = words else {
-        return Err(Refusal::WordCount);
-    };
-    let cipher = cipher(alloc, key)?;
-    let mut text = bytes(alloc, text)?;
-    if text.len() <= BLOCK_LEN {
-        return Err(Refusal::BadLength);
+    if name == "cts" {
+        cts_encrypt(&cipher, &mut text);
+    } else {
+        cts_decrypt(&cipher, &mut text);
     }
-    cts_decrypt(&cipher, &mut text);
-    Ok(hex::encode(alloc, text)?)
+    hexadecimal(alloc, &text)
 }
 
 // hmac KEY TEXT
@@ -91,8 +73,8 @@ fn hmac(alloc: Global, words: &[&str]) -> Answer {
     let [key, text] = words else {
         return Err(Refusal::WordCount);
     };
-    let mac = hmac_sha1(&bytes(alloc, key)?, &bytes(alloc, text)?);
-    Ok(hex::encode(alloc, mac)?)
+    let (key, text) = two(alloc, key, text)?;
+    hexadecimal(alloc, &hmac_sha1(&key, &text))
 }
 
 // pbkdf2 PASSWORD SALT COUNT LENGTH
@@ -105,10 +87,11 @@ fn stretched_bytes(alloc: Global, words: &[&str]) -> Answer {
     if length > PBKDF2_MAX_LEN {
         return Err(Refusal::BadLength);
     }
+    let (password, salt) = two(alloc, password, salt)?;
     let mut buffer = [0; PBKDF2_MAX_LEN];
     let out = &mut buffer[..length];
-    pbkdf2(&bytes(alloc, password)?, &bytes(alloc, salt)?, count, out);
-    Ok(hex::encode(alloc, &*out)?)
+    pbkdf2(&password, &salt, count, out);
+    hexadecimal(alloc, out)
 }
 
 // nfold TEXT BITS
@@ -116,8 +99,8 @@ fn folded_bytes(alloc: Global, words: &[&str]) -> Answer {
     let [text, bits] = words else {
         return Err(Refusal::WordCount);
     };
-    let text = bytes(alloc, text)?;
     let bits = number(bits)? as usize;
+    let text = bytes(alloc, text)?;
     let length = bits / 8;
     if bits % 8 != 0 || !is_fold_length(length) || !is_fold_length(text.len()) {
         return Err(Refusal::BadLength);
@@ -125,7 +108,7 @@ fn folded_bytes(alloc: Global, words: &[&str]) -> Answer {
     let mut buffer = [0; FOLD_MAX_LEN];
     let out = &mut buffer[..length];
     nfold(&text, out);
-    Ok(hex::encode(alloc, &*out)?)
+    hexadecimal(alloc, out)
 }
 
 fn is_fold_length(length: usize) -> bool
@@ -134,22 +117,17 @@ fn is_fold_length(length: usize) -> bool
     1 <= length && length <= FOLD_MAX_LEN
 }
 
-// key ETYPE BYTES
-fn named_key(alloc: Global, words: &[&str]) -> Answer {
+// key ETYPE BYTES; show ETYPE BYTES, as it is printed for debugging
+fn shown_key(alloc: Global, name: &str, words: &[&str]) -> Answer {
     let [etype, bytes] = words else {
         return Err(Refusal::WordCount);
     };
     let key = key(alloc, etype, bytes)?;
-    Ok(format!(in alloc; "{} {}", key.etype().number(), key_text(alloc, &key)?)?)
-}
-
-// show ETYPE BYTES
-fn shown_key(alloc: Global, words: &[&str]) -> Answer {
-    let [etype, bytes] = words else {
-        return Err(Refusal::WordCount);
-    };
-    let key = key(alloc, etype, bytes)?;
-    Ok(format!(in alloc; "{key:?}")?)
+    if name == "show" {
+        return Ok(format!(in alloc; "{key:?}")?);
+    }
+    let bytes = hexadecimal(alloc, key.bytes())?;
+    Ok(format!(in alloc; "{} {bytes}", key.etype().number())?)
 }
 
 // derive ETYPE KEY CONSTANT
@@ -162,7 +140,7 @@ fn derived_key(alloc: Global, words: &[&str]) -> Answer {
     if constant.is_empty() || constant.len() > BLOCK_LEN {
         return Err(Refusal::BadLength);
     }
-    Ok(key_text(alloc, &derive_key(&key, &constant))?)
+    hexadecimal(alloc, derive_key(&key, &constant).bytes())
 }
 
 // string-to-key ETYPE PASSWORD SALT COUNT
@@ -170,14 +148,9 @@ fn password_key(alloc: Global, words: &[&str]) -> Answer {
     let [of_type, password, salt, count] = words else {
         return Err(Refusal::WordCount);
     };
-    let count = positive(count)?;
-    let key = string_to_key(
-        etype(of_type)?,
-        &bytes(alloc, password)?,
-        &bytes(alloc, salt)?,
-        count,
-    );
-    Ok(key_text(alloc, &key)?)
+    let (etype, count) = (etype(of_type)?, positive(count)?);
+    let (password, salt) = two(alloc, password, salt)?;
+    hexadecimal(alloc, string_to_key(etype, &password, &salt, count).bytes())
 }
 
 // string-to-keys PASSWORD SALT COUNT
@@ -186,9 +159,11 @@ fn password_keys(alloc: Global, words: &[&str]) -> Answer {
         return Err(Refusal::WordCount);
     };
     let count = positive(count)?;
-    let keys = string_to_keys(&bytes(alloc, password)?, &bytes(alloc, salt)?, count);
-    let aes128 = key_text(alloc, &keys.aes128)?;
-    Ok(format!(in alloc; "{aes128} {}", key_text(alloc, &keys.aes256)?)?)
+    let (password, salt) = two(alloc, password, salt)?;
+    let keys = string_to_keys(&password, &salt, count);
+    let aes128 = hexadecimal(alloc, keys.aes128.bytes())?;
+    let aes256 = hexadecimal(alloc, keys.aes256.bytes())?;
+    Ok(format!(in alloc; "{aes128} {aes256}")?)
 }
 
 // seal ETYPE KEY USAGE CONFOUNDER PLAIN
@@ -197,13 +172,12 @@ fn sealed_text(alloc: Global, words: &[&str]) -> Answer {
         return Err(Refusal::WordCount);
     };
     let key = key(alloc, etype, bytes_of_key)?;
-    let confounder = sixteen(confounder)?;
+    let (usage, confounder) = (number(usage)?, sixteen(confounder)?);
     let plain = bytes(alloc, plain)?;
     if plain.is_empty() {
         return Err(Refusal::BadLength);
     }
-    let text = seal(alloc, &key, number(usage)?, confounder, &plain)?;
-    Ok(hex::encode(alloc, text)?)
+    hexadecimal(alloc, &seal(alloc, &key, usage, confounder, &plain)?)
 }
 
 // unseal ETYPE KEY USAGE TEXT
@@ -212,8 +186,9 @@ fn unsealed_text(alloc: Global, words: &[&str]) -> Answer {
         return Err(Refusal::WordCount);
     };
     let key = key(alloc, etype, bytes_of_key)?;
-    let plain = unseal(alloc, &key, number(usage)?, &bytes(alloc, text)?)?;
-    Ok(hex::encode(alloc, plain)?)
+    let usage = number(usage)?;
+    let text = bytes(alloc, text)?;
+    hexadecimal(alloc, &unseal(alloc, &key, usage, &text)?)
 }
 
 // A number of at least 1.
@@ -226,6 +201,6 @@ fn positive(word: &str) -> Result<u32, Refusal>
     }
 }
 
-fn key_text(alloc: Global, key: &Key) -> Result<String, AllocError> {
-    hex::encode(alloc, key.bytes())
+fn hexadecimal(alloc: Global, bytes: &[u8]) -> Answer {
+    Ok(hex::encode(alloc, bytes)?)
 }

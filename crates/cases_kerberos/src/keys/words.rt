@@ -14,6 +14,11 @@ pub fn bytes(alloc: Global, word: &str) -> Result<Vec<u8>, Refusal> {
     Ok(hex::decode(alloc, word)?)
 }
 
+/// The bytes of two words.
+pub fn two(alloc: Global, one: &str, other: &str) -> Result<(Vec<u8>, Vec<u8>), Refusal> {
+    Ok((bytes(alloc, one)?, bytes(alloc, other)?))
+}
+
 /// The bytes of a word that has 16 of them.
 pub fn sixteen(word: &str) -> Result<[u8; 16], Refusal> {
     Ok(<[u8; 16] as FromHex>::from_hex(word)?)
@@ -21,7 +26,10 @@ pub fn sixteen(word: &str) -> Result<[u8; 16], Refusal> {
 
 /// A number without a sign.
 pub fn number(word: &str) -> Result<u32, Refusal> {
-    word.parse().map_err(|_| Refusal::BadNumber)
+    match word.parse() {
+        Ok(number) => Ok(number),
+        Err(_) => Err(Refusal::BadNumber),
+    }
 }
 
 /// The encryption type of a number.
@@ -45,5 +53,8 @@ pub fn cipher(alloc: Global, word: &str) -> Result<Aes, Refusal> {
 }
 
 fn signed_number(word: &str) -> Result<i32, Refusal> {
-    word.parse().map_err(|_| Refusal::BadNumber)
+    match word.parse() {
+        Ok(number) => Ok(number),
+        Err(_) => Err(Refusal::BadNumber),
+    }
 }

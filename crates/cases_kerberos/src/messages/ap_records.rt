@@ -2,12 +2,14 @@
 
 use crate::messages::keys::{OPTIONS, PEER, SERVICE};
 use crate::messages::refusal::Refusal;
-use krb_der::{Authenticator, EncTicketPart, EncryptionKey, HostAddress, KerberosTime, SequenceOf};
+use crate::messages::world::{authenticator, bytes, client, name, ticket_part};
+use krb_der::{
+    Authenticator, Bytes, EncTicketPart, EncryptionKey, HostAddress, KerberosTime, SequenceOf,
+};
 use krb_keys::Key;
 use krb_msgs::ServiceKey;
 use std::alloc::{AllocError, Global};
 use std::net::IpAddr;
-use support_messages::{authenticator, bytes, client, host_address, name, ticket_part};
 
 /// What an AP-REQ is made from, and the service's keys.
 ///
@@ -68,70 +70,43 @@ fn change_ticket(alloc: Global, part: &mut EncTicketPart, how: &str) -> Result<(
         "cname alice/admin" => {
             part.cname = name(alloc, 1, &[b"alice".as_slice(), b"admin".as_slice()])?;
         }
-        "cname of another name-type" => part.cname = name(alloc, 5, &[b"alice".as_slice()])?,
+        "cname of another name-type" => part.cname.name_type = 5,
         "starttime" => part.starttime = Some(KerberosTime(1_000_050)),
         _ => return Err(Refusal::NoSuchCase),
     }
     Ok(())
 }
 
+/// `none`, or addresses with ` and ` between.
 fn change_addresses(alloc: Global, part: &mut EncTicketPart, how: &str) -> Result<(), Refusal> {
     let mut addresses: Vec<HostAddress> = Vec::new(alloc);
-    add_addresses(alloc, &mut addresses, how)?;
+    for words in how.split(" and ") {
+        if words != "none" {
+            addresses.push(host_address(alloc, words)?)?;
+        }
+    }
     part.caddr = Some(SequenceOf::of(addresses));
     Ok(())
 }
 
-fn add_addresses(
-    alloc: Global,
-    addresses: &mut Vec<HostAddress>,
-    how: &str,
-) -> Result<(), Refusal> {
-    match how {
-        "none" => {}
-        "127.0.0.2" => addresses.push(host_address(alloc, 2)?)?,
-        "127.0.0.2 and the peer's" => {
-            addresses.push(host_address(alloc, 2)?)?;
-            addresses.push(host_address(alloc, 1)?)?;
-        }
-        "2001:db8::1" => addresses.push(ipv6_address(alloc, &[0x20, 1, 0xd, 0xb8])?)?,
-        "2001:db9::1" => addresses.push(ipv6_address(alloc, &[0x20, 1, 0xd, 0xb9])?)?,
-        "2001:db8::1 under type 2" => {
-            let mut other = ipv6_address(alloc, &[0x20, 1, 0xd, 0xb8])?;
-            other.addr_type = 2;
-            addresses.push(other)?;
-        }
-        "the first four bytes of 2001:db8::1 under type 24" => {
-            addresses.push(HostAddress {
-                addr_type: 24,
-                address: bytes(alloc, &[0x20, 1, 0xd, 0xb8])?,
-            })?;
-        }
-        "::ffff:127.0.0.1 under type 24" => {
-            addresses.push(HostAddress {
-                addr_type: 24,
-                address: bytes(
-                    alloc,
-                    &[0, 0, 0, 0, 0, 0, 0, 0, 0, 0, 0xff, 0xff, 127, 0, 0, 1],
-                )?,
-            })?;
-        }
-        "the peer's under type 3" => {
-            let mut other = host_address(alloc, 1)?;
-            other.addr_type = 3;
-            addresses.push(other)?;
-        }
-        _ => return Err(Refusal::NoSuchCase),
+/// `the peer's` address or another as it is written, ` under type N` if not under its own; or its first four bytes.
+fn host_address(alloc: Global, words: &str) -> Result<HostAddress, Refusal> {
+    let (words, under) = words.split_once(" under type ").unwrap_or((words, ""));
+    let front = words.strip_prefix("the first four bytes of ");
+    let address = match front.unwrap_or(words) {
+        "the peer's" => PEER,
+        words => words.parse().map_err(|_| Refusal::NoSuchCase)?,
+    };
+    let (addr_type, mut octets) = match address {
+        IpAddr::V4(address) => (2, Vec::from_slice(alloc, &address.octets())?),
+        IpAddr::V6(address) => (24, Vec::from_slice(alloc, &address.octets())?),
+    };
+    if front.is_some() {
+        octets.truncate(4);
     }
-    Ok(())
-}
-
-// The address of type 24 that begins with these four bytes and ends in 1.
-fn ipv6_address(alloc: Global, front: &[u8; 4]) -> Result<HostAddress, AllocError> {
-    let [a, b, c, d] = *front;
     Ok(HostAddress {
-        addr_type: 24,
-        address: bytes(alloc, &[a, b, c, d, 0, 0, 0, 0, 0, 0, 0, 0, 0, 0, 0, 1])?,
+        addr_type: under.parse().unwrap_or(addr_type),
+        address: Bytes::of(octets),
     })
 }
 

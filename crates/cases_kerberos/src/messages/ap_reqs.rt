@@ -3,13 +3,13 @@
 use crate::messages::ap_records::{Case, change_case, start_case};
 use crate::messages::keys::{SESSION, text_of};
 use crate::messages::making::ap_req;
-use crate::messages::parts::{change_first, sealed_bytes, sealed_record};
+use crate::messages::parts::{change_first, sealed_bytes, sealed_record, written};
 use crate::messages::refusal::Refusal;
-use krb_der::{ApReq, EncryptedData, Ticket, fits, read_ap_req, write_ap_req};
+use crate::messages::world::{REALM, bytes, name, service_name};
+use krb_der::{ApReq, EncryptedData, Ticket, read_ap_req};
 use krb_keys::{Key, USAGE_AP_REQ_AUTHENTICATOR, USAGE_TICKET};
 use krb_msgs::{ApFault, ApOpened, OpenError, open_ap};
 use std::alloc::{AllocError, Global};
-use support_messages::{REALM, bytes, name, service_name};
 
 /// The answer to an AP-REQ with these changes.
 pub fn answer(alloc: Global, changes: &str) -> Result<String, Refusal> {
@@ -48,18 +48,9 @@ fn changed_text(
     for change in changes.split(',') {
         change_message(alloc, case, message, change.trim())?;
     }
-    let mut text = message_bytes(alloc, message)?;
-    if changes.contains("text 6f") {
-        change_first(&mut text, 0x6f);
-    }
+    let mut text = written(alloc, message)?;
+    change_first(&mut text, changes, "text 6f", 0x6f);
     Ok(text)
-}
-
-fn message_bytes(alloc: Global, message: &ApReq) -> Result<Vec<u8>, Refusal> {
-    if !fits(message) {
-        return Err(Refusal::NoMessage);
-    }
-    Ok(write_ap_req(alloc, message)?)
 }
 
 fn change_message(
@@ -82,7 +73,10 @@ fn change_message(
         "ticket kvno absent" => message.ticket.enc_part.kvno = None,
         "authenticator etype 17" => message.authenticator.etype = 17,
         "authenticator kvno 1" => message.authenticator.kvno = Some(1),
-        "ticket not DER" => change_sealed_ticket(alloc, case, &mut message.ticket.enc_part)?,
+        "ticket not DER" => {
+            let sealed = sealed_bytes(alloc, &case.service.key, USAGE_TICKET, b"no")?;
+            message.ticket.enc_part.cipher = sealed.cipher;
+        }
         "authenticator usage 7" | "authenticator not DER" => {
             message.authenticator = sealed_authenticator(alloc, case, how)?;
         }
@@ -99,18 +93,6 @@ fn change_service_name(alloc: Global, ticket: &mut Ticket, how: &str) -> Result<
         "realm EXAMPLE.ORG" => ticket.realm = bytes(alloc, b"EXAMPLE.ORG")?,
         _ => return Err(Refusal::NoSuchCase),
     }
-    Ok(())
-}
-
-/// Bytes that are no part of a ticket, sealed in its place.
-fn change_sealed_ticket(
-    alloc: Global,
-    case: &Case,
-    part: &mut EncryptedData,
-) -> Result<(), Refusal> {
-    let sealed = sealed_bytes(alloc, &case.service.key, USAGE_TICKET, b"no")?;
-    part.etype = sealed.etype;
-    part.cipher = sealed.cipher;
     Ok(())
 }
 
@@ -149,37 +131,25 @@ fn shown_fault(alloc: Global, fault: ApFault) -> Result<String, AllocError> {
 }
 
 fn opened_text(alloc: Global, opened: &ApOpened) -> Result<String, AllocError> {
-    let mut shown = String::new(alloc);
-    show_client(&mut shown, opened)?;
-    show_times(&mut shown, opened)?;
-    show_keys(&mut shown, opened)?;
+    let (flags, starts, ends) = (opened.flags.0, opened.starts.0, opened.ends.0);
+    let (ctime, cusec) = (opened.ctime.0, opened.cusec.0);
+    let (session, subkey) = (shown_key(&opened.session), shown_key(&opened.subkey));
+    let mut shown = client_text(alloc, opened)?;
+    write!(
+        shown,
+        " flags {flags:08x} from {starts} to {ends} at {ctime}.{cusec:06} session {session:02x} subkey {subkey:02x}"
+    )?;
+    if let Some(number) = opened.seq_number {
+        write!(shown, " seq {}", number.0)?;
+    }
     Ok(shown)
 }
 
-fn show_client(shown: &mut String, opened: &ApOpened) -> Result<(), AllocError> {
-    shown.push_str("opened")?;
+fn client_text(alloc: Global, opened: &ApOpened) -> Result<String, AllocError> {
+    let mut shown = String::from_str(alloc, "opened")?;
     for component in opened.cname.name_string.as_slice() {
-        shown.push_str(" ")?;
-        shown.push_str(text_of(component.as_slice()))?;
+        write!(shown, " {}", text_of(component.as_slice()))?;
     }
-    shown.push_str(" of ")?;
-    Ok(shown.push_str(text_of(opened.crealm.as_slice()))?)
-}
-
-fn show_times(shown: &mut String, opened: &ApOpened) -> Result<(), AllocError> {
-    let (flags, starts, ends) = (opened.flags.0, opened.starts.0, opened.ends.0);
-    let (ctime, cusec) = (opened.ctime.0, opened.cusec.0);
-    write!(
-        shown,
-        " flags {flags:08x} from {starts} to {ends} at {ctime}.{cusec:06}"
-    )
-}
-
-fn show_keys(shown: &mut String, opened: &ApOpened) -> Result<(), AllocError> {
-    let (session, subkey) = (shown_key(&opened.session), shown_key(&opened.subkey));
-    write!(shown, " session {session:02x} subkey {subkey:02x}")?;
-    match opened.seq_number {
-        Some(number) => write!(shown, " seq {}", number.0),
-        None => Ok(()),
-    }
+    write!(shown, " of {}", text_of(opened.crealm.as_slice()))?;
+    Ok(shown)
 }

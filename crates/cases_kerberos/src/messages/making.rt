@@ -5,12 +5,12 @@ ghost use Rattle.krb_codec.specs.Texts.{fits, text};
 
 use crate::messages::keys::CONFOUNDER;
 use crate::messages::refusal::Refusal;
+use crate::messages::world::REALM;
 use krb_codec::Write;
 use krb_der::{Authenticator, EncApRepPart, EncKrbPrivPart, EncTicketPart, KrbError, text_len};
 use krb_keys::Key;
 use krb_msgs::{ServiceKey, laws, make_ap_rep, make_ap_req, make_error, make_priv, make_ticket};
 use std::alloc::Global;
-use support_messages::REALM;
 
 /// The longest text of a record in these cases.
 const SHORT: usize = 10_000;

@@ -1,9 +1,9 @@
-//! Sealed parts that the makers don't produce.
+//! Parts and texts that the makers don't produce.
 
 use crate::messages::keys::CONFOUNDER;
 use crate::messages::refusal::Refusal;
 use krb_codec::{Write, write_all};
-use krb_der::{Bytes, EncryptedData};
+use krb_der::{Bytes, EncryptedData, fits};
 use krb_keys::{Key, seal};
 use std::alloc::{AllocError, Global};
 
@@ -35,10 +35,20 @@ pub fn sealed_record<T: Write>(
     sealed_bytes(alloc, key, usage, &plain)
 }
 
-/// Puts another first byte into a text.
-pub fn change_first(text: &mut [u8], byte: u8) {
+/// The text of a message.
+pub fn written<T: Write>(alloc: Global, message: &T) -> Result<Vec<u8>, Refusal> {
+    if !fits(message) {
+        return Err(Refusal::NoMessage);
+    }
+    Ok(write_all(alloc, message)?)
+}
+
+/// Puts this first byte into a text where the changes say so, as in `text 6f`.
+pub fn change_first(text: &mut [u8], changes: &str, change: &str, byte: u8) {
     if let Some(first) = text.first_mut() {
-        *first = byte;
+        if changes.contains(change) {
+            *first = byte;
+        }
     }
 }
 

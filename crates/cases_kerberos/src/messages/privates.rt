@@ -2,19 +2,20 @@
 
 use crate::messages::keys::{PEER, SESSION, SUBKEY, text_of};
 use crate::messages::making::krb_priv;
-use crate::messages::parts::{change_first, forged, sealed_bytes, sealed_record};
+use crate::messages::parts::{change_first, forged, sealed_bytes, sealed_record, written};
 use crate::messages::refusal::Refusal;
+use crate::messages::world::{CTIME, CUSEC, REALM, bytes, client, host_address, private_part};
 use krb_der::{
     EncKrbPrivPart, EncryptedData, HostAddress, KerberosFlags, KerberosTime, KrbPriv, Microseconds,
-    SeqNumber, fits, read_krb_priv, write_krb_priv,
+    SeqNumber, read_krb_priv,
 };
 use krb_keys::USAGE_KRB_PRIV;
 use krb_msgs::{ApOpened, OpenError, PrivFault, Private, Strictness, open_priv};
 use std::alloc::{AllocError, Global};
-use support_messages::{CTIME, CUSEC, REALM, bytes, client, host_address, private_part};
 
-/// What the AP-REQ before it opened to.
-fn opened_ap_req(alloc: Global) -> Result<ApOpened, AllocError> {
+/// What the AP-REQ before it opened to, with what is changed in it.
+fn opened_ap_req(alloc: Global, changes: &str) -> Result<ApOpened, AllocError> {
+    let has_number = !changes.contains("authenticator seq-number absent");
     Ok(ApOpened {
         crealm: bytes(alloc, REALM)?,
         cname: client(alloc, b"alice")?,
@@ -25,14 +26,14 @@ fn opened_ap_req(alloc: Global) -> Result<ApOpened, AllocError> {
         cusec: CUSEC,
         session: SESSION,
         subkey: SUBKEY,
-        seq_number: Some(SeqNumber(5)),
+        seq_number: has_number.then_some(SeqNumber(5)),
     })
 }
 
 /// The answer to a KRB-PRIV with these changes.
 pub fn answer(alloc: Global, changes: &str) -> Result<String, Refusal> {
-    let text = changed_text(alloc, changes)?;
-    let opened = changed_opened(alloc, changes)?;
+    let text = made(alloc, b"New-pass2", changes)?;
+    let opened = opened_ap_req(alloc, changes)?;
     let private = open_priv(alloc, strictness_of(changes), PEER, &opened, &text);
     drop(opened);
     opening_text(alloc, private)
@@ -47,24 +48,15 @@ fn strictness_of(changes: &str) -> Strictness {
     }
 }
 
-/// What the AP-REQ before it opened to, with what is changed in it.
-fn changed_opened(alloc: Global, changes: &str) -> Result<ApOpened, AllocError> {
-    let mut opened = opened_ap_req(alloc)?;
-    if changes.contains("authenticator seq-number absent") {
-        opened.seq_number = None;
-    }
-    Ok(opened)
-}
-
-/// The KRB-PRIV, with what is changed in its part, in the message and in its text.
-fn changed_text(alloc: Global, changes: &str) -> Result<Vec<u8>, Refusal> {
-    let mut part = private_part(alloc, b"New-pass2")?;
-    let text = made_changed(alloc, &mut part, changes);
+/// The KRB-PRIV with this user-data, with what is changed in its part, in the message and in its text.
+pub fn made(alloc: Global, user_data: &[u8], changes: &str) -> Result<Vec<u8>, Refusal> {
+    let mut part = private_part(alloc, user_data)?;
+    let text = changed_text(alloc, &mut part, changes);
     drop(part);
     text
 }
 
-fn made_changed(
+fn changed_text(
     alloc: Global,
     part: &mut EncKrbPrivPart,
     changes: &str,
@@ -72,20 +64,10 @@ fn made_changed(
     for change in changes.split(',') {
         change_part(alloc, part, change.trim())?;
     }
-    changed_priv(alloc, part, changes)
-}
-
-/// The KRB-PRIV of this part, with what is changed in the message and in its text.
-pub fn changed_priv(
-    alloc: Global,
-    part: &EncKrbPrivPart,
-    changes: &str,
-) -> Result<Vec<u8>, Refusal> {
-    let mut text = message_bytes(alloc, &changed_message(alloc, part, changes)?)?;
-    if changes.contains("text 76") {
-        change_first(&mut text, 0x76);
-    }
-    Ok(text)
+    let mut message = start_message(alloc, part)?;
+    let text = message_text(alloc, part, &mut message, changes);
+    drop(message);
+    text
 }
 
 fn start_message(alloc: Global, part: &EncKrbPrivPart) -> Result<KrbPriv, Refusal> {
@@ -93,28 +75,25 @@ fn start_message(alloc: Global, part: &EncKrbPrivPart) -> Result<KrbPriv, Refusa
     Ok(read_krb_priv(alloc, &text)?)
 }
 
-/// The message of this part, with what is changed in it.
-fn changed_message(
+/// The text of a message, with what is changed in it and in the message.
+fn message_text(
     alloc: Global,
     part: &EncKrbPrivPart,
+    message: &mut KrbPriv,
     changes: &str,
-) -> Result<KrbPriv, Refusal> {
-    let mut message = start_message(alloc, part)?;
+) -> Result<Vec<u8>, Refusal> {
     for change in changes.split(',') {
         if let Some(("message", how)) = change.trim().split_once(' ') {
-            change_message(alloc, &mut message, part, how)?;
+            change_message(alloc, message, part, how)?;
         }
     }
-    Ok(message)
+    let mut text = written(alloc, message)?;
+    change_first(&mut text, changes, "text 74", 0x74);
+    change_first(&mut text, changes, "text 76", 0x76);
+    Ok(text)
 }
 
-fn message_bytes(alloc: Global, message: &KrbPriv) -> Result<Vec<u8>, Refusal> {
-    if !fits(message) {
-        return Err(Refusal::NoMessage);
-    }
-    Ok(write_krb_priv(alloc, message)?)
-}
-
+/// Each change is of one kind: of the part, or of something else.
 fn change_part(alloc: Global, part: &mut EncKrbPrivPart, change: &str) -> Result<(), Refusal> {
     match change {
         "part seq-number 6" => part.seq_number = Some(SeqNumber(6)),
@@ -124,20 +103,31 @@ fn change_part(alloc: Global, part: &mut EncKrbPrivPart, change: &str) -> Result
             part.usec = Some(Microseconds(7));
         }
         "part timestamp alone" => part.timestamp = Some(KerberosTime(1_000_099)),
-        "part r-address of the service" => part.r_address = Some(host_address(alloc, 1)?),
-        "part r-address of another" => part.r_address = Some(host_address(alloc, 2)?),
-        "part r-address of type 20" => part.r_address = Some(address_of_type(alloc, 20)?),
-        "authenticator seq-number absent" | "service strict" | "text 76" | "" => {}
-        _ if change.starts_with("message ") => {}
-        _ => return Err(Refusal::NoSuchCase),
+        "part r-address of the service" => part.r_address = Some(address(alloc, 2, 1)?),
+        "part r-address of another" => part.r_address = Some(address(alloc, 2, 2)?),
+        "part r-address of type 20" => part.r_address = Some(address(alloc, 20, 1)?),
+        _ => match change.split(' ').next() {
+            Some(
+                "authenticator"
+                | "service"
+                | "message"
+                | "text"
+                | "client"
+                | "ap-rep"
+                | "result"
+                | "",
+            ) => {}
+            _ => return Err(Refusal::NoSuchCase),
+        },
     }
     Ok(())
 }
 
-/// The service's address, with another type.
-fn address_of_type(alloc: Global, addr_type: i32) -> Result<HostAddress, AllocError> {
-    let HostAddress { address, .. } = host_address(alloc, 1)?;
-    Ok(HostAddress { addr_type, address })
+/// An address under a type, 127.0.0.1 or another.
+fn address(alloc: Global, addr_type: i32, last: u8) -> Result<HostAddress, AllocError> {
+    let mut address = host_address(alloc, last)?;
+    address.addr_type = addr_type;
+    Ok(address)
 }
 
 fn change_message(

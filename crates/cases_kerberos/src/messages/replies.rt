@@ -2,17 +2,14 @@
 
 use crate::messages::keys::{SESSION, SUBKEY, text_of};
 use crate::messages::making::{ap_rep, krb_error};
-use crate::messages::parts::{change_first, forged, sealed_bytes};
-use crate::messages::privates;
+use crate::messages::parts::{change_first, forged, sealed_bytes, written};
 use crate::messages::refusal::Refusal;
-use krb_der::{
-    ApRep, KerberosTime, KrbError, Microseconds, fits, read_ap_rep, read_krb_error, write_ap_rep,
-    write_krb_error,
-};
+use crate::messages::world::{CTIME, CUSEC, ap_rep_part, bytes};
+use crate::messages::{privates, world};
+use krb_der::{ApRep, KerberosTime, KrbError, Microseconds, read_ap_rep};
 use krb_keys::{Key, USAGE_AP_REP_ENC_PART};
 use krb_msgs::{OpenError, Reply, ReplyFault, read_reply};
 use std::alloc::{AllocError, Global};
-use support_messages::{CTIME, CUSEC, ap_rep_part, bytes, private_part};
 
 /// What the client knows, and the bytes of the result that it is sent.
 #[derive(Clone, Copy, Drop)]
@@ -28,7 +25,7 @@ struct Case<'a> {
 pub fn answer(alloc: Global, changes: &str) -> Result<String, Refusal> {
     let case = changed_case(changes);
     let head = made_ap_rep(alloc, changes)?;
-    let tail = made_tail(alloc, case.said, changes)?;
+    let tail = privates::made(alloc, case.said, changes)?;
     reading_text(
         alloc,
         read_reply(
@@ -63,24 +60,10 @@ fn changed_case(changes: &str) -> Case<'static> {
     case
 }
 
-/// The KRB-PRIV with these bytes.
-fn made_tail(alloc: Global, said: &[u8], changes: &str) -> Result<Vec<u8>, Refusal> {
-    let part = private_part(alloc, said)?;
-    let made = privates::changed_priv(alloc, &part, changes);
-    drop(part);
-    let mut tail = made?;
-    if changes.contains("text 74") {
-        change_first(&mut tail, 0x74);
-    }
-    Ok(tail)
-}
-
 /// The AP-REP, with what is changed in it.
 fn made_ap_rep(alloc: Global, changes: &str) -> Result<Vec<u8>, Refusal> {
-    let mut text = written_ap_rep(alloc, &changed_ap_rep(alloc, changes)?)?;
-    if changes.contains("ap-rep text 6e") {
-        change_first(&mut text, 0x6e);
-    }
+    let mut text = written(alloc, &changed_ap_rep(alloc, changes)?)?;
+    change_first(&mut text, changes, "ap-rep text 6e", 0x6e);
     Ok(text)
 }
 
@@ -95,13 +78,6 @@ fn changed_ap_rep(alloc: Global, changes: &str) -> Result<ApRep, Refusal> {
         change_ap_rep(alloc, &mut message, change.trim())?;
     }
     Ok(message)
-}
-
-fn written_ap_rep(alloc: Global, message: &ApRep) -> Result<Vec<u8>, Refusal> {
-    if !fits(message) {
-        return Err(Refusal::NoMessage);
-    }
-    Ok(write_ap_rep(alloc, message)?)
 }
 
 fn change_ap_rep(alloc: Global, message: &mut ApRep, change: &str) -> Result<(), Refusal> {
@@ -127,34 +103,20 @@ pub fn error_answer(alloc: Global, changes: &str) -> Result<String, Refusal> {
     )
 }
 
+/// The text of a KRB-ERROR, with what is changed in it and in the message.
 fn made_error(alloc: Global, changes: &str) -> Result<Vec<u8>, Refusal> {
-    let mut message = start_error(alloc)?;
+    let mut message = world::krb_error(alloc, b"\x00\x03request replayed")?;
     let text = changed_error(alloc, &mut message, changes);
     drop(message);
     text
 }
 
-fn start_error(alloc: Global) -> Result<KrbError, Refusal> {
-    let text = error_text(alloc)?;
-    Ok(read_krb_error(alloc, &text)?)
-}
-
-fn error_text(alloc: Global) -> Result<Vec<u8>, Refusal> {
-    let message = support_messages::krb_error(alloc, b"\x00\x03request replayed")?;
-    let text = krb_error(alloc, &message);
-    drop(message);
-    text
-}
-
-/// The text of a message, with what is changed in it and in the message.
 fn changed_error(alloc: Global, message: &mut KrbError, changes: &str) -> Result<Vec<u8>, Refusal> {
     for change in changes.split(',') {
         change_error(alloc, message, change.trim())?;
     }
-    let mut text = written_error(alloc, message)?;
-    if changes.contains("text 7f") {
-        change_first(&mut text, 0x7f);
-    }
+    let mut text = krb_error(alloc, message)?;
+    change_first(&mut text, changes, "text 7f", 0x7f);
     Ok(text)
 }
 
@@ -168,13 +130,6 @@ fn change_error(alloc: Global, message: &mut KrbError, change: &str) -> Result<(
         _ => return Err(Refusal::NoSuchCase),
     }
     Ok(())
-}
-
-fn written_error(alloc: Global, message: &KrbError) -> Result<Vec<u8>, Refusal> {
-    if !fits(message) {
-        return Err(Refusal::NoMessage);
-    }
-    Ok(write_krb_error(alloc, message)?)
 }
 
 /// What a reply says, as text.

@@ -6,7 +6,7 @@ use Rattle.krb_der.specs.Values.{authenticator_value, enc_ticket_part_value, tic
 use Rattle.krb_der.specs.declared.ticket.Ticket.{Ticket}
 use Rattle.krb_msgs.specs.Making.{SpellsTicket, ticket_of}
 use Rattle.cases_kerberos.specs.declared.messages.keys.TheConstants.{CONFOUNDER}
-use Rattle.support_messages.specs.declared.parts.TheConstants.{REALM}
+use Rattle.cases_kerberos.specs.declared.messages.world.TheConstants.{REALM}
 use Rattle.cases_kerberos.proofs.messages.making.ap_req.Goals as goal
 
 -- the text of a ticket that fits spells it

@@ -1,4 +1,4 @@
-//! The parts.
+//! Parts of messages of a small world: realm EXAMPLE.COM, service kadmin/changepw, client alice at 127.0.0.1.
 
 use krb_der::{
     Authenticator, Bytes, EncApRepPart, EncKrbPrivPart, EncTicketPart, EncryptionKey, HostAddress,
@@ -9,7 +9,7 @@ use krb_protocol::{ADDR_TYPE_IPV4, KRB_ERROR, NT_PRINCIPAL, NT_SRV_INST, PVNO};
 use std::alloc::{AllocError, Global};
 
 /// The etype of every key here.
-pub const AES256: i32 = 18;
+const AES256: i32 = 18;
 
 pub const REALM: &[u8] = b"EXAMPLE.COM";
 
@@ -47,7 +47,7 @@ pub fn service_name(alloc: Global, instance: &[u8]) -> Result<PrincipalName, All
 }
 
 /// A key whose bytes are all this one.
-pub fn key(alloc: Global, byte: u8) -> Result<EncryptionKey, AllocError> {
+fn key(alloc: Global, byte: u8) -> Result<EncryptionKey, AllocError> {
     Ok(EncryptionKey {
         keytype: AES256,
         keyvalue: bytes(alloc, &[byte; 32])?,
