@@ -8,11 +8,10 @@ mod whole;
 mod words;
 
 use crate::connections::script::Script;
-use crate::connections::words::number;
-use crate::words::{bytes, no_case};
+use crate::words::{bytes, parsed};
 use std::alloc::Global;
 use std::io::{self, Write};
-use support_cases::{Answers, answer_lines};
+use support_cases::{Answers, Fault, answer_lines};
 
 struct Cases {
     script: Option<Script>,
@@ -20,6 +19,12 @@ struct Cases {
 
 impl Answers for Cases {
     fn answer(&mut self, alloc: Global, case: &str) -> io::Result<String> {
+        Ok(self.told(alloc, case)?)
+    }
+}
+
+impl Cases {
+    fn told(&mut self, alloc: Global, case: &str) -> Result<String, Fault> {
         let (front, now) = case.split_once(" at ").unwrap_or((case, "0"));
         let (kind, words) = front.split_once(' ').unwrap_or((front, ""));
         match kind {
@@ -33,8 +38,8 @@ impl Answers for Cases {
             "cut" => cutting::each(alloc, &bytes(alloc, words)?, false),
             "cut-off" => cutting::each(alloc, &bytes(alloc, words)?, true),
             _ => match &mut self.script {
-                Some(script) => script.answer(kind, words, number(now)?),
-                None => Err(no_case()),
+                Some(script) => script.answer(kind, words, parsed(now)?),
+                None => Err(Fault::NoSuchCase),
             },
         }
     }

@@ -23,10 +23,7 @@ fn answer(alloc: Global, case: &str) -> Result<String, Fault> {
     match words.as_slice() {
         ["hear", events @ ..] => dialogs::dialog_text(alloc, events),
         ["status", values @ ..] => statuses::status_text(alloc, values),
-        ["line", text] => answers::line(alloc, text),
-        ["error", text] => answers::error(alloc, text),
-        ["ended", text] => answers::ends_ok(alloc, text),
-        ["beginnings", text] => answers::beginnings(alloc, text),
+        [kind, text] => answers::answer(alloc, kind, text),
         _ => Err(Fault::NoSuchCase),
     }
 }

@@ -27,14 +27,15 @@ pub struct Cases;
 impl Answers for Cases {
     fn answer(&mut self, alloc: Global, case: &str) -> io::Result<String> {
         let (kind, text) = case.split_once(' ').unwrap_or((case, ""));
-        match kind {
+        let answer = match kind {
             "request" => framing::request(alloc, text),
             "reply" => framing::reply(alloc, text),
-            "join-request" => framing::joined_request(alloc, text),
-            "join-old-request" => framing::joined_old_request(alloc, text),
-            "join-reply" => framing::joined_reply(alloc, text),
+            "join-request" | "join-old-request" | "join-reply" => {
+                framing::joined(alloc, kind, text)
+            }
             "change" => change::answer(alloc, text),
             _ => streams::answer(alloc, kind, text),
-        }
+        };
+        Ok(answer?)
     }
 }

@@ -4,8 +4,7 @@ use crate::connections::script::Script;
 use chpw_connections::ConnectionLimits;
 use chpw_endpoints::Endpoints;
 use std::alloc::Global;
-use std::io;
-use support_cases::Census;
+use support_cases::{Census, Fault};
 
 const BOUNDS: ConnectionLimits = ConnectionLimits {
     connections: 1,
@@ -19,7 +18,7 @@ const BOUNDS: ConnectionLimits = ConnectionLimits {
 
 /// What comes of a message that is cut before each of its bytes and at its end. The rest follows, or the input ends
 /// there.
-pub fn each(alloc: Global, bytes: &[u8], is_ended: bool) -> io::Result<String> {
+pub fn each(alloc: Global, bytes: &[u8], is_ended: bool) -> Result<String, Fault> {
     let mut census = Census::new(alloc);
     for place in 0..=bytes.len() {
         let answer = cut_at(alloc, bytes, place, is_ended)?;
@@ -28,14 +27,19 @@ pub fn each(alloc: Global, bytes: &[u8], is_ended: bool) -> io::Result<String> {
     Ok(census.text(alloc)?)
 }
 
-fn cut_at(alloc: Global, bytes: &[u8], place: usize, is_ended: bool) -> io::Result<String> {
+fn cut_at(alloc: Global, bytes: &[u8], place: usize, is_ended: bool) -> Result<String, Fault> {
     let mut script = Script::new(alloc, BOUNDS, 1)?;
     let told = cut_told(&mut script, bytes, place, is_ended);
     script.end();
     told
 }
 
-fn cut_told(script: &mut Script, bytes: &[u8], place: usize, is_ended: bool) -> io::Result<String> {
+fn cut_told(
+    script: &mut Script,
+    bytes: &[u8],
+    place: usize,
+    is_ended: bool,
+) -> Result<String, Fault> {
     let alloc = script.alloc;
     let Some(slot) = script.connections.accept(Endpoints::LOOPBACK, None, 0) else {
         return Ok(String::from_str(alloc, "no room")?);

@@ -1,11 +1,10 @@
 //! The state machine that a script runs, and the lines of the script.
 
 use crate::connections::showing::slots_text;
-use crate::connections::words::number;
-use crate::words::no_case;
+use crate::words::parsed;
 use chpw_connections::{ConnectionLimits, Connections, TakenMessage};
-use std::alloc::Global;
-use std::io;
+use std::alloc::{AllocError, Global};
+use support_cases::Fault;
 
 /// The most connections and workers in a script.
 const MOST: usize = 100;
@@ -22,41 +21,15 @@ pub struct Script {
 
 impl Script {
     /// `CONNECTIONS BYTES IDLE GRACE WAIT LINGER WORKERS`, with ` PER_PEER` after it unless one peer may have all.
-    pub fn of(alloc: Global, words: &str) -> io::Result<Script> {
+    pub fn of(alloc: Global, words: &str) -> Result<Script, Fault> {
         let words: Vec<&str> = words.split(' ').collect(alloc)?;
-        let [
-            connections,
-            bytes,
-            idle,
-            grace,
-            wait,
-            linger,
-            workers,
-            rest @ ..,
-        ] = words.as_slice()
-        else {
-            return Err(no_case());
-        };
-        let per_peer = match rest {
-            [] => number(connections)?,
-            [per_peer] => number(per_peer)?,
-            _ => return Err(no_case()),
-        };
-        let bounds = ConnectionLimits {
-            connections: number(connections)?,
-            per_peer,
-            bytes: number(bytes)?,
-            idle: number(idle)?,
-            grace: number(grace)?,
-            wait: number(wait)?,
-            linger: number(linger)?,
-        };
-        Script::new(alloc, bounds, number(workers)?)
+        let (bounds, workers) = bounds_of(&words)?;
+        Script::new(alloc, bounds, workers)
     }
 
-    pub fn new(alloc: Global, bounds: ConnectionLimits, workers: usize) -> io::Result<Script> {
+    pub fn new(alloc: Global, bounds: ConnectionLimits, workers: usize) -> Result<Script, Fault> {
         if bounds.connections > MOST || workers > MOST {
-            return Err(no_case());
+            return Err(Fault::NoSuchCase);
         }
         Ok(Script {
             alloc,
@@ -83,25 +56,9 @@ impl Script {
     }
 
     /// What a line does, and which other connections it ended.
-    pub fn answer(&mut self, kind: &str, words: &str, now: u64) -> io::Result<String> {
+    pub fn answer(&mut self, kind: &str, words: &str, now: u64) -> Result<String, Fault> {
         let before = self.ended_slots()?;
-        let (slot, rest) = words.split_once(' ').unwrap_or((words, ""));
-        let (own, text) = match kind {
-            "accept"
-            | "datagram"
-            | "share"
-            | "pass"
-            | "room"
-            | "show"
-            | "look"
-            | "confirm"
-            | "overdue" => (None, self.whole(kind, words, now)?),
-            "take" => (None, self.take(number(words)?, now)?),
-            _ => {
-                let slot = number(slot)?;
-                (Some(slot), self.event(kind, slot, rest, now)?)
-            }
-        };
+        let (own, text) = self.told(kind, words, now)?;
         let others = self.ended_besides(&before, own)?;
         if others.is_empty() {
             return Ok(text);
@@ -110,13 +67,43 @@ impl Script {
         Ok(format!(in self.alloc; "{text}; ended {others}")?)
     }
 
+    /// What a line does, and the slot that it names, if it names one.
+    fn told(
+        &mut self,
+        kind: &str,
+        words: &str,
+        now: u64,
+    ) -> Result<(Option<usize>, String), Fault> {
+        match kind {
+            "accept"
+            | "datagram"
+            | "share"
+            | "pass"
+            | "room"
+            | "show"
+            | "look"
+            | "confirm"
+            | "overdue" => Ok((None, self.whole(kind, words, now)?)),
+            "take" => Ok((None, self.take(parsed(words)?, now)?)),
+            _ => {
+                let (slot, rest) = words.split_once(' ').unwrap_or((words, ""));
+                let slot = parsed(slot)?;
+                Ok((Some(slot), self.event(kind, slot, rest, now)?))
+            }
+        }
+    }
+
     /// The slots whose connections have ended.
-    fn ended_slots(&self) -> io::Result<Vec<usize>> {
+    fn ended_slots(&self) -> Result<Vec<usize>, AllocError> {
         self.ended_besides(&[], None)
     }
 
     /// The slots whose connections have ended, without these and without this one.
-    fn ended_besides(&self, before: &[usize], own: Option<usize>) -> io::Result<Vec<usize>> {
+    fn ended_besides(
+        &self,
+        before: &[usize],
+        own: Option<usize>,
+    ) -> Result<Vec<usize>, AllocError> {
         let mut ended = Vec::new(self.alloc);
         for slot in 0..self.slots {
             if self.connections.is_ended(slot) && own != Some(slot) && !before.contains(&slot) {
@@ -125,4 +112,31 @@ impl Script {
         }
         Ok(ended)
     }
+}
+
+/// The limits that these words give, and the count of workers.
+fn bounds_of(words: &[&str]) -> Result<(ConnectionLimits, usize), Fault> {
+    let [
+        connections,
+        bytes,
+        idle,
+        grace,
+        wait,
+        linger,
+        workers,
+        rest @ ..,
+    ] = words
+    else {
+        return Err(Fault::NoSuchCase);
+    };
+    let bounds = ConnectionLimits {
+        connections: parsed(connections)?,
+        per_peer: parsed(rest.first().unwrap_or(connections))?,
+        bytes: parsed(bytes)?,
+        idle: parsed(idle)?,
+        grace: parsed(grace)?,
+        wait: parsed(wait)?,
+        linger: parsed(linger)?,
+    };
+    Ok((bounds, parsed(workers)?))
 }

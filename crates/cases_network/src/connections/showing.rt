@@ -3,94 +3,86 @@
 use crate::connections::script::Script;
 use chpw_connections::Todo;
 use hex::encode;
-use std::alloc::Global;
-use std::io;
-use std::net::IpAddr;
+use std::alloc::{AllocError, Global};
 
 /// Bytes in hexadecimal, `-` for none; of many the first and the last.
-pub fn bytes_text(alloc: Global, bytes: &[u8]) -> io::Result<String> {
+pub fn bytes_text(alloc: Global, bytes: &[u8]) -> Result<String, AllocError> {
     if bytes.is_empty() {
-        return Ok(String::from_str(alloc, "-")?);
+        return String::from_str(alloc, "-");
     }
     if bytes.len() <= 32 {
-        return Ok(encode(alloc, bytes)?);
+        return encode(alloc, bytes);
     }
     let (front, _) = bytes.split_at(8);
     let (_, back) = bytes.split_at(bytes.len() - 4);
     let (front, back) = (encode(alloc, front)?, encode(alloc, back)?);
-    Ok(format!(in alloc; "{front}..{back} of {} bytes", bytes.len())?)
+    format!(in alloc; "{front}..{back} of {} bytes", bytes.len())
 }
 
 /// Slots with spaces between, `-` for none.
-pub fn slots_text(alloc: Global, slots: &[usize]) -> io::Result<String> {
+pub fn slots_text(alloc: Global, slots: &[usize]) -> Result<String, AllocError> {
     if slots.is_empty() {
-        return Ok(String::from_str(alloc, "-")?);
+        return String::from_str(alloc, "-");
     }
     let mut text = String::new(alloc);
     for slot in slots {
         if !text.is_empty() {
             text.push_str(" ")?;
         }
-        text.push_str(format!(in alloc; "{slot}")?.as_str())?;
+        write!(text, "{slot}")?;
     }
     Ok(text)
 }
 
-/// An address as it is written.
-pub fn peer_text(alloc: Global, peer: IpAddr) -> io::Result<String> {
-    Ok(format!(in alloc; "{peer}")?)
-}
-
 impl Script {
     /// The stage of the connection in a slot.
-    pub fn state(&self, slot: usize) -> io::Result<String> {
+    pub fn state(&self, slot: usize) -> Result<String, AllocError> {
         let alloc = self.alloc;
         let left = self.connections.pending_output(slot);
         let wanted = self.connections.bytes_to_read(slot);
         if self.connections.is_ended(slot) {
-            Ok(String::from_str(alloc, "has ended")?)
+            String::from_str(alloc, "has ended")
         } else if self.connections.is_lingering(slot) {
-            Ok(String::from_str(alloc, "lingers")?)
+            String::from_str(alloc, "lingers")
         } else if !left.is_empty() {
             let bytes = bytes_text(alloc, left)?;
-            Ok(format!(in alloc; "has {} to write: {bytes}", left.len())?)
+            format!(in alloc; "has {} to write: {bytes}", left.len())
         } else if wanted > 0 {
-            Ok(format!(in alloc; "wants {wanted}")?)
+            format!(in alloc; "wants {wanted}")
         } else {
-            Ok(String::from_str(alloc, "waits")?)
+            String::from_str(alloc, "waits")
         }
     }
 
     /// What is to be done for the connection in a slot.
-    fn todo(&self, slot: usize) -> io::Result<String> {
+    fn todo(&self, slot: usize) -> Result<String, AllocError> {
         let alloc = self.alloc;
         match self.connections.todo(slot) {
-            Todo::Read(count) => Ok(format!(in alloc; "read {count}")?),
+            Todo::Read(count) => format!(in alloc; "read {count}"),
             Todo::Write => {
                 let left = bytes_text(alloc, self.connections.pending_output(slot))?;
-                Ok(format!(in alloc; "write {left}")?)
+                format!(in alloc; "write {left}")
             }
-            Todo::Linger => Ok(String::from_str(alloc, "linger")?),
-            Todo::Close => Ok(String::from_str(alloc, "close")?),
-            Todo::Wait => Ok(String::from_str(alloc, "wait")?),
+            Todo::Linger => String::from_str(alloc, "linger"),
+            Todo::Close => String::from_str(alloc, "close"),
+            Todo::Wait => String::from_str(alloc, "wait"),
         }
     }
 
     /// Each slot, and then the totals.
-    pub fn overview(&self) -> io::Result<String> {
+    pub fn overview(&self) -> Result<String, AllocError> {
         let mut text = String::new(self.alloc);
         for slot in 0..self.slots {
             let todo = self.todo(slot)?;
             let wanted = self.connections.bytes_to_read(slot);
             let left = self.connections.pending_output(slot).len();
-            let slot = format!(in self.alloc; "{slot} {todo}, wanted {wanted}, left {left} | ")?;
-            text.push_str(slot.as_str())?;
+            write!(text, "{slot} {todo}, wanted {wanted}, left {left} | ")?;
         }
         text.push_str(self.counts()?.as_str())?;
         Ok(text)
     }
 
-    fn counts(&self) -> io::Result<String> {
+    fn counts(&self) -> Result<String, AllocError> {
         let connections = &self.connections;
         let count = connections.len();
         let word = if connections.is_empty() {
@@ -102,13 +94,13 @@ impl Script {
         };
         let (held, accepted) = (connections.bytes_held(), connections.accepted_count());
         let (expired, workers) = (connections.expired_count(), self.waited_for()?);
-        Ok(format!(in self.alloc;
+        format!(in self.alloc;
             "connections {count}{word}, held {held}, accepted {accepted}, expired {expired}, messages for {workers}"
-        )?)
+        )
     }
 
     /// The workers for whom a message waits.
-    fn waited_for(&self) -> io::Result<String> {
+    fn waited_for(&self) -> Result<String, AllocError> {
         let mut workers = Vec::new(self.alloc);
         for worker in 0..self.workers {
             if self.connections.has_message(worker) {

@@ -1,12 +1,12 @@
 //! Lines that concern no particular slot.
 
 use crate::connections::script::Script;
-use crate::connections::showing::{bytes_text, peer_text, slots_text};
-use crate::connections::words::{address, number};
-use crate::words::no_case;
+use crate::connections::showing::{bytes_text, slots_text};
+use crate::words::parsed;
 use chpw_connections::{TakenMessage, Todo};
 use chpw_endpoints::{Endpoints, Peer};
-use std::io;
+use std::alloc::AllocError;
+use support_cases::Fault;
 
 /// More than any case here notes.
 const LOOKS: usize = 10_000;
@@ -14,43 +14,44 @@ const LOOKS: usize = 10_000;
 impl Script {
     /// `accept PEER`, `accept PEER to LOCAL`, `datagram PEER`, `share PEER`, `pass`, `room`, `room PEER`, `look`, `show`,
     /// `confirm TICKET` or `overdue WAIT`.
-    pub fn whole(&mut self, kind: &str, words: &str, now: u64) -> io::Result<String> {
-        match kind {
-            "accept" => self.accept(words, now),
-            "datagram" => self.accept_datagram(words, now),
-            "share" => self.share(words),
+    pub fn whole(&mut self, kind: &str, words: &str, now: u64) -> Result<String, Fault> {
+        let text = match kind {
+            "accept" => return self.accept(words, now),
+            "datagram" => return self.accept_datagram(words, now),
+            "share" => return self.share(words),
+            "room" => return self.make_room(words),
             "look" => self.look(),
             "show" => self.overview(),
+            "overdue" => self.overdue(parsed(words)?, now),
             "pass" => {
                 self.connections.pass(now);
-                Ok(String::from_str(self.alloc, "passed")?)
+                String::from_str(self.alloc, "passed")
             }
             "confirm" => {
-                self.connections.confirm(number(words)?, now);
-                Ok(String::from_str(self.alloc, "confirmed")?)
+                self.connections.confirm(parsed(words)?, now);
+                String::from_str(self.alloc, "confirmed")
             }
-            "overdue" => self.overdue(number(words)?, now),
-            "room" => self.make_room(words),
-            _ => Err(no_case()),
-        }
+            _ => return Err(Fault::NoSuchCase),
+        };
+        Ok(text?)
     }
 
-    fn accept(&mut self, words: &str, now: u64) -> io::Result<String> {
+    fn accept(&mut self, words: &str, now: u64) -> Result<String, Fault> {
         let (peer, local) = words.split_once(" to ").unwrap_or((words, "127.0.0.1"));
         let ends = Endpoints {
-            peer: address(peer)?,
-            local: address(local)?,
+            peer: parsed(peer)?,
+            local: parsed(local)?,
         };
-        self.accept_between(ends, ends.share(), now)
+        Ok(self.accept_between(ends, ends.share(), now)?)
     }
 
     // A datagram counts in no share.
-    fn accept_datagram(&mut self, words: &str, now: u64) -> io::Result<String> {
+    fn accept_datagram(&mut self, words: &str, now: u64) -> Result<String, Fault> {
         let ends = Endpoints {
-            peer: address(words)?,
+            peer: parsed(words)?,
             ..Endpoints::LOOPBACK
         };
-        self.accept_between(ends, None, now)
+        Ok(self.accept_between(ends, None, now)?)
     }
 
     fn accept_between(
@@ -58,16 +59,16 @@ impl Script {
         ends: Endpoints,
         share: Option<Peer>,
         now: u64,
-    ) -> io::Result<String> {
+    ) -> Result<String, AllocError> {
         match self.connections.accept(ends, share, now) {
-            None => Ok(String::from_str(self.alloc, "no room")?),
-            Some(slot) => Ok(format!(in self.alloc; "slot {slot}")?),
+            None => String::from_str(self.alloc, "no room"),
+            Some(slot) => format!(in self.alloc; "slot {slot}"),
         }
     }
 
     /// How many connections a peer has in its share, and whether that is full.
-    fn share(&self, words: &str) -> io::Result<String> {
-        let peer = Peer::of(address(words)?);
+    fn share(&self, words: &str) -> Result<String, Fault> {
+        let peer = Peer::of(parsed(words)?);
         let count = self.connections.count_of(peer);
         let full = if self.connections.is_share_full(Some(peer)) {
             " (full)"
@@ -78,11 +79,11 @@ impl Script {
     }
 
     /// Room for another connection: of this peer, if one is named.
-    fn make_room(&mut self, words: &str) -> io::Result<String> {
+    fn make_room(&mut self, words: &str) -> Result<String, Fault> {
         let ended = if words.is_empty() {
             self.connections.make_room()
         } else {
-            self.connections.make_room_for(Peer::of(address(words)?))
+            self.connections.make_room_for(Peer::of(parsed(words)?))
         };
         let text = if ended.is_some() {
             "made room"
@@ -93,40 +94,38 @@ impl Script {
     }
 
     /// The message that a worker takes, with its slot and peer.
-    pub fn take(&mut self, worker: usize, now: u64) -> io::Result<String> {
+    pub fn take(&mut self, worker: usize, now: u64) -> Result<String, Fault> {
         let waits = self.connections.has_message(worker);
         match self.connections.take(worker, now) {
             Some(taken) => {
                 let told = self.taken_told(&taken);
                 self.keep(taken, now)?;
-                told
+                Ok(told?)
             }
             None if waits => Ok(String::from_str(self.alloc, "dropped")?),
             None => Ok(String::from_str(self.alloc, "none")?),
         }
     }
 
-    fn taken_told(&self, taken: &TakenMessage) -> io::Result<String> {
-        let slot = taken.slot();
-        let peer = peer_text(self.alloc, taken.ends().peer)?;
+    fn taken_told(&self, taken: &TakenMessage) -> Result<String, AllocError> {
+        let (slot, peer) = (taken.slot(), taken.ends().peer);
         let message = bytes_text(self.alloc, taken.message())?;
-        Ok(format!(in self.alloc; "slot {slot} from {peer}: {message}")?)
+        format!(in self.alloc; "slot {slot} from {peer}: {message}")
     }
 
     /// The slot whose reply has waited for its confirmation for `wait`, and its ticket.
-    fn overdue(&mut self, wait: u64, now: u64) -> io::Result<String> {
+    fn overdue(&mut self, wait: u64, now: u64) -> Result<String, AllocError> {
         match self.connections.overdue(wait, now) {
-            None => Ok(String::from_str(self.alloc, "none")?),
+            None => String::from_str(self.alloc, "none"),
             Some(unconfirmed) => {
-                let peer = peer_text(self.alloc, unconfirmed.peer)?;
-                let ticket = unconfirmed.ticket;
-                Ok(format!(in self.alloc; "{peer} waited for {ticket}")?)
+                let (peer, ticket) = (unconfirmed.peer, unconfirmed.ticket);
+                format!(in self.alloc; "{peer} waited for {ticket}")
             }
         }
     }
 
     /// The slots that were noted, each once, if something is to be done that the socket doesn't report.
-    fn look(&mut self) -> io::Result<String> {
+    fn look(&mut self) -> Result<String, AllocError> {
         let mut slots = Vec::new(self.alloc);
         for _ in 0..LOOKS {
             let Some(slot) = self.connections.take_changed() else {
@@ -143,6 +142,6 @@ impl Script {
             ""
         };
         let slots = slots_text(self.alloc, &slots)?;
-        Ok(format!(in self.alloc; "look at {slots}{more}")?)
+        format!(in self.alloc; "look at {slots}{more}")
     }
 }

@@ -1,34 +1,16 @@
 //! Words of a script.
 
-use crate::words::no_case;
+use crate::words::parsed;
 use std::alloc::Global;
-use std::io;
-use std::net::IpAddr;
-use std::str::FromStr;
-
-/// A number in decimal digits, or whatever else has a text.
-pub fn number<N: FromStr>(word: &str) -> io::Result<N>
-where
-    N::Err: Drop,
-{
-    match word.parse() {
-        Ok(number) => Ok(number),
-        Err(_) => Err(no_case()),
-    }
-}
+use support_cases::Fault;
 
 /// This many bytes, 00 01 .. fa 00 ..
-pub fn filler_bytes(alloc: Global, count: &str) -> io::Result<Vec<u8>> {
+pub fn filler_bytes(alloc: Global, count: &str) -> Result<Vec<u8>, Fault> {
     let mut bytes = Vec::new(alloc);
     let mut next = 0_u8;
-    for _ in 0..number::<u32>(count)? {
+    for _ in 0..parsed::<u32>(count)? {
         bytes.push(next)?;
         next = if next < 250 { next + 1 } else { 0 };
     }
     Ok(bytes)
-}
-
-/// An address, as it is written.
-pub fn address(word: &str) -> io::Result<IpAddr> {
-    number(word)
 }

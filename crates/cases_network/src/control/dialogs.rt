@@ -1,8 +1,8 @@
 //! Connections: what they give at each event, with a space between any two.
 
-use crate::control::words::bytes;
+use crate::words::bytes;
 use chpw_control::{Command, ControlFault, Dialog};
-use std::alloc::Global;
+use std::alloc::{AllocError, Global};
 use support_cases::Fault;
 
 /// Bytes, `end` and `late`; for each `-` if it gives nothing.
@@ -20,25 +20,26 @@ pub fn dialog_text(alloc: Global, events: &[&str]) -> Result<String, Fault> {
 }
 
 fn event_text(alloc: Global, dialog: &mut Dialog, event: &str) -> Result<String, Fault> {
-    match event {
-        "end" => fault_text(alloc, dialog.end()),
-        "late" => fault_text(alloc, dialog.expire()),
-        piece => match dialog.hear(alloc, bytes(alloc, piece)?.as_slice()) {
-            Some(Ok(command)) => command_text(alloc, &command),
-            Some(Err(fault)) => fault_text(alloc, Some(fault)),
-            None => fault_text(alloc, None),
-        },
+    let told = match event {
+        "end" => dialog.end().map(Err),
+        "late" => dialog.expire().map(Err),
+        piece => dialog.hear(alloc, &bytes(alloc, piece)?),
+    };
+    Ok(told_text(alloc, told)?)
+}
+
+fn told_text(
+    alloc: Global,
+    told: Option<Result<Command, ControlFault>>,
+) -> Result<String, AllocError> {
+    match told {
+        None => String::from_str(alloc, "-"),
+        Some(Ok(command)) => command_text(alloc, &command),
+        Some(Err(fault)) => format!(in alloc; "error: {}", fault.text()),
     }
 }
 
-fn fault_text(alloc: Global, fault: Option<ControlFault>) -> Result<String, Fault> {
-    match fault {
-        Some(fault) => Ok(format!(in alloc; "error: {}", fault.text())?),
-        None => Ok(String::from_str(alloc, "-")?),
-    }
-}
-
-fn command_text(alloc: Global, command: &Command) -> Result<String, Fault> {
+fn command_text(alloc: Global, command: &Command) -> Result<String, AllocError> {
     let word = match command {
         Command::Status => "Status",
         Command::Reload => "Reload",
@@ -46,8 +47,8 @@ fn command_text(alloc: Global, command: &Command) -> Result<String, Fault> {
         Command::Stop => "Stop",
         Command::Compact(file) => {
             let name = hex::encode(alloc, file.as_str().as_bytes())?;
-            return Ok(format!(in alloc; "Compact {name}")?);
+            return format!(in alloc; "Compact {name}");
         }
     };
-    Ok(String::from_str(alloc, word)?)
+    String::from_str(alloc, word)
 }

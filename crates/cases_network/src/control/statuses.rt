@@ -4,10 +4,10 @@ ghost use Rattle.std.specs.Prelude.{◌≡◌, ◌<◌, true, IfOk};
 ghost use Rattle.std.specs.Option.{ForSome};
 ghost use Rattle.chpw_control.specs.Statuses.{AreTold, IsTold};
 
-use crate::control::words::{bytes, escaped_text, number};
+use crate::control::words::escaped_text;
+use crate::words::{bytes, parsed, text_of};
 use chpw_control::{JournalState, KdcState, NameState, Status, Time, status_answer};
 use std::alloc::Global;
-use std::str;
 use support_cases::Fault;
 
 /// The first second and the last that can be printed.
@@ -15,26 +15,10 @@ const FIRST: i64 = -62_167_219_200;
 
 const LAST: i64 = 253_402_300_799;
 
-/// The words of a status that are neither numbers nor texts.
-#[derive(Clone, Copy, Drop)]
-struct Words {
-    since: Time,
-    quiet_until: Option<Time>,
-    journal_name: NameState,
-    log_name: NameState,
-    kdc: KdcState,
-    kdc_since: Option<Time>,
-}
+/// How many numbers a status has beside its times.
+const COUNTS: usize = 19;
 
-/// The texts of a status.
-#[derive(Clone, Copy, Drop)]
-struct Texts<'a> {
-    version: &'a str,
-    failure: Option<&'a str>,
-    refused: Option<&'a [u8]>,
-}
-
-/// The answer to VERSION SINCE QUIET FAILURE JOURNAL-NAME LOG-NAME KDC KDC-SINCE KDC-REFUSED PRINCIPALS ..
+/// The answer to VERSION SINCE QUIET FAILURE JOURNAL-NAME LOG-NAME KDC KDC-SINCE REFUSED NUMBER ..
 pub fn status_text(alloc: Global, values: &[&str]) -> Result<String, Fault> {
     let [
         version,
@@ -46,103 +30,100 @@ pub fn status_text(alloc: Global, values: &[&str]) -> Result<String, Fault> {
         kdc,
         kdc_since,
         refused,
-        rest @ ..,
+        counts @ ..,
     ] = values
     else {
         return Err(Fault::NoSuchCase);
     };
-    let version = bytes(alloc, version)?;
-    let refused = words_if_any(alloc, refused)?;
-    let failure = words_if_any(alloc, failure)?;
-    let words = Words {
+    let status = Status {
         since: time(since)?,
         quiet_until: time_if_any(quiet)?,
         journal_name: name_state(journal_name)?,
         log_name: name_state(log_name)?,
         kdc: kdc_state(kdc)?,
         kdc_since: time_if_any(kdc_since)?,
+        ..status_of(&numbers(counts)?)
     };
-    let counts = numbers(alloc, rest)?;
-    let texts = Texts {
-        version: str::from_utf8(&version).unwrap_or("(no text)"),
-        failure: failure
-            .as_ref()
-            .map(|words| str::from_utf8(words).unwrap_or("(no text)")),
-        refused: refused.as_ref().map(|words| words.as_slice()),
-    };
-    answer(alloc, texts, &words, &counts)
+    with_texts(alloc, &status, version, failure, refused)
 }
 
-fn answer(alloc: Global, texts: Texts<'_>, words: &Words, counts: &[u64]) -> Result<String, Fault>
-    requires since { IsTold words.now.since }
-    requires quiet { ForSome words.now.quiet_until IsTold }
-    requires kdc { ForSome words.now.kdc_since IsTold }
+/// The answer with the texts of these words, `-` for no failure and for no refusal.
+fn with_texts(
+    alloc: Global,
+    status: &Status<'_>,
+    version: &str,
+    failure: &str,
+    refused: &str,
+) -> Result<String, Fault>
+    requires times { AreTold status.now }
 {
-    let [
-        principals,
-        iterations,
-        entries,
-        changes,
-        all_entries,
-        all_changes,
-        rest @ ..,
-    ] = counts
-    else {
-        return Err(Fault::NoSuchCase);
-    };
-    let [
-        connections,
-        reading,
-        waiting,
-        answering,
-        confirming,
-        writing,
-        ending,
-        rest @ ..,
-    ] = rest
-    else {
-        return Err(Fault::NoSuchCase);
-    };
-    let [workers, busy, queue, journal_bytes, log_lost, kdc_behind] = rest else {
-        return Err(Fault::NoSuchCase);
+    let version = bytes(alloc, version)?;
+    let why = bytes(alloc, failure)?;
+    let name = bytes(alloc, refused)?;
+    let journal = match failure {
+        "-" => JournalState::Good,
+        _ => JournalState::Failed(text_of(&why)),
     };
     let status = Status {
-        version: texts.version,
-        since: words.since,
-        quiet_until: words.quiet_until,
-        principals: *principals,
-        iterations: *iterations,
-        entries: *entries,
-        changes: *changes,
-        all_entries: *all_entries,
-        all_changes: *all_changes,
-        connections: *connections,
-        reading: *reading,
-        waiting: *waiting,
-        answering: *answering,
-        confirming: *confirming,
-        writing: *writing,
-        ending: *ending,
-        workers: *workers,
-        busy: *busy,
-        queue: *queue,
-        journal_bytes: *journal_bytes,
-        journal: journal_state(texts.failure),
-        journal_name: words.journal_name,
-        log_lost: *log_lost,
-        log_name: words.log_name,
-        kdc: words.kdc,
-        kdc_since: words.kdc_since,
-        kdc_behind: *kdc_behind,
-        kdc_refused: texts.refused,
+        version: text_of(&version),
+        journal,
+        kdc_refused: (refused != "-").then_some(name.as_slice()),
+        ..*status
     };
-    escaped_text(alloc, status_answer(alloc, &status)?.as_slice())
+    answer_text(alloc, &status)
 }
 
-fn numbers(alloc: Global, words: &[&str]) -> Result<Vec<u64>, Fault> {
-    let mut numbers = Vec::new(alloc);
-    for word in words {
-        numbers.push(number(word)?).map_err(|_| Fault::Memory)?;
+fn answer_text(alloc: Global, status: &Status<'_>) -> Result<String, Fault>
+    requires times { AreTold status.now }
+{
+    let answer = status_answer(alloc, status)?;
+    Ok(escaped_text(alloc, &answer)?)
+}
+
+/// A status with these numbers, in the order of its fields.
+fn status_of(counts: &[u64; COUNTS]) -> Status<'static> {
+    Status {
+        version: "",
+        since: Time {
+            seconds: 0,
+            micros: 0,
+        },
+        quiet_until: None,
+        principals: counts[0],
+        iterations: counts[1],
+        entries: counts[2],
+        changes: counts[3],
+        all_entries: counts[4],
+        all_changes: counts[5],
+        connections: counts[6],
+        reading: counts[7],
+        waiting: counts[8],
+        answering: counts[9],
+        confirming: counts[10],
+        writing: counts[11],
+        ending: counts[12],
+        workers: counts[13],
+        busy: counts[14],
+        queue: counts[15],
+        journal_bytes: counts[16],
+        journal: JournalState::Good,
+        journal_name: NameState::Absent,
+        log_lost: counts[17],
+        log_name: NameState::Absent,
+        kdc: KdcState::Absent,
+        kdc_since: None,
+        kdc_behind: counts[18],
+        kdc_refused: None,
+    }
+}
+
+fn numbers(words: &[&str]) -> Result<[u64; COUNTS], Fault> {
+    let mut numbers = [0; COUNTS];
+    if words.len() != COUNTS {
+        return Err(Fault::NoSuchCase);
+    }
+    for (slot, word) in numbers.iter_mut().zip(words) {
+        *slot = parsed(word)?;
     }
     Ok(numbers)
 }
@@ -151,16 +132,8 @@ fn numbers(alloc: Global, words: &[&str]) -> Result<Vec<u64>, Fault> {
 fn time(word: &str) -> Result<Time, Fault>
     ensures told { IfOk result IsTold }
 {
-    let Some((seconds, micros)) = word.split_once('.') else {
-        return Err(Fault::NoSuchCase);
-    };
-    let Ok(seconds) = seconds.parse() else {
-        return Err(Fault::NoSuchCase);
-    };
-    let Ok(micros) = micros.parse() else {
-        return Err(Fault::NoSuchCase);
-    };
-    time_of(seconds, micros)
+    let (seconds, micros) = word.split_once('.').unwrap_or((word, ""));
+    time_of(parsed(seconds)?, parsed(micros)?)
 }
 
 fn time_of(seconds: i64, micros: u32) -> Result<Time, Fault>
@@ -181,13 +154,6 @@ fn time_if_any(word: &str) -> Result<Option<Time>, Fault>
     Ok(Some(time(word)?))
 }
 
-fn journal_state(failure: Option<&str>) -> JournalState<'_> {
-    match failure {
-        Some(why) => JournalState::Failed(why),
-        None => JournalState::Good,
-    }
-}
-
 fn name_state(word: &str) -> Result<NameState, Fault> {
     match word {
         "Absent" => Ok(NameState::Absent),
@@ -205,12 +171,4 @@ fn kdc_state(word: &str) -> Result<KdcState, Fault> {
         "Down" => Ok(KdcState::Down),
         _ => Err(Fault::NoSuchCase),
     }
-}
-
-// `-`, or the words in hexadecimal
-fn words_if_any(alloc: Global, word: &str) -> Result<Option<Vec<u8>>, Fault> {
-    if word == "-" {
-        return Ok(None);
-    }
-    Ok(Some(bytes(alloc, word)?))
 }

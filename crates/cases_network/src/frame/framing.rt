@@ -6,70 +6,59 @@ use chpw_frame::{
 };
 use hex::encode;
 use krb_protocol::Refusal;
-use std::alloc::Global;
-use std::io;
+use std::alloc::{AllocError, Global};
+use support_cases::Fault;
 
 /// Bytes in hexadecimal, `-` for none.
-pub fn hex_text(alloc: Global, bytes: &[u8]) -> io::Result<String> {
+pub fn hex_text(alloc: Global, bytes: &[u8]) -> Result<String, AllocError> {
     if bytes.is_empty() {
-        return Ok(String::from_str(alloc, "-")?);
+        return String::from_str(alloc, "-");
     }
-    Ok(encode(alloc, bytes)?)
+    encode(alloc, bytes)
 }
 
 /// The parts of a request.
-pub fn request(alloc: Global, text: &str) -> io::Result<String> {
-    shown_parts(alloc, split_request(&bytes(alloc, text)?))
+pub fn request(alloc: Global, text: &str) -> Result<String, Fault> {
+    let request = bytes(alloc, text)?;
+    Ok(shown_parts(alloc, split_request(&request))?)
 }
 
 /// The parts of a reply.
-pub fn reply(alloc: Global, text: &str) -> io::Result<String> {
-    shown_parts(alloc, split_reply(&bytes(alloc, text)?))
+pub fn reply(alloc: Global, text: &str) -> Result<String, Fault> {
+    let reply = bytes(alloc, text)?;
+    Ok(shown_parts(alloc, split_reply(&reply))?)
 }
 
-fn shown_parts(alloc: Global, parts: Result<Parts<'_>, FrameFault>) -> io::Result<String> {
+fn shown_parts(alloc: Global, parts: Result<Parts<'_>, FrameFault>) -> Result<String, AllocError> {
     match parts {
         Ok(Parts { version, ap, tail }) => {
             let ap = hex_text(alloc, ap)?;
             let tail = hex_text(alloc, tail)?;
-            Ok(format!(in alloc; "version {version:04x} ap {ap} tail {tail}")?)
+            format!(in alloc; "version {version:04x} ap {ap} tail {tail}")
         }
         Err(fault) => {
             let Refusal { code, error, text } = fault.refusal();
-            Ok(format!(in alloc; "{fault:?} {code}/{error} {text}")?)
+            format!(in alloc; "{fault:?} {code}/{error} {text}")
         }
     }
 }
 
-/// The two parts of a line.
-fn two(alloc: Global, text: &str) -> io::Result<(Vec<u8>, Vec<u8>)> {
+/// A reply, or a request of either protocol, with the two parts of a line.
+pub fn joined(alloc: Global, kind: &str, text: &str) -> Result<String, Fault> {
     let (ap, tail) = text.split_once(' ').unwrap_or((text, "-"));
-    Ok((bytes(alloc, ap)?, bytes(alloc, tail)?))
+    let (ap, tail) = (bytes(alloc, ap)?, bytes(alloc, tail)?);
+    joined_text(alloc, kind, &ap, &tail)
 }
 
-/// The request with two parts.
-pub fn joined_request(alloc: Global, text: &str) -> io::Result<String> {
-    let (ap, tail) = two(alloc, text)?;
-    if ap.is_empty() || ap.len() > 1_000 || tail.len() > 1_000 {
-        return Ok(String::from_str(alloc, "no request")?);
-    }
-    hex_text(alloc, &join_request(alloc, &ap, &tail)?)
-}
-
-/// The request of the earlier protocol with two parts.
-pub fn joined_old_request(alloc: Global, text: &str) -> io::Result<String> {
-    let (ap, tail) = two(alloc, text)?;
-    if ap.is_empty() || ap.len() > 1_000 || tail.len() > 1_000 {
-        return Ok(String::from_str(alloc, "no request")?);
-    }
-    hex_text(alloc, &join_old_request(alloc, &ap, &tail)?)
-}
-
-/// The reply with two parts.
-pub fn joined_reply(alloc: Global, text: &str) -> io::Result<String> {
-    let (ap, tail) = two(alloc, text)?;
+fn joined_text(alloc: Global, kind: &str, ap: &[u8], tail: &[u8]) -> Result<String, Fault> {
     if ap.len() > 1_000 || tail.len() > 1_000 {
-        return Ok(String::from_str(alloc, "no reply")?);
+        return Err(Fault::NoSuchCase);
     }
-    hex_text(alloc, &join_reply(alloc, &ap, &tail)?)
+    let joined = match kind {
+        "join-reply" => join_reply(alloc, ap, tail)?,
+        _ if ap.is_empty() => return Err(Fault::NoSuchCase),
+        "join-request" => join_request(alloc, ap, tail)?,
+        _ => join_old_request(alloc, ap, tail)?,
+    };
+    Ok(hex_text(alloc, &joined)?)
 }

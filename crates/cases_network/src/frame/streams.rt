@@ -1,75 +1,70 @@
 //! Messages over TCP.
 
 use crate::frame::framing::hex_text;
-use crate::words::bytes;
+use crate::words::{bytes, parsed};
 use chpw_frame::{LONGEST_MESSAGE, TcpOutcome, read_tcp, write_tcp};
-use std::alloc::Global;
-use std::io;
+use std::alloc::{AllocError, Global};
+use support_cases::Fault;
 use support_streams::{Course, Giver, Taker, Way};
 
 /// The answer to a case of a stream.
-pub fn answer(alloc: Global, kind: &str, text: &str) -> io::Result<String> {
+pub fn answer(alloc: Global, kind: &str, text: &str) -> Result<String, Fault> {
     let (how, hex) = text.split_once(": ").unwrap_or((text, ""));
     let bytes = bytes_with_zeros(alloc, hex)?;
-    let way = Way::of(how);
+    Ok(way_answer(alloc, kind, Way::of(how), &bytes)?)
+}
+
+fn way_answer(alloc: Global, kind: &str, way: Way, bytes: &[u8]) -> Result<String, AllocError> {
     match kind {
-        "read" => Ok(read(alloc, way, &bytes)?.0),
-        "reads" => {
-            let (shown, calls) = read(alloc, way, &bytes)?;
-            Ok(format!(in alloc; "{shown} in {calls} reads")?)
-        }
-        "write" => Ok(write_result(alloc, way, &bytes)?.0),
-        "writes" => {
-            let (shown, calls) = write_result(alloc, way, &bytes)?;
-            Ok(format!(in alloc; "{shown} in {calls} writes")?)
-        }
-        "fail" => failing(alloc, way, &bytes),
-        _ => Ok(String::from_str(alloc, "no such case")?),
+        "read" | "reads" => read(alloc, way, bytes, kind == "reads"),
+        "write" | "writes" => written(alloc, way, bytes, kind == "writes"),
+        "fail" => failing(alloc, way, bytes),
+        _ => String::from_str(alloc, "no such case"),
     }
 }
 
-/// The bytes of a text in hexadecimal, or of one with this many zeros after it, as in `00 * 4`.
-fn bytes_with_zeros(alloc: Global, text: &str) -> io::Result<Vec<u8>> {
+/// The bytes of a text in hexadecimal, or of one with this many zeros after it, as in `00 zeros 4`.
+fn bytes_with_zeros(alloc: Global, text: &str) -> Result<Vec<u8>, Fault> {
     let (front, count) = text.split_once(" zeros ").unwrap_or((text, "0"));
     let mut bytes = bytes(alloc, front)?;
-    for _ in 0..count.parse().unwrap_or(0) {
-        bytes.push(0)?;
-    }
+    let length = bytes.len().saturating_add(parsed(count)?);
+    bytes.resize(length, 0)?;
     Ok(bytes)
 }
 
-/// What is read of a stream, what is left of it, and the count of reads.
-fn read(alloc: Global, way: Way, stream: &[u8]) -> io::Result<(String, u32)> {
+/// What is read of a stream, what is left of it, and in how many reads if that is asked.
+fn read(alloc: Global, way: Way, stream: &[u8], counts: bool) -> Result<String, AllocError> {
     let mut reader = Giver {
         left: stream,
         course: Course::start(way),
     };
     let piece = shown_piece(alloc, &read_tcp(alloc, &mut reader)?)?;
     let left = shown_short(alloc, reader.left)?;
-    Ok((
-        format!(in alloc; "{piece}, left {left}")?,
-        reader.course.calls,
-    ))
+    if counts {
+        let calls = reader.course.calls;
+        return format!(in alloc; "{piece}, left {left} in {calls} reads");
+    }
+    format!(in alloc; "{piece}, left {left}")
 }
 
-fn shown_piece(alloc: Global, received: &TcpOutcome) -> io::Result<String> {
+fn shown_piece(alloc: Global, received: &TcpOutcome) -> Result<String, AllocError> {
     let text = match received {
         TcpOutcome::Message(message) => {
             let message = shown_short(alloc, message)?;
-            return Ok(format!(in alloc; "message {message}")?);
+            return format!(in alloc; "message {message}");
         }
         TcpOutcome::Ended => "ended",
         TcpOutcome::CutOff => "cut off",
         TcpOutcome::TooLong => "too long",
         TcpOutcome::ReadFault => "read fault",
     };
-    Ok(String::from_str(alloc, text)?)
+    String::from_str(alloc, text)
 }
 
 /// Bytes in hexadecimal, or their number if there are many.
-fn shown_short(alloc: Global, bytes: &[u8]) -> io::Result<String> {
+fn shown_short(alloc: Global, bytes: &[u8]) -> Result<String, AllocError> {
     if bytes.len() > 100 {
-        return Ok(format!(in alloc; "of {} bytes", bytes.len())?);
+        return format!(in alloc; "of {} bytes", bytes.len());
     }
     hex_text(alloc, bytes)
 }
@@ -87,16 +82,19 @@ fn write(alloc: Global, way: Way, message: &[u8]) -> (bool, Taker) {
     (done, writer)
 }
 
-/// What is written of a message, and the count of writes.
-fn write_result(alloc: Global, way: Way, message: &[u8]) -> io::Result<(String, u32)> {
+/// What is written of a message, and in how many writes if that is asked.
+fn written(alloc: Global, way: Way, message: &[u8], counts: bool) -> Result<String, AllocError> {
     let (done, Taker { taken, course }) = write(alloc, way, message);
     let taken = shown_short(alloc, &taken)?;
     let word = if done { "written" } else { "write fault after" };
-    Ok((format!(in alloc; "{word} {taken}")?, course.calls))
+    if counts {
+        return format!(in alloc; "{word} {taken} in {} writes", course.calls);
+    }
+    format!(in alloc; "{word} {taken}")
 }
 
 /// Writes a message with a fault after each byte in turn; how often exactly the bytes before the fault were taken.
-fn failing(alloc: Global, way: Way, message: &[u8]) -> io::Result<String> {
+fn failing(alloc: Global, way: Way, message: &[u8]) -> Result<String, AllocError> {
     let whole = write(alloc, way, message).1.taken;
     let mut fronts = 0u32;
     for count in 0..whole.len() {
@@ -105,8 +103,8 @@ fn failing(alloc: Global, way: Way, message: &[u8]) -> io::Result<String> {
             fronts = fronts.saturating_add(1);
         }
     }
-    Ok(format!(in alloc;
+    format!(in alloc;
         "{fronts} faults, each behind a front of {} bytes",
         whole.len()
-    )?)
+    )
 }

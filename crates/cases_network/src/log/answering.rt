@@ -4,14 +4,15 @@ ghost use Rattle.std.specs.Prelude.{◌≡◌, ◌<◌, true};
 ghost use Rattle.chpw_table.specs.Times.{IsMoment};
 
 use crate::log::making::opened_request;
-use crate::log::words::{address, error_of, kind_of, maybe_number, number, text_of, verdict_of};
+use crate::log::words::{address, kind_of, maybe_number, text_of, verdict_of};
 use crate::log::{events, updates};
+use crate::words::parsed;
 use chpw_log::{
     ClientAndTarget, HeldCount, HeldCounts, Line, LineLimits, MessageEvent, write_held, write_line,
 };
 use chpw_table::{LAST_SECOND, Moment};
 use krb_protocol::Refusal;
-use std::alloc::Global;
+use std::alloc::{AllocError, Global};
 use std::net::IpAddr;
 use support_cases::Fault;
 
@@ -27,21 +28,25 @@ struct Place {
 pub fn answer(alloc: Global, case: &str) -> Result<String, Fault> {
     let words: Vec<&str> = case.split(' ').collect(alloc)?;
     match words.as_slice() {
-        ["held", rest @ ..] => return held_line(alloc, rest),
-        ["limit", rest @ ..] => return limited_lines(alloc, rest),
-        ["event", rest @ ..] => return events::event_line(alloc, rest),
-        ["update", rest @ ..] => return updates::update_line(alloc, rest),
-        _ => {}
+        ["held", rest @ ..] => held_line(alloc, rest),
+        ["limit", rest @ ..] => limited_lines(alloc, rest),
+        ["event", rest @ ..] => events::event_line(alloc, rest),
+        ["update", rest @ ..] => updates::update_line(alloc, rest),
+        words => placed_line(alloc, words),
     }
-    let [kind, seconds, micros, worker, peer, rest @ ..] = words.as_slice() else {
+}
+
+// KIND SECONDS MICROS WORKER PEER ..
+fn placed_line(alloc: Global, words: &[&str]) -> Result<String, Fault> {
+    let [kind, seconds, micros, worker, peer, rest @ ..] = words else {
         return Err(Fault::NoSuchCase);
     };
     let place = Place {
         moment: Moment {
-            seconds: number(seconds)?,
-            micros: number(micros)?,
+            seconds: parsed(seconds)?,
+            micros: parsed(micros)?,
         },
-        worker: number(worker)?,
+        worker: parsed(worker)?,
         peer: address(alloc, peer)?,
     };
     match *kind {
@@ -57,13 +62,18 @@ fn decided_line(alloc: Global, place: Place, words: &[&str]) -> Result<String, F
     let [client, target, verdict, kvno] = words else {
         return Err(Fault::NoSuchCase);
     };
+    let (verdict, kvno) = (verdict_of(verdict)?, maybe_number(kvno)?);
     let opened = opened_request(alloc, client, target)?;
-    let news = MessageEvent::Decided {
-        asked: ClientAndTarget::of(&opened),
-        verdict: verdict_of(verdict)?,
-        kvno: maybe_number(kvno)?,
-    };
-    message_line(alloc, place, news)
+    let asked = ClientAndTarget::of(&opened);
+    message_line(
+        alloc,
+        place,
+        MessageEvent::Decided {
+            asked,
+            verdict,
+            kvno,
+        },
+    )
 }
 
 // CLIENT TARGET CODE ERROR TEXT
@@ -71,13 +81,10 @@ fn full_line(alloc: Global, place: Place, words: &[&str]) -> Result<String, Faul
     let [client, target, code, error, text] = words else {
         return Err(Fault::NoSuchCase);
     };
+    let refusal = &refusal(code, error, text)?;
     let opened = opened_request(alloc, client, target)?;
-    let refusal = refusal(code, error, text)?;
-    let news = MessageEvent::Full {
-        asked: ClientAndTarget::of(&opened),
-        refusal: &refusal,
-    };
-    message_line(alloc, place, news)
+    let asked = ClientAndTarget::of(&opened);
+    message_line(alloc, place, MessageEvent::Full { asked, refusal })
 }
 
 // CODE ERROR TEXT
@@ -95,8 +102,8 @@ fn refusal(code: &str, error: &str, text: &str) -> Result<Refusal, Fault> {
         return Err(Fault::NoSuchCase);
     }
     Ok(Refusal {
-        code: number(code)?,
-        error: error_of(error)?,
+        code: parsed(code)?,
+        error: parsed(error)?,
         text,
     })
 }
@@ -107,10 +114,11 @@ fn held_line(alloc: Global, words: &[&str]) -> Result<String, Fault> {
         return Err(Fault::NoSuchCase);
     };
     let moment = Moment {
-        seconds: number(seconds)?,
-        micros: number(micros)?,
+        seconds: parsed(seconds)?,
+        micros: parsed(micros)?,
     };
-    let (loopback, other): (u32, u32) = (number(loopback)?, number(other)?);
+    let (loopback, other): (u32, u32) = (parsed(loopback)?, parsed(other)?);
+    let kind = kind_of(kind)?;
     if !is_moment(moment) || loopback > 1_000_000 || other > 1_000_000 - loopback {
         return Err(Fault::NoSuchCase);
     }
@@ -119,10 +127,7 @@ fn held_line(alloc: Global, words: &[&str]) -> Result<String, Fault> {
         other,
         since: 0,
     };
-    line_of(
-        alloc,
-        write_held(alloc, moment, kind_of(kind)?, &held)?.as_slice(),
-    )
+    line_of(alloc, write_held(alloc, moment, kind, &held))
 }
 
 // KIND@TIME@PEER ..: for each `+` if it has its line and otherwise `-`, after the summaries before it; finally the last
@@ -131,11 +136,9 @@ fn limited_lines(alloc: Global, words: &[&str]) -> Result<String, Fault> {
     let mut limits = LineLimits::new();
     let mut text = String::new(alloc);
     for word in words {
-        let parts: Vec<&str> = word.split('@').collect(alloc)?;
-        let [kind, time, peer] = parts.as_slice() else {
-            return Err(Fault::NoSuchCase);
-        };
-        let leave = limits.ask(kind_of(kind)?, number(time)?, address(alloc, peer)?);
+        let (kind, rest) = word.split_once('@').unwrap_or((word, ""));
+        let (time, peer) = rest.split_once('@').unwrap_or((rest, ""));
+        let leave = limits.ask(kind_of(kind)?, parsed(time)?, address(alloc, peer)?);
         push_counts(&mut text, leave.told)?;
         text.push_str(if leave.line { "+" } else { "-" })?;
     }
@@ -143,13 +146,13 @@ fn limited_lines(alloc: Global, words: &[&str]) -> Result<String, Fault> {
     Ok(text)
 }
 
-fn push_counts(text: &mut String, told: HeldCounts) -> Result<(), Fault> {
+fn push_counts(text: &mut String, told: HeldCounts) -> Result<(), AllocError> {
     push_told(text, "unopened", told.unopened)?;
     push_told(text, "skewed", told.skewed)?;
     push_told(text, "replayed", told.replayed)
 }
 
-fn push_told(text: &mut String, kind: &str, told: Option<HeldCount>) -> Result<(), Fault> {
+fn push_told(text: &mut String, kind: &str, told: Option<HeldCount>) -> Result<(), AllocError> {
     if let Some(
         HeldCount {
             loopback,
@@ -158,7 +161,7 @@ fn push_told(text: &mut String, kind: &str, told: Option<HeldCount>) -> Result<(
         },
     ) = told
     {
-        write!(text, "({kind} {loopback} {other})")?;
+        return write!(text, "({kind} {loopback} {other})");
     }
     Ok(())
 }
@@ -185,14 +188,21 @@ fn message_line(alloc: Global, place: Place, news: MessageEvent<'_>) -> Result<S
         peer,
         news,
     };
-    line_of(alloc, write_line(alloc, &line)?.as_slice())
+    line_of(alloc, write_line(alloc, &line))
 }
 
 // A line without its newline.
-pub(crate) fn line_of(alloc: Global, line: &[u8]) -> Result<String, Fault> {
-    let Some((b'\n', text)) = line.split_last() else {
-        return Ok(String::from_str(alloc, "(no newline)")?);
-    };
-    let text = str::from_utf8(text).unwrap_or("(no text)");
-    Ok(String::from_str(alloc, text)?)
+pub(crate) fn line_of(
+    alloc: Global,
+    written: Result<Vec<u8>, AllocError>,
+) -> Result<String, Fault> {
+    let line = written?;
+    Ok(String::from_str(alloc, without_newline(&line))?)
+}
+
+fn without_newline(line: &[u8]) -> &str {
+    match line.split_last() {
+        Some((b'\n', text)) => str::from_utf8(text).unwrap_or("(no text)"),
+        _ => "(no newline)",
+    }
 }

@@ -5,7 +5,7 @@ ghost use Rattle.std.specs.Option.{ForSome};
 ghost use Rattle.chpw_log.specs.Events.{IsQuietTold, IsWholeMoment};
 
 use crate::log::answering::{is_moment, line_of};
-use crate::log::words::number;
+use crate::words::parsed;
 use chpw_log::{ServiceEvent, write_event};
 use chpw_table::Moment;
 use std::alloc::Global;
@@ -18,70 +18,45 @@ pub fn event_line(alloc: Global, words: &[&str]) -> Result<String, Fault> {
     };
     let moment = moment(seconds, micros)?;
     let event = event(kind, values)?;
-    line_of(alloc, write_event(alloc, moment, &event)?.as_slice())
+    line_of(alloc, write_event(alloc, moment, &event))
 }
 
 fn event(kind: &str, values: &[&str]) -> Result<ServiceEvent, Fault>
     ensures told { IfOk result IsQuietTold }
 {
-    match kind {
-        "started" => started_event(values),
-        "journal-failed" => Ok(ServiceEvent::JournalFailed),
-        "log-reopened" => Ok(ServiceEvent::LogReopened),
-        "raised" => raised_event(values),
-        "reloaded" => reloaded_event(values),
-        _ => counted_event(kind, values),
+    match (kind, values) {
+        ("journal-failed", []) => Ok(ServiceEvent::JournalFailed),
+        ("log-reopened", []) => Ok(ServiceEvent::LogReopened),
+        ("raised", [iterations]) => Ok(ServiceEvent::Raised {
+            iterations: parsed(iterations)?,
+        }),
+        ("started", [principals, iterations, quiet]) => Ok(ServiceEvent::Started {
+            principals: parsed(principals)?,
+            iterations: parsed(iterations)?,
+            quiet_until: quiet_moment(quiet)?,
+        }),
+        (_, [first, second]) => counted_event(kind, first, second),
+        _ => Err(Fault::NoSuchCase),
     }
 }
 
-fn started_event(values: &[&str]) -> Result<ServiceEvent, Fault>
+// `reloaded`, `rolled-over` and `ended`
+fn counted_event(kind: &str, first: &str, second: &str) -> Result<ServiceEvent, Fault>
     ensures told { IfOk result IsQuietTold }
 {
-    let [principals, iterations, quiet] = values else {
-        return Err(Fault::NoSuchCase);
-    };
-    let quiet_until = quiet_moment(quiet)?;
-    Ok(ServiceEvent::Started {
-        principals: number(principals)?,
-        iterations: number(iterations)?,
-        quiet_until,
-    })
-}
-
-fn raised_event(values: &[&str]) -> Result<ServiceEvent, Fault>
-    ensures told { IfOk result IsQuietTold }
-{
-    let [iterations] = values else {
-        return Err(Fault::NoSuchCase);
-    };
-    Ok(ServiceEvent::Raised {
-        iterations: number(iterations)?,
-    })
-}
-
-fn reloaded_event(values: &[&str]) -> Result<ServiceEvent, Fault>
-    ensures told { IfOk result IsQuietTold }
-{
-    let [principals, iterations] = values else {
-        return Err(Fault::NoSuchCase);
-    };
-    Ok(ServiceEvent::Reloaded {
-        principals: number(principals)?,
-        iterations: number(iterations)?,
-    })
-}
-
-// `rolled-over` and `ended`
-fn counted_event(kind: &str, values: &[&str]) -> Result<ServiceEvent, Fault>
-    ensures told { IfOk result IsQuietTold }
-{
-    let [entries, changes] = values else {
-        return Err(Fault::NoSuchCase);
-    };
-    let (entries, changes): (u64, u64) = (number(entries)?, number(changes)?);
     match kind {
-        "rolled-over" => Ok(ServiceEvent::RolledOver { entries, changes }),
-        "ended" => Ok(ServiceEvent::Ended { entries, changes }),
+        "reloaded" => Ok(ServiceEvent::Reloaded {
+            principals: parsed(first)?,
+            iterations: parsed(second)?,
+        }),
+        "rolled-over" => Ok(ServiceEvent::RolledOver {
+            entries: parsed(first)?,
+            changes: parsed(second)?,
+        }),
+        "ended" => Ok(ServiceEvent::Ended {
+            entries: parsed(first)?,
+            changes: parsed(second)?,
+        }),
         _ => Err(Fault::NoSuchCase),
     }
 }
@@ -90,8 +65,8 @@ pub(crate) fn moment(seconds: &str, micros: &str) -> Result<Moment, Fault>
     ensures told { IfOk result IsWholeMoment }
 {
     let moment = Moment {
-        seconds: number(seconds)?,
-        micros: number(micros)?,
+        seconds: parsed(seconds)?,
+        micros: parsed(micros)?,
     };
     if !is_moment(moment) {
         return Err(Fault::NoSuchCase);

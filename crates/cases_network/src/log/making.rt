@@ -1,6 +1,6 @@
 //! Requests from words.
 
-use crate::log::words::bytes;
+use crate::words::bytes;
 use chpw_rules::{Items, Name};
 use chpw_table::{Body, Digest, Opened, Target};
 use std::alloc::Global;
@@ -39,17 +39,9 @@ fn body(alloc: Global, target: &str) -> Result<Body, Fault> {
 
 /// REALM:PART.PART, in hexadecimal; a name without components has no `:`.
 pub fn principal(alloc: Global, text: &str) -> Result<Target, Fault> {
-    let mut parts = Vec::new(alloc);
-    let realm = match text.split_once(':') {
-        None => text,
-        Some((realm, name)) => {
-            for part in name.split('.') {
-                parts
-                    .push(Items::of(bytes(alloc, part)?))
-                    .map_err(|_| Fault::Memory)?;
-            }
-            realm
-        }
+    let (realm, parts) = match text.split_once(':') {
+        Some((realm, name)) => (realm, parts_of(alloc, name)?),
+        None => (text, Vec::new(alloc)),
     };
     Ok(Target {
         realm: Items::of(bytes(alloc, realm)?),
@@ -57,4 +49,12 @@ pub fn principal(alloc: Global, text: &str) -> Result<Target, Fault> {
             parts: Items::of(parts),
         },
     })
+}
+
+fn parts_of(alloc: Global, name: &str) -> Result<Vec<Items<u8>>, Fault> {
+    let mut parts = Vec::new(alloc);
+    for part in name.split('.') {
+        parts.push(Items::of(bytes(alloc, part)?))?;
+    }
+    Ok(parts)
 }

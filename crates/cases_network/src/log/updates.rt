@@ -3,8 +3,9 @@
 use crate::log::answering::line_of;
 use crate::log::events::moment;
 use crate::log::making::principal;
-use crate::log::words::number;
+use crate::words::parsed;
 use chpw_log::write_update;
+use chpw_rules::Name;
 use chpw_table::{KdcUpdate, KeyRow, UpdateVerdict};
 use std::alloc::Global;
 use support_cases::Fault;
@@ -17,27 +18,31 @@ pub fn update_line(alloc: Global, words: &[&str]) -> Result<String, Fault> {
     let moment = moment(seconds, micros)?;
     let verdict = verdict_of(verdict)?;
     let update = update(alloc, what)?;
-    line_of(
-        alloc,
-        write_update(alloc, moment, &update, verdict)?.as_slice(),
-    )
+    line_of(alloc, write_update(alloc, moment, &update, verdict))
 }
 
 fn update(alloc: Global, words: &[&str]) -> Result<KdcUpdate, Fault> {
     match words {
-        ["adopt", name, kvno] => Ok(KdcUpdate::Adopt {
-            name: principal(alloc, name)?.name,
-            key: key_under(number(kvno)?),
-        }),
-        ["lift", name, kvno] => Ok(KdcUpdate::Lift {
-            name: principal(alloc, name)?.name,
-            kvno: number(kvno)?,
-        }),
-        ["remove", name] => Ok(KdcUpdate::Remove {
-            name: principal(alloc, name)?.name,
-        }),
+        ["adopt", name, kvno] => {
+            let key = key_under(parsed(kvno)?);
+            let name = name_of(alloc, name)?;
+            Ok(KdcUpdate::Adopt { name, key })
+        }
+        ["lift", name, kvno] => {
+            let kvno = parsed(kvno)?;
+            let name = name_of(alloc, name)?;
+            Ok(KdcUpdate::Lift { name, kvno })
+        }
+        ["remove", name] => {
+            let name = name_of(alloc, name)?;
+            Ok(KdcUpdate::Remove { name })
+        }
         _ => Err(Fault::NoSuchCase),
     }
+}
+
+fn name_of(alloc: Global, word: &str) -> Result<Name, Fault> {
+    Ok(principal(alloc, word)?.name)
 }
 
 fn key_under(kvno: u32) -> KeyRow {

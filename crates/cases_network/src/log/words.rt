@@ -1,39 +1,18 @@
 //! Words of a case.
 
+use crate::words::{bytes, parsed};
 use chpw_log::HeldKind;
 use chpw_table::Verdict;
 use std::alloc::Global;
 use std::net::{IpAddr, Ipv6Addr};
-use std::str::FromStr;
 use support_cases::Fault;
-
-/// A number in decimal digits.
-pub fn number<N: FromStr>(word: &str) -> Result<N, Fault>
-where
-    N::Err: Drop,
-{
-    match word.parse() {
-        Ok(number) => Ok(number),
-        Err(_) => Err(Fault::NoSuchCase),
-    }
-}
 
 /// A number, or `-` for none.
 pub fn maybe_number(word: &str) -> Result<Option<u32>, Fault> {
     if word == "-" {
         return Ok(None);
     }
-    Ok(Some(number(word)?))
-}
-
-/// An error code.
-pub fn error_of(word: &str) -> Result<i32, Fault> {
-    number(word)
-}
-
-/// Bytes in hexadecimal.
-pub fn bytes(alloc: Global, word: &str) -> Result<Vec<u8>, Fault> {
-    hex::decode(alloc, word).map_err(|_| Fault::NoSuchCase)
+    Ok(Some(parsed(word)?))
 }
 
 /// An address: four bytes or sixteen in hexadecimal.
