@@ -108,14 +108,19 @@ fn show_journal(
     Ok(())
 }
 
+/// Adds the history, in one line.
 fn show_history(text: &mut String, history: &[Entry]) -> Result<(), AllocError> {
+    text.push_str("history:")?;
     for entry in history {
-        let (worker, number, failed) = (entry.worker, entry.number, entry.io_failed);
-        let what = if failed { ", append failed" } else { "" };
-        let said = event_text(&entry.event);
-        writeln!(text, "{worker}.{number} {said}{what}")?;
+        let what = if entry.io_failed {
+            ", append failed"
+        } else {
+            ""
+        };
+        let (worker, number, said) = (entry.worker, entry.number, event_text(&entry.event));
+        write!(text, " {worker}.{number} {said}{what};")?;
     }
-    Ok(())
+    Ok(text.push_str("\n")?)
 }
 
 fn event_text(event: &Event) -> &'static str {
