@@ -1,25 +1,26 @@
 """How commands of the program end: what they print, their lines on standard error, their status.
 
-They need no packages. What `import` and `key`, `client` and `serve` have of their own is in endings_import, endings_client and
-endings_serve; what `serve` says of its files, in faults.
+They need no packages. What `import` and `key`, `table`, `client` and `serve` have of their own is in endings_import,
+endings_table, endings_client and endings_serve; what `serve` says of its files, in faults.
 """
 
+import contextlib
 import os
 import socket
 import subprocess
 import threading
 
 from harness.cases import main
-from harness.journal import plain_record, raise_record
 from harness.keytab import keytab
 from harness.program import MISSING, Client, ProgramCase, shown, unreadable
 from harness.sample_realm import write_configuration
-from harness.server import private
 
 SCRIPT = "realm EXAMPLE.COM\npolicy 0 0 2 4096 no\nprincipal alice 1 4096:a1\nopen 10 -1\n"
 NO_TEXT = "a word of the command line is not UTF-8"
 # what is UTF-8, and what isn't: a byte of no character, one that is cut off, one that goes on though none has begun
 NOT_TEXT = [(b"", b"\xff"), (b"# a comment\n", b"\xc3"), ("# é\n".encode(), b"\xa9\nrealm = 1\n")]
+ABOUT = "The Kerberos change-password service kadmin/changepw (RFC 3244)."
+ABOUT_CLIENT = "Send one request to a service on this machine, without a KDC."
 LIMIT = "a value for '--connections <N>' is a number from 1 to 4294967295, or unlimited"
 # What the program says where clap finds no fault, and where it gives an answer of its own to one.
 REFUSALS = [
@@ -120,6 +121,32 @@ def answer_line(listener, answer, heard):
         connection.sendall(answer.encode())
 
 
+def break_off(listener, begun, heard):
+    """Begins an answer, and ends a connection from which nothing was read: that resets it."""
+    connection, _ = listener.accept()
+    with connection:
+        heard.append(connection.recv(100, socket.MSG_PEEK).decode())
+        connection.sendall(begun.encode())
+
+
+def hang_up(listener, *_):
+    listener.accept()[0].close()
+
+
+@contextlib.contextmanager
+def answering(path, answer, text):
+    """A socket there, at which one caller is answered so; what that said."""
+    heard = []
+    with socket.socket(socket.AF_UNIX) as listener:
+        listener.bind(str(path))
+        listener.listen()
+        thread = threading.Thread(target=answer, args=(listener, text, heard))
+        thread.start()
+        yield heard
+        thread.join()
+    path.unlink()
+
+
 class Endings(ProgramCase):
     def test_command_lines(self):
         text = ("", "a text", 2)
@@ -155,6 +182,14 @@ class Endings(ProgramCase):
             words = line.replace(old, new).split()
             self.tell_ended(f"{words[0]}, {old} now '{new}'", text, *words)
 
+    def test_usage(self):
+        """What help is for is said first, and then how the program or the command is used."""
+        for words, about in ([], ABOUT), (["--help"], ABOUT), (["help", "client"], ABOUT_CLIENT):
+            done = subprocess.run([self.program, *words], capture_output=True, text=True, timeout=60)
+            first, _, rest = done.stderr.partition("\n\n")
+            usage = " ".join(["Usage:", os.path.basename(self.program), *words[1:]])
+            self.tell(f"used, {' '.join(words)}", (first, rest.startswith(usage)), (about, True))
+
     def test_refusals(self):
         """The first line of a refusal says what is wrong."""
         for line, wanted in REFUSALS:
@@ -180,6 +215,8 @@ class Endings(ProgramCase):
         (self.folder / "bad").write_text(text.replace("depth = 3", "depth = 17"))
         good = "ok: principals 2, rules 0, service keys 1"
         self.tell_ended("check: good", (good, "", 0), "check", "--config", "good")
+        (self.folder / "Größe").write_text(text)
+        self.tell_ended("check: a name that is UTF-8", (good, "", 0), "check", "--config", "Größe")
         found, words, status = self.ended("check", "--config", "bad")
         told = (found, words.split(":")[0], status)
         self.tell("check: a depth of 17", told, ("C4 policy 0", "bad", 1))
@@ -218,21 +255,6 @@ class Endings(ProgramCase):
                 ended = self.ended(*words, stderr=full)
                 self.tell(f"nothing told: {' '.join(words)}", ended[2], status)
 
-    def test_table(self):
-        """The configuration's keys, and those that the journal's changes put in front."""
-        server = self.new_server("alice", "bob")
-        private(server.journal).write_bytes(raise_record(8192) + plain_record("alice", 2))
-        words = ["--config", server.configuration, "--journal", server.journal]
-        lines = "alice kvno 2 counts 4096 4096\nbob kvno 1 counts 4096\nprincipals 2 changes 2"
-        self.tell_ended("table: lines", (lines, "", 0), "table", *words)
-        found, errors, status = self.ended("table", *words, "--as", "keys")
-        newest = f"alice@EXAMPLE.COM 2 18 4096 {'00' * 32} EXAMPLE.COMalice"
-        self.tell("table: keys", (found.splitlines()[0], len(found.splitlines()), errors, status),
-                            (newest, 6, "", 0))
-        self.tell_unwritten("table: a full disk", "table", *words)
-        server.journal.unlink()
-        self.tell_ended("table: no journal", unreadable(server.journal, MISSING), "table", *words)
-
     def test_control(self):
         """What `control` sends, prints and ends with, by what a service answers."""
         path = self.folder / "control.socket"
@@ -245,19 +267,28 @@ class Endings(ProgramCase):
             ("with a file", ["compact", "a file"], "ok\n", "", 0),
             ("refused", ["reopen-log"], "ok\nerror: cannot write log\n", "", 1),
             ("ended without its newline", ["stop"], "ok", "", 1),
+            ("ended by a line of another kind", ["status"], "book\n", "", 1),
+            ("a fault after the end", ["reload"], "ok\ncannot read realm.toml\n", "", 1),
+            ("an empty line after the end", ["status"], "ok\n\n", "", 1),
             ("no answer", ["stop"], "", "connection ended", 1),
             ("more than printable ASCII", ["status"], "\x1b[31mred \\x1b \u00e9~\x7f\r\nok\n", "", 0),
         ]:
-            with socket.socket(socket.AF_UNIX) as listener:
-                listener.bind(str(path))
-                listener.listen()
-                heard = []
-                answering = threading.Thread(target=answer_line, args=(listener, answer, heard))
-                answering.start()
+            with answering(path, answer_line, answer) as heard:
                 self.tell_ended(f"control: {what}", (shown(answer).strip(), errors, status), *words, *command)
-                answering.join()
-                self.tell(f"control: {what}: its line", heard, [" ".join(command) + "\n"])
-            path.unlink()
+            self.tell(f"control: {what}: its line", heard, [" ".join(command) + "\n"])
+        with answering(path, answer_line, "ok\n"):
+            self.tell_unwritten("control: a full disk", *words, "status")
+
+    def test_control_broken_off(self):
+        """A service that resets the connection before its answer, or in the middle of it; and one that ends it unheard."""
+        path = self.folder / "control.socket"
+        words = ["control", "--socket", path, "compact", "new.journal"]
+        for what, begun in ("before", ""), ("after a letter of", "o"):
+            with answering(path, break_off, begun) as heard:
+                self.tell_ended(f"control: reset {what} an answer", (begun, "connection ended", 1), *words)
+            self.tell(f"control: reset {what} an answer: its line", heard, ["compact new.journal\n"])
+        with answering(path, hang_up, ""):
+            self.tell_ended("control: hung up on", ("", "connection ended", 1), *words)
 
     def test_closed_descriptors(self):
         """Each command with one of 0, 1 and 2 closed goes on, and reads or prints nothing there."""

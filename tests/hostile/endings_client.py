@@ -6,8 +6,11 @@ import time
 
 from harness import wire
 from harness.cases import main
+from harness.journal import read_journal
+from harness.kept import keys_of
 from harness.ports import free_ports
 from harness.program import MISSING, PRINTED, Client, ProgramCase, answer_one, with_length, fault_of, shown, unreadable
+from harness.sample_realm import write_configuration
 
 LONGEST_PASSWORD = 60_000
 
@@ -153,11 +156,13 @@ class ClientEndings(ProgramCase):
         """`client` with the new password in a file, or on standard input."""
         client = Client(self, self.new_server("alice"))
         del client.options["--password"]
-        (self.folder / "empty").write_text("\r\n")
-        (self.folder / "lines").write_text("New-pass2\nNew-pass3\n")
+        for name, text in ("empty", b""), ("newline", b"\n"), ("return", b"\r\n"), ("lines", b"New-pass2\nNew-pass3\n"):
+            (self.folder / name).write_bytes(text)
         for name, line in [
             ("missing", f"cannot read missing\nmissing: {MISSING}"),
             ("empty", "empty: the password is empty"),
+            ("newline", "newline: the password is empty"),
+            ("return", "return: the password is empty"),
             ("lines", "lines: more than one line"),
         ]:
             named = {"password-file": name}
@@ -168,6 +173,26 @@ class ClientEndings(ProgramCase):
         self.tell_ended("client: no password on standard input", empty, *words, script="\n")
         unconnected = ("", "cannot connect", 1)
         self.tell_ended("client: the password on standard input", unconnected, *words, script="New-pass2")
+
+    def test_passwords_of_files(self):
+        """The end of its line is no part of a password: it would be of one class more, of which the service wants two."""
+        server = self.new_server("alice")
+        write_configuration(server.configuration, ["alice"], iterations=4)
+        server.start(connections=4)
+        client = Client(self, server)
+        del client.options["--password"]
+        changed = ("code 0 password changed", "", 0)
+        for what, text, wanted in [
+            ("a newline", b"newpass1\n", changed),
+            ("a carriage return, too", b"newpass2\r\n", changed),
+            ("no newline", b"newpass3", changed),
+            ("one class", b"newpass\r\n", ("code 4 too few character classes", "", 1)),
+        ]:
+            (self.folder / "password").write_bytes(text)
+            client.tell(f"a password of a file, {what}", wanted, **{"password-file": "password"})
+        self.tell("serve: its last line", server.last_words(), "entries 4 changes 3")
+        records = [(it.kvno, it.aes128, it.aes256) for it in read_journal(server.journal.read_bytes())[0]]
+        self.tell("the keys", records, [(it + 1, *keys_of("alice", f"newpass{it}", 4)) for it in (1, 2, 3)])
 
 
 if __name__ == "__main__":

@@ -50,6 +50,21 @@ class ImportEndings(ProgramCase):
         self.tell_unwritten("key: a full disk", "key", *words)
         self.tell_ended("key: no file", unreadable("missing", MISSING), "key", *words[:-1], "missing")
 
+    def test_keys_not_brought_in(self):
+        """A folder, and a file that is no keytab or has no password; a name that is none, which is told before the file is
+        read."""
+        (self.folder / "no.keytab").write_text("[")
+        (self.folder / "no.password").write_text("\n")
+        for what, words, wanted in [
+            ("a folder", ["import", "--keytab", "."], unreadable(".", "is a directory")),
+            ("no keytab", ["import", "--keytab", "no.keytab"], ("", "no.keytab: not a keytab of format 0x0502", 1)),
+            ("a folder", ["key", "--name", "alice", "--password-file", "."], unreadable(".", "is a directory")),
+            ("no password", ["key", "--name", "alice", "--password-file", "no.password"],
+             ("", "no.password: the password is empty", 1)),
+            ("no name", ["key", "--name", "a//b", "--password-file", "missing"], ("", "bad argument", 2)),
+        ]:
+            self.tell_ended(f"{words[0]}: {what}", wanted, *words, "--realm", "EXAMPLE.COM")
+
     def test_keys_after_a_head(self):
         """What `import` writes, joined after a configuration's head, is read as both: the head's rule, and these keys."""
         short, long = bytes(range(16)), bytes(range(32))

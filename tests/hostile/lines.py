@@ -2,20 +2,22 @@
 
 No clause can say what a terminal or a file holds, so the lines are read here as an administrator reads them: what came
 of a raise, a torn tail that was cut off, the tally of each history, and the log of two workers, in which a request that
-found its history full has its names too, and the service's own events; and what is said of replies that waited for the KDC in
-vain. Needs gcc (a slow sync holds a decision under the lock).
+was refused, or found its history full, has its names too, and the service's own events; and what is said of replies that
+waited for the KDC in vain. Needs gcc (a slow sync holds a decision under the lock).
 """
 
 import contextlib
 import datetime
 import re
 import socket
+import subprocess
 import threading
 import time
 
 from harness.cases import Case, main
 from harness.changing import CHANGED, NAMES, change
 from harness.false_agent import listed
+from harness.journal import read_journal
 from harness.log_lines import events, messages
 from harness.machine import slow_sync
 from harness.sample_realm import write_configuration
@@ -28,6 +30,27 @@ QUIET = "code 3 error 37 clock skew too great"
 LINE = re.compile(
     r"(?P<moment>\S+) worker (?P<worker>\d+) peer 127\.0\.0\.1 client (?P<client>\S+) target (?P<target>\S+) "
     r"code (?P<code>\d+) error (?P<error>\S+) kvno (?P<kvno>\S+) text (?P<text>.*)")
+
+
+# Requests of the service's own client: who asks with which words, for whom, and the code, the key version and the text of
+# the answer. user0 may set user1's password.
+REQUESTS = [
+    ("user0", ["--password", "New-pass1"], "user0", 0, "2", "password changed"),
+    ("user0", ["--password", "New1"], "user0", 4, "-", "password too short"),
+    ("user0", ["--password", "New-pass2", "--no-initial"], "user0", 7, "-", "initial ticket needed"),
+    ("user0", ["--password", "New-pass3", "--target", "user1"], "user1", 0, "2", "password changed"),
+    ("user1", ["--password", "New-pass4", "--target", "user0"], "user0", 5, "-", "access denied"),
+    ("user0", ["--password", "New-pass5", "--old"], "user0", 0, "3", "password changed"),
+    ("user0", ["--password", "New-pass2", "--no-initial", "--old"], "user0", 7, "-", "initial ticket needed"),
+]
+RULE = '[[rule]]\nactor = "user0"\ntarget = "user1"\n'
+
+
+def asked(server, name, words):
+    """What the service's own client prints, with its status."""
+    files = ["--config", server.configuration, "--seed", "/dev/urandom", "--port", str(server.port)]
+    done = subprocess.run([server.program, "client", *files, "--client", name, *words], capture_output=True, text=True, timeout=60)
+    return done.stdout + done.stderr, done.returncode
 
 
 def logged(path):
@@ -131,6 +154,35 @@ class Lines(Case):
         self.tell("two workers: the service's moments", begun <= told[0] and told == sorted(told) and told[-1] <= ended, True)
         self.tell("two workers: start and end", events(log.read_text()),
                     ["started principals 2 iterations 4096 quiet-until -", "ended entries 4 changes 4"])
+
+    def test_requests_logged(self):
+        """What each request is answered, the log's line of it, the journal's records; and a message that has no request."""
+        server = self.server
+        log = server.journal.with_name("log")
+        write_configuration(server.configuration, NAMES, iterations=4)
+        server.configuration.write_text(server.configuration.read_text() + RULE)
+        server.workers, server.options = 2, ["--log", str(log)]
+        server.start(connections=len(REQUESTS) + 1)
+        wanted = []
+        for place, (name, words, target, code, kvno, text) in enumerate(REQUESTS):
+            answer = asked(server, name, words)
+            self.tell(f"requests: {name} {' '.join(words)}", answer, (f"code {code} {text}\n", 0 if code == 0 else 1))
+            wanted.append({"worker": str(place % 2), "client": f"{name}@EXAMPLE.COM", "target": f"{target}@EXAMPLE.COM",
+                           "code": str(code), "error": "-", "kvno": kvno, "text": text})
+        with socket.create_connection(("127.0.0.1", server.port), timeout=PATIENCE) as client:
+            client.sendall(b"\0\0\0\1\0")
+            self.tell("requests: none, and a reply", len(client.recv(1)), 1)
+        wanted.append({"worker": "1", "client": "-", "target": "-", "code": "1", "error": "60", "kvno": "-", "text": "malformed"})
+        self.tell("requests: the tally", server.last_words(), "entries 7 changes 3")
+        lines = logged(log)
+        for line in lines:
+            del line["moment"]
+        self.tell("requests: the log", lines, wanted)
+        self.tell("requests: start and end", events(log.read_text()),
+                  ["started principals 2 iterations 4 quiet-until -", "ended entries 7 changes 3"])
+        records, torn = read_journal(server.journal.read_bytes())
+        self.tell("requests: the journal", ([(it.name, it.kvno) for it in records], torn),
+                  ([("user0", 2), ("user1", 2), ("user0", 3)], b""))
 
     def test_full_logged(self):
         """Two are decided at once while the history has room for one: the other is told so, and logged with its names."""

@@ -77,6 +77,7 @@ class Outputs(Case):
         tally = f"entries {ENTRIES} changes {ENTRIES}"
         told = f"{tally}\n{tally}\nentries 1 changes 1\n/dev/full: a line of the log was lost; further losses are not reported"
         self.tell("a log that takes no line: told once", server.last_words(), told)
+        self.tell("a log that takes no line: the journal", in_journal(server), ([("user0", kvno) for kvno in range(2, 9)], 0))
 
     def test_stalled_error(self):
         """Standard error is a full pipe that nobody reads: each answer comes, and at most one waits for it. Once it is read

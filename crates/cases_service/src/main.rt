@@ -1,6 +1,6 @@
 //! Layer: tests. Touches: standard input and output. Called by: nobody, it is run.
 //!
-//! Answers cases of the service on one stream, of its client, and of the program's commands.
+//! Answers cases of the service on one stream, of its client, and of the program's commands and command line.
 //!
 //! A line on standard input that is a topic's name in brackets begins the topic, and the lines below it are cases of it;
 //! README.md lists their kinds.
@@ -9,6 +9,7 @@
 mod client;
 mod commands;
 mod import;
+mod invocation;
 mod stream;
 mod words;
 
@@ -21,7 +22,10 @@ struct Cases;
 
 impl Topics for Cases {
     fn has(&self, topic: &str) -> bool {
-        matches!(topic, "stream" | "client" | "import" | "commands")
+        matches!(
+            topic,
+            "stream" | "client" | "import" | "commands" | "invocation"
+        )
     }
 
     fn print<W: Write>(
@@ -35,6 +39,7 @@ impl Topics for Cases {
             "stream" => answer_lines(alloc, out, &mut stream::Cases::new(alloc), lines),
             "client" => answer_lines(alloc, out, &mut client::Cases::new(alloc), lines),
             "import" => answer_lines(alloc, out, &mut import::Cases, lines),
+            "invocation" => answer_lines(alloc, out, &mut invocation::Cases, lines),
             "commands" => answer_blocks(alloc, out, &mut commands::Cases::new(alloc), lines),
             _ => refuse_lines(out, lines),
         }
