@@ -1,15 +1,16 @@
-"""What `cases_service` must print below `[import]`, worked out with nothing of ours but AES (changepw_client.py): of the cases
-there, on standard input, the answers.
+"""What `import` and `key` write, worked out with nothing of ours but AES (`harness.wire`): of the cases on standard input, the
+answers.
 
-    python3 -m tests.model.cases_import < crates/cases_service/stdin
+    python3 -m tests.model.cases_import < tests/hostile/cases/keys.cases
 
 The layout is that of MIT's keytabs, format 0x0502; which keys a configuration can have, and in which order they stand, says
 docs/PROTOCOL.md.
 """
 import collections
 import struct
+import sys
 
-from harness.topic import answer_lines
+from harness.command import Parser
 from harness.wire import string_to_key
 from tests.model.changed_bytes import census
 
@@ -254,4 +255,11 @@ def answer(case):
     return password(words[0], words[1], int(words[2]), int(words[3]), octets)
 
 
-answer_lines(__doc__, "import", answer)
+def main():
+    Parser(__doc__, None, "a case can't be read").parse_args()
+    for line in sys.stdin.read().splitlines():
+        print(line if line == "" or line.startswith("#") else answer(line))
+
+
+if __name__ == "__main__":
+    main()

@@ -1,8 +1,7 @@
 """What `table` prints of a configuration and a journal: worked out from docs/PROTOCOL.md and docs/ADMIN.md, with Python's own
-library alone. Of the cases of `cases_journal` below `[table]`, on standard input, it prints
-the answers.
+library alone. Of the cases on standard input it prints the answers.
 
-    python3 -m tests.model.cases_table < crates/cases_journal/stdin
+    python3 -m tests.model.cases_table < tests/hostile/cases/tables.cases
 """
 
 import dataclasses
@@ -11,7 +10,6 @@ import tomllib
 
 from harness.command import Parser
 from harness.journal import RAISE
-from harness.topic import lines_of
 from tests.model.changed_bytes import census
 
 COUNTS = range(1, 16_777_217)
@@ -347,9 +345,8 @@ def made_answer(case):
 
 def main():
     Parser(__doc__, None, "a case can't be read").parse_args()
-    text = "".join(f"{line}\n" for line in lines_of(sys.stdin.read(), "table"))
-    comment, *blocks = text.split("\n== ")
-    print(f"[table]\n{comment}")
+    comment, *blocks = sys.stdin.read().split("\n== ")
+    print(comment)
     for block in blocks:
         title, body = block.split("\n", 1)
         print(f"== {title}")

@@ -3,7 +3,7 @@ the rules of DER (X.690), with Python's own library alone. Nothing is deciphered
 the client made, and no other does.
 
     python3 -m tests.model.changed_bytes stream      # answers of crates/cases_service, by the line
-    python3 -m tests.model.changed_bytes journal     # answers of crates/cases_journal
+    python3 -m tests.model.changed_bytes journal     # answers of tests/hostile/cases/journals, and one of crates/cases_journal
 """
 
 from harness import wire as client
@@ -309,12 +309,18 @@ def compared(journal):
     return told
 
 
+def held_words(newest):
+    """What the table then has: alice's two newest keys."""
+    return f"alice {' '.join(map(str, range(newest, max(newest - 2, 0), -1)))}, bob/admin 1, count 4096"
+
+
 def failed(place):
     """What is answered where an append fails before this byte of the journal."""
     changes, kept = divmod(place, 66)
     said = changes * "0 password changed; " + "2 journal failed (an append failed); "
     said += (2 - changes) * "2 journal failed; "
-    return f"{said}failures 1, alice {1 + changes} bob/admin 1; {restored(JOURNAL[:place])[0]}"
+    held = held_words(1 + changes)
+    return f"{said}failures 1, {held}; records {changes} kept {66 * changes} {'torn' if kept else 'whole'}, {held}"
 
 
 def journal_answers():

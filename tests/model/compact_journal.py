@@ -2,12 +2,13 @@
 Run at the top it prints each line `compact: ..` of crates/cases_journal, and its answer.
 
 The configuration has alice and bob/admin, each with a key of kvno 1, 48 bytes a1, under 4096 iterations, and keeps
-two keys; each record's key is 48 bytes a2 under 4096 iterations.
+two keys; each record's key is 48 bytes of its kvno's number under 4096 iterations.
 """
 
 COUNT, DEPTH = 4096, 2
 NAMES = ["alice", "bob/admin"]
 CHANGE, BASE, ADOPT, LIFT, REMOVE = 1, 3, 4, 5, 6
+KINDS = {"base": BASE, "adopt": ADOPT, "lift": LIFT, "remove": REMOVE}
 
 
 def key(kvno, byte):
@@ -38,12 +39,12 @@ def restored(pieces):
     for piece in pieces.split(", "):
         if piece == "nothing":
             continue
-        what, figure, *kind = piece.split(" ")
+        *kind, what, figure = piece.split(" ")
         if what == "raise":
             count = max(count, int(figure))
             continue
-        kind = int(kind[1]) if kind else CHANGE
-        new, held = key(int(figure), 0xA2), keys.get(what, [])
+        kind = KINDS[kind[0]] if kind else CHANGE
+        new, held = key(int(figure), int(figure)), keys.get(what, [])
         if kind == REMOVE:
             del keys[what]
         elif kind == BASE:
@@ -76,9 +77,9 @@ def answer(pieces):
     for name in sorted(set(keys) - set(NAMES)):
         records += name_records(ADOPT, name, keys[name])
     text = b"".join(records)
-    versions = " ".join(f"{name} {kvno(keys[name][0])}" for name in sorted(keys)) or "nobody"
-    shown = versions if count == COUNT else f"{versions} count {count}"
-    return f"{text.hex() or 'nothing'}; records {len(records)} kept {len(text)} whole, {shown}"
+    versions = [" ".join([name, *map(str, map(kvno, keys[name]))]) for name in sorted(keys)]
+    shown = ", ".join([*versions, f"count {count}"])
+    return f"[{text.hex()}] records {len(records)} kept {len(text)} whole, {shown}"
 
 
 if __name__ == "__main__":

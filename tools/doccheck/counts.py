@@ -7,6 +7,9 @@ from harness.topic import lines_of, parts_of
 from .tree import TOP
 
 CRATES = TOP / "crates"
+# The cases of scripts, and the script that runs a file of another name than its own.
+FILES = TOP / "tests/hostile/cases"
+SCRIPTS = {"journals": "tables"}
 
 
 def crates():
@@ -63,6 +66,12 @@ def beginning(word):
     return lambda crate, topic: sum(1 for line in lines(crate, topic) if line.startswith(f"{word} "))
 
 
+def in_file(name, begins=""):
+    """The cases of a script's file, or its lines that begin so."""
+    lines = (FILES / f"{name}.cases").read_text().split("\n")
+    return sum(1 for line in lines if line.strip() and not line.startswith("#") and line.startswith(begins))
+
+
 def samples():
     return len(list((TOP / "samples/drill").glob("*.script")))
 
@@ -82,6 +91,7 @@ def check_whole(document, faults):
         return
     wanted = [f"| `{name}`: {topic} | " if topic else f"| `{name}` | " for name, topic in answering()]
     wanted += [f"| `{it.name}` (" for it in CRATES.iterdir() if tests(it.name)]
+    wanted += [f"| `tests.hostile.{SCRIPTS.get(it.stem, it.stem)}`: {it.stem} | " for it in FILES.glob("*.cases")]
     for row in wanted:
         faults.check(f"\n{row}" in document.text, document.name, f"no row {row.strip('| (')}")
 
@@ -98,6 +108,8 @@ def of_topic(count):
 
 # a program of cases and one of its topics, as docs/TESTS.md names them
 TOPIC = r"\| `(?P<name>\w+)`: (?P<topic>\w+)"
+# a script and one of its files of cases
+SCRIPT = r"\| `tests\.hostile\.\w+`: (?P<file>\w+)"
 
 # Of each document an expression and what counts the number that it finds under `n`. `name` is a crate's name, where the
 # expression has one, and `topic` one of its topics. An expression that finds nothing in its document is a fault, so that no
@@ -105,7 +117,8 @@ TOPIC = r"\| `(?P<name>\w+)`: (?P<topic>\w+)"
 TABLE = [
     ("docs/TESTS.md", r"^\| `(?P<name>\w+)` \| (?P<n>\d+) \|", lambda it: cases(it["name"])),
     ("docs/TESTS.md", rf"^{TOPIC} \| (?P<n>\d+) \|", of_topic(cases)),
-    ("docs/TESTS.md", rf"^{TOPIC} \| (?P<n>\d+) blocks \|", of_topic(beginning("=="))),
+    ("docs/TESTS.md", rf"^{SCRIPT} \| (?P<n>\d+) \|", lambda it: in_file(it["file"])),
+    ("docs/TESTS.md", rf"^{SCRIPT} \| (?P<n>\d+) blocks \|", lambda it: in_file(it["file"], "== ")),
     ("docs/TESTS.md", rf"^{TOPIC} \| (?P<n>\d+), in \d+ scripts \|", of_topic(cases)),
     ("docs/TESTS.md", rf"^{TOPIC} \| \d+, in (?P<n>\d+) scripts \|", of_topic(beginning("start"))),
     ("docs/TESTS.md", r"^\| `(?P<name>\w+)` \((?P<n>\d+)\) \|", lambda it: tests(it["name"])),

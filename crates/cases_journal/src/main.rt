@@ -1,20 +1,20 @@
 //! Layer: tests. Touches: standard input and output. Called by: nobody, it is run.
 //!
-//! Answers cases of what a service holds: configurations, journals, tables, reloads.
+//! Answers cases of what a service holds: journals and reloads.
 //!
 //! A line on standard input that is a topic's name in brackets begins the topic, and the lines below it are cases of it;
 //! README.md lists their kinds.
 #![tactic(auto)]
 
-mod config_text;
 mod journal;
+mod pieces;
 mod reload;
-mod table;
+mod telling;
 
 use std::alloc::Global;
 use std::fs::{File, Files};
 use std::io::{self, Write};
-use support_cases::{Topics, answer_blocks, answer_lines, print_topics, refuse_lines};
+use support_cases::{Topics, answer_lines, print_topics, refuse_lines};
 
 #[derive(Drop)]
 struct Cases<'a, R: Files<File = File>> {
@@ -23,7 +23,7 @@ struct Cases<'a, R: Files<File = File>> {
 
 impl<R: Files<File = File>> Topics for Cases<'_, R> {
     fn has(&self, topic: &str) -> bool {
-        matches!(topic, "config_text" | "journal" | "table" | "reload")
+        matches!(topic, "journal" | "reload")
     }
 
     fn print<W: Write>(
@@ -34,9 +34,7 @@ impl<R: Files<File = File>> Topics for Cases<'_, R> {
         lines: &str,
     ) -> io::Result<()> {
         match topic {
-            "config_text" => answer_blocks(alloc, out, &mut config_text::Cases, lines),
             "journal" => answer_lines(alloc, out, &mut journal::Cases { rt: self.rt }, lines),
-            "table" => answer_blocks(alloc, out, &mut table::Cases, lines),
             "reload" => answer_lines(alloc, out, &mut reload::Cases, lines),
             _ => refuse_lines(out, lines),
         }

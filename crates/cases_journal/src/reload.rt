@@ -5,13 +5,12 @@
 //! empty, is copied.
 
 mod file;
-mod journal;
 mod reloading;
 
 use crate::reload::reloading::show_reload;
 use std::alloc::Global;
 use std::io::{self, Error, ErrorKind};
-use support_cases::{Answers, Fault};
+use support_cases::Answers;
 
 #[derive(Drop)]
 pub struct Cases;
@@ -19,12 +18,7 @@ pub struct Cases;
 impl Answers for Cases {
     fn answer(&mut self, alloc: Global, case: &str) -> io::Result<String> {
         let mut text = Vec::new(alloc);
-        match show_reload(alloc, &mut text, case) {
-            Ok(()) => String::from_utf8(text).map_err(|_| Error::from(ErrorKind::InvalidData)),
-            Err(Fault::Memory) => Err(Error::from(ErrorKind::OutOfMemory)),
-            Err(Fault::NoSuchCase) => String::from_str(alloc, "there is no such case").map_err(
-                Error::from,
-            ),
-        }
+        show_reload(alloc, &mut text, case)?;
+        String::from_utf8(text).map_err(|_| Error::from(ErrorKind::InvalidData))
     }
 }

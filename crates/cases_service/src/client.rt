@@ -16,9 +16,8 @@
 //!   to the request before.
 //! - A line that begins with `#`, or is empty, is copied.
 //!
-//! In every line `@m` and `@n` stand for the names of eight components of 128 such letters. Words count from 1: those
-//! of the client from its first request in a world on, those of the service for each message. The microseconds of a
-//! request count from 0 in a world.
+//! Words count from 1: those of the client from its first request in a world on, those of the service for each message.
+//! The microseconds of a request count from 0 in a world.
 
 mod asking;
 mod cases;

@@ -8,24 +8,20 @@
 
 mod client;
 mod commands;
-mod import;
 mod invocation;
 mod stream;
 mod words;
 
 use std::alloc::Global;
 use std::io::{self, Write};
-use support_cases::{Topics, answer_blocks, answer_lines, print_topics, refuse_lines};
+use support_cases::{Topics, answer_lines, print_topics, refuse_lines};
 
 #[derive(Drop)]
 struct Cases;
 
 impl Topics for Cases {
     fn has(&self, topic: &str) -> bool {
-        matches!(
-            topic,
-            "stream" | "client" | "import" | "commands" | "invocation"
-        )
+        matches!(topic, "stream" | "client" | "commands" | "invocation")
     }
 
     fn print<W: Write>(
@@ -38,9 +34,8 @@ impl Topics for Cases {
         match topic {
             "stream" => answer_lines(alloc, out, &mut stream::Cases::new(alloc), lines),
             "client" => answer_lines(alloc, out, &mut client::Cases::new(alloc), lines),
-            "import" => answer_lines(alloc, out, &mut import::Cases, lines),
             "invocation" => answer_lines(alloc, out, &mut invocation::Cases, lines),
-            "commands" => answer_blocks(alloc, out, &mut commands::Cases::new(alloc), lines),
+            "commands" => answer_lines(alloc, out, &mut commands::Cases, lines),
             _ => refuse_lines(out, lines),
         }
     }

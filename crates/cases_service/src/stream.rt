@@ -26,7 +26,6 @@
 //!   writer behaves.
 //! - `answered WHO: NAME ..`: these messages are answered one by one by a decider that records its calls.
 //! - `looks: NAME ..`: likewise; the answer has the names that were looked up.
-//! - `alone: NAME`: that message's request is decided, with no keys, derived, and with its keys.
 //! - `words N STREAM PLACE`: the sixteen words of a worker from that place on, as bytes; the seed is of zeros except
 //!   its last byte, which is N.
 //! - A line that begins with `#`, or is empty, is copied.

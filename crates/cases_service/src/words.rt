@@ -14,3 +14,14 @@ pub fn bytes(alloc: Global, word: &str) -> io::Result<Vec<u8>> {
     let word = if word == "-" { "" } else { word };
     decode(alloc, word).map_err(|_| no_case())
 }
+
+/// A text with the edits of a line, `OLD -> NEW | OLD -> NEW`, made.
+pub fn apply_edits(alloc: Global, base: &str, edits: &str) -> io::Result<String> {
+    let mut text = String::from_str(alloc, base)?;
+    for edit in edits.split(" | ") {
+        if let Some((old, new)) = edit.split_once(" -> ") {
+            text = text.as_str().replace(alloc, old, new)?;
+        }
+    }
+    Ok(text)
+}

@@ -1,9 +1,9 @@
 //! A journal's sink over a file, whose disk may fail.
+
 ghost use Rattle.std.specs.Prelude.{Some, take};
 
-use crate::journal::refusal::Refusal;
 use chpw_journal::{FileSink, SyncedFile};
-use chpw_table::JournalSink;
+use chpw_table::{JournalSink, SinkFault};
 use std::alloc::Global;
 use std::fs::{Metadata, OpenFile};
 use std::io::{self, Error, ErrorKind, Write};
@@ -15,13 +15,8 @@ const RECORD: usize = 66;
 /// Adds the result of appending a record to a file that takes bytes in this way, and is then synced (`synced`), can't be
 /// (`not synced`, or `error N` for this fault of the system's) or needn't be yet (`unsynced`), or of two, of which the second is
 /// synced (`unsynced, synced`); how many bytes are on the disk; and why the first append failed that did.
-pub fn show_appended(
-    alloc: Global,
-    text: &mut String,
-    way: &str,
-    end: &str,
-) -> Result<(), Refusal> {
-    let disk = Disk {
+pub fn show_appended(alloc: Global, text: &mut Vec<u8>, way: &str, end: &str) -> io::Result<()> {
+    let mut sink = FileSink::new(Disk {
         taker: Taker {
             taken: Vec::new(alloc),
             course: Course::start(Way::of(way)),
@@ -29,16 +24,13 @@ pub fn show_appended(
         is_synced: end != "not synced",
         error: error_of(end),
         kept: 0,
-    };
-    let mut sink = FileSink::new(disk);
+    });
     let told = append_results(&mut sink, end);
-    let failures = sink.failures();
-    let kept = sink.file().kept;
-    let cause = sink.cause();
+    let (failures, kept, cause) = (sink.failures(), sink.file().kept, sink.cause());
     drop(sink);
     write!(text, "{told}, failures {failures}, on the disk {kept}")?;
     match cause {
-        Some(cause) => write!(text, ", since {cause}").map_err(Refusal::from),
+        Some(cause) => write!(text, ", since {cause}"),
         None => Ok(()),
     }
 }
@@ -48,32 +40,24 @@ fn error_of(end: &str) -> Option<i32> {
     end.strip_prefix("error ")?.parse().ok()
 }
 
+/// The result of the first append that fails, or of the last.
 fn append_results(sink: &mut FileSink<Disk>, end: &str) -> &'static str {
-    match end {
-        "unsynced" => unsynced_result(sink),
-        "unsynced, synced" => match unsynced_result(sink) {
-            "appended" => append_result(sink),
-            told => told,
-        },
-        _ => append_result(sink),
-    }
-}
-
-fn append_result(sink: &mut FileSink<Disk>) -> &'static str {
     if sink.failures() == u64::MAX {
         return "failed too often";
     }
-    match sink.append(&[7; RECORD]) {
-        Ok(()) => "appended",
-        Err(_) => "failed",
+    let first = if end.starts_with("unsynced") {
+        sink.append_unsynced(&[7; RECORD])
+    } else {
+        sink.append(&[7; RECORD])
+    };
+    if first.is_err() || end != "unsynced, synced" {
+        return result_text(first);
     }
+    result_text(sink.append(&[7; RECORD]))
 }
 
-fn unsynced_result(sink: &mut FileSink<Disk>) -> &'static str {
-    if sink.failures() == u64::MAX {
-        return "failed too often";
-    }
-    match sink.append_unsynced(&[7; RECORD]) {
+fn result_text(ended: Result<(), SinkFault>) -> &'static str {
+    match ended {
         Ok(()) => "appended",
         Err(_) => "failed",
     }

@@ -1,12 +1,14 @@
 //! Journals in a file.
-use crate::journal::pieces::journal_of;
-use crate::journal::realm::{show_versions, table};
-use crate::journal::refusal::Refusal;
+
+use crate::journal::restoring::table;
 use crate::journal::unsynced::Unsynced;
+use crate::pieces::{journal_of, no_case};
+use crate::telling::show_table;
 use chpw_journal::{Journal, JournalFile, OpenFault, open_journal};
 use chpw_table::JournalSink;
-use std::alloc::{AllocError, Global};
+use std::alloc::Global;
 use std::fs::{self, File, Files};
+use std::io::{self, Write};
 use std::os::unix::fs::PermissionsExt;
 
 /// The journal's file.
@@ -17,184 +19,105 @@ const SCRATCH: &str = "scratch-journal";
 pub fn show_filed<R: Files<File = File>>(
     rt: &R,
     alloc: Global,
-    text: &mut String,
+    text: &mut Vec<u8>,
     what: &str,
     more: &str,
     pieces: &str,
-) -> Result<(), Refusal> {
+) -> io::Result<()> {
     let _ = fs::remove_file(rt, SCRATCH);
-    write_scratch(rt, alloc, pieces)?;
+    if pieces != "no file" {
+        fs::write(rt, SCRATCH, &journal_of(alloc, pieces)?)?;
+    }
     let shown = show_case(rt, alloc, text, what, more);
     let _ = fs::remove_file(rt, SCRATCH);
     shown
 }
 
-fn write_scratch<R: Files<File = File>>(
-    rt: &R,
-    alloc: Global,
-    pieces: &str,
-) -> Result<(), Refusal> {
-    match pieces {
-        "no file" => Ok(()),
-        pieces => {
-            let journal = journal_of(alloc, pieces)?;
-            fs::write(rt, SCRATCH, &journal).map_err(Refusal::from)
-        }
-    }
-}
-
 fn show_case<R: Files<File = File>>(
     rt: &R,
     alloc: Global,
-    text: &mut String,
+    text: &mut Vec<u8>,
     what: &str,
     more: &str,
-) -> Result<(), Refusal> {
+) -> io::Result<()> {
     match what {
-        "append" => show_appended(rt, alloc, text, more),
-        "open" => show_opened(rt, alloc, text),
-        "twice" => show_twice(rt, alloc, text),
-        "unsynced" => show_unsynced(rt, alloc, text),
-        _ => Err(Refusal::NoSuchCase),
+        "append" => append(rt, alloc, &journal_of(alloc, more)?)?,
+        "twice" => show_locked(rt, alloc, text)?,
+        "unsynced" => {
+            let unsynced = Unsynced {
+                inner: rt,
+                folder: ".",
+            };
+            return show_opened(&unsynced, alloc, text);
+        }
+        _ => {}
     }
+    show_opened(rt, alloc, text)
 }
 
 /// Adds what opening the file gives, and how many bytes are in it then.
-fn show_opened<R: Files<File = File>>(
-    rt: &R,
-    alloc: Global,
-    text: &mut String,
-) -> Result<(), Refusal> {
-    show_opening(rt, alloc, text)?;
-    let left = fs::metadata(rt, SCRATCH)?.len();
-    write!(text, ", {left} bytes").map_err(Refusal::from)
-}
-
-fn show_opening<R: Files<File = File>>(
-    rt: &R,
-    alloc: Global,
-    text: &mut String,
-) -> Result<(), Refusal> {
+fn show_opened<R: Files<File = File>>(rt: &R, alloc: Global, text: &mut Vec<u8>) -> io::Result<()> {
     match open_journal(rt, alloc, SCRATCH, table(alloc)?) {
         Ok(journal) => {
-            let shown = show_journal(rt, alloc, text, &journal);
+            let shown = show_journal(rt, text, &journal);
             drop(journal);
-            shown
+            shown?;
         }
-        Err(fault) => show_fault(text, fault).map_err(Refusal::from),
+        Err(OpenFault::CannotRead) => text.extend_from_slice(b"cannot read")?,
+        Err(OpenFault::CannotWrite) => text.extend_from_slice(b"cannot write")?,
+        Err(OpenFault::Restore(fault)) => write!(text, "{fault}")?,
     }
+    let left = fs::metadata(rt, SCRATCH)?.len();
+    write!(text, ", {left} bytes")
 }
 
-fn show_fault(text: &mut String, fault: OpenFault) -> Result<(), AllocError> {
-    match fault {
-        OpenFault::CannotRead => text.push_str("cannot read"),
-        OpenFault::CannotWrite => text.push_str("cannot write"),
-        OpenFault::Restore(fault) => write!(text, "{fault}"),
-    }
-}
-
-/// Adds what opening gives if the file's directory can't be synced.
-fn show_unsynced<R: Files<File = File>>(
-    rt: &R,
-    alloc: Global,
-    text: &mut String,
-) -> Result<(), Refusal> {
-    let unsynced = Unsynced {
-        inner: rt,
-        folder: ".",
-    };
-    show_opened(&unsynced, alloc, text)
-}
-
-/// Adds whether the file existed, the mode of a new one, the versions in the table, and where a torn tail was cut off.
+/// Adds whether the file existed, the mode of a new one, what is in the table, and where a torn tail was cut off.
 fn show_journal<R: Files<File = File>>(
     rt: &R,
-    alloc: Global,
-    text: &mut String,
+    text: &mut Vec<u8>,
     journal: &Journal<File>,
-) -> Result<(), Refusal> {
+) -> io::Result<()> {
     if journal.found {
-        text.push_str("found, ")?;
+        text.extend_from_slice(b"found,")?;
     } else {
-        show_mode(rt, text)?;
+        let mode = fs::metadata(rt, SCRATCH)?.permissions().mode() & 0o777;
+        write!(text, "new, mode {mode:o},")?;
     }
-    show_versions(alloc, text, &journal.table)?;
+    show_table(text, &journal.table)?;
     match journal.cut_at {
-        Some(kept) => write!(text, ", cut off behind {kept}").map_err(Refusal::from),
+        Some(kept) => write!(text, ", cut off behind {kept}"),
         None => Ok(()),
     }
 }
 
-fn show_mode<R: Files<File = File>>(rt: &R, text: &mut String) -> Result<(), Refusal> {
-    let mode = fs::metadata(rt, SCRATCH)?.permissions().mode() & 0o777;
-    write!(text, "new, mode {mode:o}, ").map_err(Refusal::from)
-}
-
-/// Adds what the next opening gives after one in which these pieces were appended.
-fn show_appended<R: Files<File = File>>(
-    rt: &R,
-    alloc: Global,
-    text: &mut String,
-    more: &str,
-) -> Result<(), Refusal> {
-    let more = journal_of(alloc, more)?;
-    append(rt, alloc, &more)?;
-    show_opened(rt, alloc, text)
-}
-
-fn append<R: Files<File = File>>(rt: &R, alloc: Global, more: &[u8]) -> Result<(), Refusal> {
-    let mut journal = open_journal(rt, alloc, SCRATCH, table(alloc)?)?;
+/// Opens the file, and appends this to it.
+fn append<R: Files<File = File>>(rt: &R, alloc: Global, more: &[u8]) -> io::Result<()> {
+    let Ok(mut journal) = open_journal(rt, alloc, SCRATCH, table(alloc)?) else {
+        return Err(no_case());
+    };
     let appended = journal.sink.append(more);
     drop(journal);
-    match appended {
-        Ok(()) => Ok(()),
-        Err(_) => Err(Refusal::File),
-    }
+    appended.map_err(|_| no_case())
 }
 
-/// Adds whether the file existed when it was locked, and what opening it gives beside the locked file, beside the
-/// journal restored from it, and after both.
-fn show_twice<R: Files<File = File>>(
-    rt: &R,
-    alloc: Global,
-    text: &mut String,
-) -> Result<(), Refusal> {
-    let journal = shown_locked(rt, alloc, text)?;
-    let shown = show_next(rt, alloc, text);
+/// Adds whether the file existed when it was locked, and what opening it gives beside the locked file and beside the
+/// journal restored from it.
+fn show_locked<R: Files<File = File>>(rt: &R, alloc: Global, text: &mut Vec<u8>) -> io::Result<()> {
+    let Ok(locked) = JournalFile::lock(rt, SCRATCH) else {
+        return Err(no_case());
+    };
+    text.extend_from_slice(if locked.found { b"found; " } else { b"new; " })?;
+    show_beside(rt, alloc, text)?;
+    let Ok(journal) = locked.restore(alloc, table(alloc)?) else {
+        return Err(no_case());
+    };
+    let shown = show_beside(rt, alloc, text);
     drop(journal);
-    shown?;
-    show_next(rt, alloc, text)
+    shown
 }
 
-/// Adds whether the file existed when it was locked, and what opening it gives beside it.
-fn shown_locked<R: Files<File = File>>(
-    rt: &R,
-    alloc: Global,
-    text: &mut String,
-) -> Result<Journal<File>, Refusal> {
-    let locked = JournalFile::lock(rt, SCRATCH)?;
-    let found = if locked.found { "found" } else { "new" };
-    match show_found(rt, alloc, text, found) {
-        Ok(()) => Ok(locked.restore(alloc, table(alloc)?)?),
-        Err(refusal) => Err(refusal),
-    }
-}
-
-fn show_found<R: Files<File = File>>(
-    rt: &R,
-    alloc: Global,
-    text: &mut String,
-    found: &str,
-) -> Result<(), Refusal> {
-    text.push_str(found)?;
-    show_next(rt, alloc, text)
-}
-
-fn show_next<R: Files<File = File>>(
-    rt: &R,
-    alloc: Global,
-    text: &mut String,
-) -> Result<(), Refusal> {
-    text.push_str("; ")?;
-    show_opened(rt, alloc, text)
+fn show_beside<R: Files<File = File>>(rt: &R, alloc: Global, text: &mut Vec<u8>) -> io::Result<()> {
+    show_opened(rt, alloc, text)?;
+    text.extend_from_slice(b"; ")?;
+    Ok(())
 }

@@ -2,31 +2,27 @@
 ghost use Rattle.std.specs.Prelude.{◌≡◌, true, IfOk};
 ghost use Rattle.chpw_rules.specs.Fitting.{config_fits};
 
-use crate::reload::journal::number;
+use crate::pieces::{no_case, number};
 use chpw_rules::{Config, Items, KeyBytes, Name, PrincipalRow};
-use std::alloc::{AllocError, Global};
-use support_cases::Fault;
+use std::alloc::Global;
+use std::io;
 use support_realm::config;
 
 /// The configuration with these words, with `; ` between: `NAME KVNO KVNO ..`, a principal with these keys, newest
 /// first, whose bytes are of that number, or, with `!` after it, of another; `depth N`, default 2; `count N`, default
 /// 4096; `realm R`, default EXAMPLE.COM; `entries N`, default 100.
-pub fn config_of(alloc: Global, words: &str) -> Result<Config, Fault>
+pub fn config_of(alloc: Global, words: &str) -> io::Result<Config>
     ensures fits { IfOk result (λ config. config_fits config ≡ true) }
 {
-    let mut config = config(alloc, Vec::new(alloc), 4096, 100).map_err(|_| Fault::NoSuchCase)?;
+    let mut config = config(alloc, Vec::new(alloc), 4096, 100)?;
     match put_words(alloc, &mut config, words) {
         Ok(()) if config.fits() => Ok(config),
-        Ok(()) => Err(Fault::NoSuchCase),
-        Err(fault) => Err(fault),
+        Ok(()) => Err(no_case()),
+        Err(error) => Err(error),
     }
 }
 
-fn bytes(alloc: Global, text: &str) -> Result<Items<u8>, AllocError> {
-    Ok(Items::of(Vec::from_slice(alloc, text.as_bytes())?))
-}
-
-fn put_words(alloc: Global, config: &mut Config, words: &str) -> Result<(), Fault> {
+fn put_words(alloc: Global, config: &mut Config, words: &str) -> io::Result<()> {
     let mut rows = Vec::new(alloc);
     for word in words.split("; ") {
         put_word(alloc, config, &mut rows, word)?;
@@ -40,24 +36,21 @@ fn put_word(
     config: &mut Config,
     rows: &mut Vec<PrincipalRow>,
     word: &str,
-) -> Result<(), Fault> {
+) -> io::Result<()> {
     let Some((what, rest)) = word.split_once(' ') else {
-        return Err(Fault::NoSuchCase);
+        return Err(no_case());
     };
     match what {
-        "depth" => match u8::try_from(number(rest)?) {
-            Ok(depth) => config.policy.depth = depth,
-            Err(_) => return Err(Fault::NoSuchCase),
-        },
+        "depth" => config.policy.depth = u8::try_from(number(rest)?).unwrap_or(u8::MAX),
         "count" => config.policy.iterations = number(rest)?,
         "entries" => config.max_entries = number(rest)?,
-        "realm" => config.realm = bytes(alloc, rest)?,
+        "realm" => config.realm = Items::of(Vec::from_slice(alloc, rest.as_bytes())?),
         name => rows.push(row(alloc, name, rest)?)?,
     }
     Ok(())
 }
 
-fn row(alloc: Global, name: &str, kvnos: &str) -> Result<PrincipalRow, Fault> {
+fn row(alloc: Global, name: &str, kvnos: &str) -> io::Result<PrincipalRow> {
     let mut keys = Vec::new(alloc);
     for word in kvnos.split(' ') {
         keys.push(key(word)?)?;
@@ -67,11 +60,11 @@ fn row(alloc: Global, name: &str, kvnos: &str) -> Result<PrincipalRow, Fault> {
             name,
             keys: Items::of(keys),
         }),
-        None => Err(Fault::NoSuchCase),
+        None => Err(no_case()),
     }
 }
 
-fn key(word: &str) -> Result<KeyBytes, Fault> {
+fn key(word: &str) -> io::Result<KeyBytes> {
     let (kvno, is_other) = match word.strip_suffix("!") {
         Some(kvno) => (number(kvno)?, true),
         None => (number(word)?, false),

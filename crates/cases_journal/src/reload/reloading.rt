@@ -1,24 +1,24 @@
 //! What a reload gives.
+use crate::pieces::{journal_of, no_case, number};
 use crate::reload::file::config_of;
-use crate::reload::journal::{journal_of, number};
+use crate::telling::show_table;
 use chpw_journal::restore_file;
-use chpw_printing::{put_after_space, put_name};
+use chpw_printing::put_name;
 use chpw_reload::{NextTable, RefusedReload, ReloadFault, finish, prepare, put_fault};
-use chpw_rules::Name;
-use chpw_table::{KeyRow, Table};
-use std::alloc::Global;
-use support_cases::Fault;
+use chpw_table::Table;
+use std::alloc::{AllocError, Global};
+use std::io;
 
 /// Adds the principals of the next table with their versions, its count and its quiet second, and the names that the
 /// new configuration lacks; or why the reload is refused, and the principals of the closed table.
-pub fn show_reload(alloc: Global, text: &mut Vec<u8>, case: &str) -> Result<(), Fault> {
+pub fn show_reload(alloc: Global, text: &mut Vec<u8>, case: &str) -> io::Result<()> {
     let (files, end) = case.rsplit_once(" at ").unwrap_or((case, "0"));
     let end = number(end)? as usize;
     let Some((files, pieces)) = files.rsplit_once(" | ") else {
-        return Err(Fault::NoSuchCase);
+        return Err(no_case());
     };
     let Some((old, new)) = files.split_once(" | ") else {
-        return Err(Fault::NoSuchCase);
+        return Err(no_case());
     };
     let journal = journal_of(alloc, pieces)?;
     reload(alloc, text, old, new, &journal, end)
@@ -31,43 +31,43 @@ fn reload(
     new: &str,
     journal: &[u8],
     end: usize,
-) -> Result<(), Fault> {
+) -> io::Result<()> {
     let closed = closed_table(alloc, old, journal)?;
     let file = config_of(alloc, new)?;
     let Some(front) = journal.get(..end) else {
-        return Err(Fault::NoSuchCase);
+        return Err(no_case());
     };
     match prepare(alloc, file, front) {
-        Err(fault) => show_refused(text, &fault, &closed),
+        Err(fault) => Ok(show_refused(text, &fault, &closed)?),
         Ok(renewal) => {
             let rest = journal.get(renewal.kept as usize..).unwrap_or(&[]);
             match finish(alloc, renewal, rest, closed) {
-                Ok(reloaded) => show_reloaded(text, &reloaded),
-                Err(refused) => show_refused(text, &refused.fault, &refused.closed),
+                Ok(reloaded) => Ok(show_reloaded(text, &reloaded)?),
+                Err(refused) => Ok(show_refused(text, &refused.fault, &refused.closed)?),
             }
         }
     }
 }
 
 // The table with which a desk was closed: that of a configuration with a journal, quiet until the second 300.
-fn closed_table(alloc: Global, words: &str, journal: &[u8]) -> Result<Table, Fault> {
+fn closed_table(alloc: Global, words: &str, journal: &[u8]) -> io::Result<Table> {
     let config = config_of(alloc, words)?;
     let table = Table::start(alloc, config, 300)?;
     match restore_file(alloc, table, journal) {
         Ok((restored, _)) => Ok(restored.table),
-        Err(_) => Err(Fault::NoSuchCase),
+        Err(_) => Err(no_case()),
     }
 }
 
-fn show_refused(text: &mut Vec<u8>, fault: &ReloadFault, closed: &Table) -> Result<(), Fault> {
+fn show_refused(text: &mut Vec<u8>, fault: &ReloadFault, closed: &Table) -> Result<(), AllocError> {
     put_fault(text, fault)?;
     text.extend_from_slice(b"; stays:")?;
-    show_table(text, closed)
+    show_held(text, closed)
 }
 
-fn show_reloaded(text: &mut Vec<u8>, reloaded: &NextTable) -> Result<(), Fault> {
+fn show_reloaded(text: &mut Vec<u8>, reloaded: &NextTable) -> Result<(), AllocError> {
     text.extend_from_slice(b"goes on:")?;
-    show_table(text, &reloaded.table)?;
+    show_held(text, &reloaded.table)?;
     for name in reloaded.lacked.as_slice() {
         text.extend_from_slice(b", lacked ")?;
         put_name(text, name)?;
@@ -76,33 +76,10 @@ fn show_reloaded(text: &mut Vec<u8>, reloaded: &NextTable) -> Result<(), Fault> 
 }
 
 // Its principals with the versions of their keys, its count and its quiet second.
-fn show_table(text: &mut Vec<u8>, table: &Table) -> Result<(), Fault> {
-    for place in 0..u32::MAX {
-        let Some(name) = table.name_at(place) else {
-            break;
-        };
-        show_principal(text, table, name)?;
-    }
-    text.extend_from_slice(b" count")?;
-    put_after_space(text, table.count())?;
+fn show_held(text: &mut Vec<u8>, table: &Table) -> Result<(), AllocError> {
+    show_table(text, table)?;
     if table.quiet_until() == 300 {
         text.extend_from_slice(b" quiet")?;
-    }
-    Ok(())
-}
-
-fn show_principal(text: &mut Vec<u8>, table: &Table, name: &Name) -> Result<(), Fault> {
-    text.push(b' ')?;
-    put_name(text, name)?;
-    if let Some(keys) = table.keys_of(name) {
-        show_keys(text, keys)?;
-    }
-    text.extend_from_slice(b",").map_err(Fault::from)
-}
-
-fn show_keys(text: &mut Vec<u8>, keys: &[KeyRow]) -> Result<(), Fault> {
-    for key in keys {
-        put_after_space(text, key.kvno)?;
     }
     Ok(())
 }

@@ -1,15 +1,15 @@
 //! The cases, line by line.
 
 use crate::client::asking::Question;
-use crate::client::reading::{read_when_changed, read_when_cut, reply_line};
+use crate::client::reading::{read_of_changed, reply_line};
 use crate::client::replying::{read_configuration, reply_of};
-use crate::words::no_case;
+use crate::words::{apply_edits, no_case};
 use chpw_client::SentRequest;
 use hex::{decode, encode};
 use std::alloc::{AllocError, Global};
 use std::io::{self, Error};
 use std::mem;
-use support_cases::Answers;
+use support_cases::{Answers, Change};
 use support_realm::{Counting, Tally, World, newest_kvno};
 
 /// What the lines before have set.
@@ -31,8 +31,17 @@ pub struct Cases {
 
 impl Answers for Cases {
     fn answer(&mut self, alloc: Global, case: &str) -> io::Result<String> {
-        let whole = with_long_names(alloc, case)?;
-        self.answer_whole(alloc, case, whole.as_str())
+        let (kind, text) = case.split_once(' ').unwrap_or((case, ""));
+        match kind {
+            "|" | "world" | "client" | "clocks" => {
+                self.set(alloc, kind, text)?;
+                String::from_str(alloc, case).map_err(Error::from)
+            }
+            "ask" => self.ask(alloc, text),
+            "again" => self.again(alloc),
+            "kvno" => self.kvno(alloc, text),
+            _ => self.of_reply(alloc, kind, text),
+        }
     }
 }
 
@@ -47,21 +56,6 @@ impl Cases {
             words: Counting::new(),
             sent: Vec::new(alloc),
             reply: Vec::new(alloc),
-        }
-    }
-
-    /// The answer to a case, with its long names in it.
-    fn answer_whole(&mut self, alloc: Global, case: &str, whole: &str) -> io::Result<String> {
-        let (kind, text) = whole.split_once(' ').unwrap_or((whole, ""));
-        match kind {
-            "|" | "world" | "client" | "clocks" => {
-                self.set(alloc, kind, text)?;
-                String::from_str(alloc, case).map_err(Error::from)
-            }
-            "ask" => self.ask(alloc, text),
-            "again" => self.again(alloc),
-            "kvno" => self.kvno(alloc, text),
-            _ => self.of_reply(alloc, kind, text),
         }
     }
 
@@ -149,8 +143,8 @@ impl Cases {
             "sent" => encode(alloc, sent.message.as_slice()).map_err(Error::from),
             "reply" if text.is_empty() => reply_line(alloc, sent, &self.reply),
             "reply" => reply_line_of(alloc, sent, text),
-            "cut" => read_when_cut(alloc, sent, &self.reply),
-            "changed" => read_when_changed(alloc, sent, &self.reply),
+            "cut" => read_of_changed(alloc, sent, &self.reply, Change::Cut),
+            "changed" => read_of_changed(alloc, sent, &self.reply, Change::Turn(1)),
             "mistaken" => self.mistaken(alloc),
             _ => Err(no_case()),
         }
@@ -170,42 +164,4 @@ fn reply_line_of(alloc: Global, sent: &SentRequest, hex: &str) -> io::Result<Str
         Ok(reply) => reply_line(alloc, sent, &reply),
         Err(_) => Err(no_case()),
     }
-}
-
-/// A text with the edits of a line, `OLD -> NEW | OLD -> NEW`, made.
-fn apply_edits(alloc: Global, base: &str, edits: &str) -> io::Result<String> {
-    let mut text = String::from_str(alloc, base)?;
-    for edit in edits.split(" | ") {
-        if let Some((old, new)) = edit.split_once(" -> ") {
-            text = text.as_str().replace(alloc, old, new)?;
-        }
-    }
-    Ok(text)
-}
-
-/// A line with `@m` and `@n` replaced by the names of eight components of 128 such letters.
-fn with_long_names(alloc: Global, line: &str) -> Result<String, AllocError> {
-    let text = with_long_name(alloc, line, "@m", "m")?;
-    with_long_name(alloc, text.as_str(), "@n", "n")
-}
-
-fn with_long_name(
-    alloc: Global,
-    line: &str,
-    short: &str,
-    letter: &str,
-) -> Result<String, AllocError> {
-    let component = letter.repeat(alloc, 128)?;
-    let mut name = String::new(alloc);
-    add_components(&mut name, component.as_str())?;
-    line.replace(alloc, short, name.as_str())
-}
-
-/// Adds a component eight times.
-fn add_components(name: &mut String, component: &str) -> Result<(), AllocError> {
-    name.push_str(component)?;
-    for _ in 0..7 {
-        write!(name, "/{component}")?;
-    }
-    Ok(())
 }

@@ -3,6 +3,7 @@
 use chpw_client::{SentRequest, client_line};
 use std::alloc::{AllocError, Global};
 use std::io::{self, Error};
+use support_cases::Change;
 
 /// The line and the status, or `none`.
 pub fn reply_line(alloc: Global, sent: &SentRequest, reply: &[u8]) -> io::Result<String> {
@@ -15,42 +16,31 @@ pub fn reply_line(alloc: Global, sent: &SentRequest, reply: &[u8]) -> io::Result
     }
 }
 
-fn is_read(alloc: Global, sent: &SentRequest, reply: &[u8]) -> Result<bool, AllocError> {
-    Ok(client_line(alloc, sent, reply)?.is_some())
-}
-
-/// How many are read of the reply cut before each of its bytes.
-pub fn read_when_cut(alloc: Global, sent: &SentRequest, reply: &[u8]) -> io::Result<String> {
-    let mut read = 0u32;
-    for count in 0..reply.len() {
-        if is_read(alloc, sent, &reply[..count])? {
-            read = read.saturating_add(1);
-        }
-    }
-    format!(in alloc; "{read} read of {}", reply.len()).map_err(Error::from)
-}
-
-/// How many are read of the reply with the lowest bit of each of its bytes changed in turn.
-pub fn read_when_changed(alloc: Global, sent: &SentRequest, reply: &[u8]) -> io::Result<String> {
+/// How many are read of the reply with this change at each of its bytes in turn.
+pub fn read_of_changed(
+    alloc: Global,
+    sent: &SentRequest,
+    reply: &[u8],
+    change: Change,
+) -> io::Result<String> {
     let mut read = 0u32;
     for place in 0..reply.len() {
-        if is_read_changed(alloc, sent, reply, place)? {
+        if is_read_changed(alloc, sent, reply, change, place)? {
             read = read.saturating_add(1);
         }
     }
     format!(in alloc; "{read} read of {}", reply.len()).map_err(Error::from)
 }
 
-/// Whether the reply is read with the lowest bit of the byte at this place changed.
 fn is_read_changed(
     alloc: Global,
     sent: &SentRequest,
     reply: &[u8],
+    change: Change,
     place: usize,
 ) -> Result<bool, AllocError> {
-    let mut forged = Vec::from_slice(alloc, reply)?;
-    if let Some(byte) = forged.get_mut(place) {
-        *byte ^= 1;
+    match change.apply(alloc, reply, place)? {
+        Some(forged) => Ok(client_line(alloc, sent, &forged)?.is_some()),
+        None => Ok(false),
     }
-    is_read(alloc, sent, &forged)
 }

@@ -1,5 +1,6 @@
 //! The cases, line by line.
 
+use crate::stream::deciding::answers_text;
 use crate::stream::gated::gated;
 use crate::stream::messages::{Message, read_message};
 use crate::stream::repeating::result_repeated;
@@ -8,8 +9,8 @@ use crate::stream::setting::Setting;
 use crate::stream::varied::{Variation, varied_message, varied_stream};
 use crate::stream::wanting::wanting;
 use crate::stream::writing::{broken, replies_text, written_text};
-use crate::stream::{deciding, words};
-use crate::words::no_case;
+use crate::stream::words;
+use crate::words::{apply_edits, no_case};
 use std::alloc::{AllocError, Global};
 use std::io;
 use support_cases::{Answers, Change};
@@ -55,14 +56,13 @@ impl Cases {
     }
 
     /// `quiet N`, `of RFC 3244 alone`, and `OLD -> NEW`.
-    fn set_world(&mut self, alloc: Global, text: &str) -> Result<(), AllocError> {
+    fn set_world(&mut self, alloc: Global, text: &str) -> io::Result<()> {
         self.setting.quiet_until = match text.strip_prefix("quiet ") {
             Some(second) => second.parse().unwrap_or(-1),
             None => -1,
         };
         self.setting.rfc3244_only = text == "of RFC 3244 alone";
-        let (old, new) = text.split_once(" -> ").unwrap_or(("", ""));
-        self.setting.config = replace_part(alloc, self.base.as_str(), old, new)?;
+        self.setting.config = apply_edits(alloc, self.base.as_str(), text)?;
         Ok(())
     }
 
@@ -93,9 +93,7 @@ impl Cases {
         }
         let (kind, how) = head.split_once(' ').unwrap_or((head, ""));
         match kind {
-            "answered" => deciding::answers_text(alloc, setting, how, messages),
-            "looks" => deciding::looked_up(alloc, setting, messages),
-            "alone" => deciding::alone(alloc, setting, messages),
+            "answered" | "looks" => answers_text(alloc, setting, how, messages, kind == "looks"),
             "wanting" => wanting(alloc, setting, how, messages),
             _ => of_peers(alloc, setting, kind, How::of(how), messages),
         }
@@ -112,14 +110,6 @@ impl Cases {
         }
         Ok(messages)
     }
-}
-
-/// A text with a part replaced by another; unchanged if the part is not in it.
-fn replace_part(alloc: Global, text: &str, old: &str, new: &str) -> Result<String, AllocError> {
-    if old.is_empty() {
-        return String::from_str(alloc, text);
-    }
-    text.replace(alloc, old, new)
 }
 
 /// The answer to a case of messages whose reader and writer behave as it says.

@@ -1,17 +1,15 @@
-//! Deciders, asked by the answer to a message and directly.
+//! Deciders, asked by the answer to a message.
 ghost use Rattle.std.specs.Prelude.{◌<◌};
 ghost use Rattle.chpw_table.specs.Times.{IsMoment};
 
 use crate::stream::messages::{Message, show_reply, text_of};
-use crate::stream::setting::{Holding, Setting};
+use crate::stream::setting::Setting;
 use crate::stream::watched::{Mood, Watched};
-use crate::words::no_case;
-use chpw_decider::{Alone, Decider};
 use chpw_endpoints::Endpoints;
 use chpw_journal::MemorySink;
 use chpw_messages::Service;
-use chpw_serve::{Messages, NoGate, OpenResult, answer};
-use chpw_table::{Counts, DecideFault, Moment, Opened, Refused, Verdict};
+use chpw_serve::{NoGate, answer};
+use chpw_table::Moment;
 use std::alloc::{AllocError, Global};
 use std::io;
 use support_realm::{Counting, Standing, World};
@@ -34,51 +32,22 @@ fn mood_of(who: &str) -> Mood {
     }
 }
 
-/// The replies to these messages, and how the decider was asked.
+/// The replies to these messages, and how the decider was asked, or, where it `looks`, the names that were looked up.
 pub fn answers_text(
     alloc: Global,
     setting: &Setting,
     who: &str,
     messages: &[&Message],
+    looks: bool,
 ) -> io::Result<String> {
     let World { service, alone } = setting.start(alloc)?;
     let mut decider = Watched::of(alloc, alone, mood_of(who));
-    let shown = shown_calls(alloc, &service, &mut decider, messages);
-    drop((service, decider));
-    shown
-}
-
-fn shown_calls(
-    alloc: Global,
-    service: &Service,
-    decider: &mut Watched<MemorySink>,
-    messages: &[&Message],
-) -> io::Result<String> {
     let mut text = String::new(alloc);
-    show_answers(alloc, &mut text, service, decider, messages)?;
-    show_calls(&mut text, decider)?;
-    Ok(text)
-}
-
-/// The replies to these messages, the names that were looked up, and how often the decider was asked.
-pub fn looked_up(alloc: Global, setting: &Setting, messages: &[&Message]) -> io::Result<String> {
-    let World { service, alone } = setting.start(alloc)?;
-    let mut decider = Watched::of(alloc, alone, Mood::Plain);
-    let shown = shown_names(alloc, &service, &mut decider, messages);
-    drop((service, decider));
-    shown
-}
-
-fn shown_names(
-    alloc: Global,
-    service: &Service,
-    decider: &mut Watched<MemorySink>,
-    messages: &[&Message],
-) -> io::Result<String> {
-    let mut text = String::new(alloc);
-    show_answers(alloc, &mut text, service, decider, messages)?;
-    let (names, decides) = (text_of(&decider.names), decider.decides);
-    write!(text, "looked up{names}, decide {decides}")?;
+    let shown = show_answers(alloc, &mut text, &service, &mut decider, messages);
+    drop(service);
+    shown?;
+    show_asked(&mut text, &decider, looks)?;
+    drop(decider);
     Ok(text)
 }
 
@@ -121,160 +90,20 @@ fn show_answer(
     show_reply(alloc, text, message, &reply)
 }
 
-/// Adds how a decider was asked.
-fn show_calls(text: &mut String, decider: &Watched<MemorySink>) -> Result<(), AllocError> {
+/// Adds the names that were looked up, or the counts that the decider was asked with, and how often it was asked.
+fn show_asked(
+    text: &mut String,
+    decider: &Watched<MemorySink>,
+    looks: bool,
+) -> Result<(), AllocError> {
     let (decides, derivings) = (decider.decides, decider.derivings);
+    if looks {
+        let names = text_of(&decider.names);
+        return write!(text, "looked up{names}, decide {decides}");
+    }
     write!(text, "decide {decides}, the last with counts")?;
-    show_counts(text, &decider.counts)?;
-    write!(text, ", decide_deriving {derivings}")
-}
-
-fn show_counts(text: &mut String, counts: &Counts) -> Result<(), AllocError> {
-    for count in counts.as_slice() {
+    for count in decider.counts.as_slice() {
         write!(text, " {count}")?;
     }
-    Ok(())
-}
-
-/// A message's request decided with no keys derived, then with its password, and in a fresh world with the keys that
-/// were asked for.
-pub fn alone(alloc: Global, setting: &Setting, messages: &[&Message]) -> io::Result<String> {
-    let [message, ..] = messages else {
-        return Err(no_case());
-    };
-    let mut text = String::new(alloc);
-    let counts = without_keys(alloc, &mut text, setting, message)?;
-    with_keys(alloc, &mut text, setting, message, &counts)?;
-    Ok(text)
-}
-
-/// Adds the counts that a decision of a message's request asks for, and the result with its password.
-fn without_keys(
-    alloc: Global,
-    text: &mut String,
-    setting: &Setting,
-    message: &Message,
-) -> io::Result<Counts> {
-    let mut world = setting.start(alloc)?;
-    let counts = show_without_keys(alloc, text, &mut world, message);
-    drop(world);
-    counts
-}
-
-fn show_without_keys(
-    alloc: Global,
-    text: &mut String,
-    world: &mut World<MemorySink>,
-    message: &Message,
-) -> io::Result<Counts> {
-    let (counts, verdict) = counts_and_verdict(alloc, world, message)?;
-    text.push_str("needs")?;
-    show_counts(text, &counts)?;
-    text.push_str("; deriving ")?;
-    show_verdict(alloc, text, verdict, &world.alone)?;
-    Ok(counts)
-}
-
-/// The counts that a decision of a message's request asks for, and its verdict with its password.
-fn counts_and_verdict(
-    alloc: Global,
-    world: &mut World<MemorySink>,
-    message: &Message,
-) -> io::Result<(Counts, &'static str)> {
-    let (opened, password) = open_request(alloc, &world.service, message)?;
-    let (opened, counts) = needed_keys(world.alone.decide(now(), opened))?;
-    let decided = world.alone.decide_deriving(now(), opened, &password);
-    Ok((counts, verdict_text(decided)))
-}
-
-/// Adds the result of a message's request with the keys under these counts.
-fn with_keys(
-    alloc: Global,
-    text: &mut String,
-    setting: &Setting,
-    message: &Message,
-    counts: &Counts,
-) -> io::Result<()> {
-    let mut world = setting.start(alloc)?;
-    let shown = show_with_keys(alloc, text, &mut world, message, counts);
-    drop(world);
-    shown
-}
-
-fn show_with_keys(
-    alloc: Global,
-    text: &mut String,
-    world: &mut World<MemorySink>,
-    message: &Message,
-    counts: &Counts,
-) -> io::Result<()> {
-    let opened = complete_request(alloc, &world.service, message, counts)?;
-    let verdict = verdict_text(world.alone.decide(now(), opened));
-    text.push_str("; with keys ")?;
-    show_verdict(alloc, text, verdict, &world.alone)
-}
-
-/// Adds a verdict, and what the table then holds.
-fn show_verdict(
-    alloc: Global,
-    text: &mut String,
-    verdict: &str,
-    table: &Alone<MemorySink>,
-) -> io::Result<()> {
-    let holding = Holding::of(alloc, table)?;
-    Ok(write!(text, "{verdict}, {holding}")?)
-}
-
-/// A message's request, with no keys derived, and its password.
-fn open_request(
-    alloc: Global,
-    service: &Service,
-    message: &Message,
-) -> io::Result<(Opened, Vec<u8>)> {
-    match service.open(alloc, Endpoints::LOOPBACK, &message.bytes)? {
-        OpenResult::Refused(_) => Err(no_case()),
-        OpenResult::Opened(incoming) => Ok((incoming.opened, incoming.password.into_vec())),
-    }
-}
-
-/// A message's request with the password's keys under these counts, and its password.
-fn complete_request(
-    alloc: Global,
-    service: &Service,
-    message: &Message,
-    counts: &Counts,
-) -> io::Result<Opened> {
-    let (mut opened, password) = open_request(alloc, service, message)?;
-    complete(&mut opened, &password, counts)?;
-    Ok(opened)
-}
-
-/// Derives a request's keys under these counts.
-fn complete(opened: &mut Opened, password: &[u8], counts: &Counts) -> io::Result<()> {
-    if counts.as_slice().iter().any(|count| *count == 0) {
-        return Err(no_case());
-    }
-    let salt = opened.salt()?;
-    Ok(opened.complete(password, &salt, counts)?)
-}
-
-/// The keys that a decision asks for.
-fn needed_keys(decided: Result<Verdict, Refused>) -> io::Result<(Opened, Counts)> {
-    match decided {
-        Ok(_) => Err(no_case()),
-        Err(refused) => {
-            let Refused { fault, opened } = refused;
-            match fault {
-                DecideFault::NeedKeys(counts) => Ok((opened, counts)),
-                DecideFault::Full | DecideFault::Memory => Err(no_case()),
-            }
-        }
-    }
-}
-
-fn verdict_text(decided: Result<Verdict, Refused>) -> &'static str {
-    match decided {
-        Ok(verdict) => verdict.text(),
-        Err(_) => "refused",
-    }
+    write!(text, ", decide_deriving {derivings}")
 }

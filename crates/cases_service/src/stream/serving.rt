@@ -7,7 +7,7 @@ use chpw_decider::{Alone, Decider};
 use chpw_endpoints::Endpoints;
 use chpw_frame::{TcpOutcome, read_tcp, write_tcp};
 use chpw_journal::MemorySink;
-use chpw_serve::{Ended, Gate, Messages, Observer, serve_alone, serve_stream};
+use chpw_serve::{Ended, Gate, Messages, NoGate, Observer, serve_stream};
 use std::alloc::Global;
 use std::io;
 use support_realm::{Counting, Standing, World};
@@ -60,29 +60,6 @@ fn writer_of(alloc: Global, how: How) -> Taker {
     Taker {
         taken: Vec::new(alloc),
         course: Course::start(how.writer),
-    }
-}
-
-/// Serves a stream by a table that one thread owns.
-fn serve(alloc: Global, world: &mut World<MemorySink>, how: How, stream: &[u8]) -> Outcome {
-    let mut reader = reader_of(how, stream);
-    let mut writer = writer_of(alloc, how);
-    let mut clock = how.clock;
-    let mut words = Counting::new();
-    let ended = serve_alone(
-        alloc,
-        &world.service,
-        Endpoints::LOOPBACK,
-        &mut reader,
-        &mut writer,
-        &mut world.alone,
-        &mut clock,
-        &mut words,
-    );
-    Outcome {
-        written: writer.taken,
-        ended,
-        unread: reader.left.len(),
     }
 }
 
@@ -157,10 +134,10 @@ pub fn serve_anew(
     how: How,
     stream: &[u8],
 ) -> io::Result<(Outcome, Holding)> {
-    let mut world = setting.start(alloc)?;
-    let outcome = serve(alloc, &mut world, how, stream);
-    let served = with_holding(alloc, outcome, &world.alone);
-    drop(world);
+    let World { service, mut alone } = setting.start(alloc)?;
+    let outcome = serve_by(alloc, &service, &mut alone, &mut NoGate, how, stream);
+    let served = with_holding(alloc, outcome, &alone);
+    drop((service, alone));
     served
 }
 
