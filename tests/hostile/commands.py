@@ -15,8 +15,8 @@ aren't text.
 In lines and edits `;` is a newline; `N * TEXT` repeats.
 """
 
-from harness.case_files import FileCase, blocks_of
 from harness.cases import main
+from tests.case_files import FileCase, blocks_of
 
 
 def expanded(text):

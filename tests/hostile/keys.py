@@ -11,9 +11,9 @@ with a password.
 `-` is for no bytes. In an answer the lines that are written are joined, and those on standard error stand behind ` | `.
 """
 
-from harness.case_files import FileCase, lines_of
 from harness.cases import main
 from harness.keytab import keytab
+from tests.case_files import FileCase, lines_of
 
 NO_KEY = "keytab: no key is imported"
 KEYS = {18: bytes(32), 17: bytes(16)}

@@ -5,11 +5,12 @@ hexadecimal words, `-` for none; and `made`, lines `PRINCIPALS CHANGES`. `cases/
 (`tests.model.pieces`) over a table of alice and bob/admin.
 """
 
+import functools
 import tomllib
 
-from harness.case_files import FileCase, blocks_of, is_case, lines_of
 from harness.cases import main
 from harness.journal import CHANGE, keys_record
+from tests.case_files import FileCase, blocks_of, is_case, lines_of
 from tests.model.changed_bytes import changed
 from tests.model.pieces import journal_of
 
@@ -55,7 +56,11 @@ def keys_of(table):
 
 
 class TableCase(FileCase):
-    def table(self, text, journal, form="lines"):
+    def setUp(self):
+        super().setUp()
+        self.table = functools.lru_cache(maxsize=16)(self.printed)
+
+    def printed(self, text, journal, form="lines"):
         """What `table` prints, and before that each line on standard error: about a torn record, or a fault."""
         words = ["table", "--config", "configuration", "--journal", "journal", "--as", form]
         printed, errors, status = self.ran(words, {"configuration": text.encode(), "journal": journal})

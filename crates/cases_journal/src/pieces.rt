@@ -71,7 +71,9 @@ fn add_whole(alloc: Global, journal: &mut Vec<u8>, piece: &str) -> io::Result<()
             let bytes = hex::decode(alloc, word).map_err(|_| no_case())?;
             journal.extend_from_slice(&bytes).map_err(Error::from)
         }
-        "raise" => journal.extend_from_slice(&raise_bytes(number(word)?)).map_err(Error::from),
+        "raise" => journal
+            .extend_from_slice(&raise_bytes(number(word)?))
+            .map_err(Error::from),
         "realm" => add_realm(alloc, journal, word),
         _ => {
             let (kind, name) = kind_of(what);

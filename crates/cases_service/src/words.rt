@@ -1,5 +1,6 @@
 //! Words of a case, in whichever topic.
 
+use chpw_frame::{LONGEST_MESSAGE, write_tcp};
 use hex::decode;
 use std::alloc::Global;
 use std::io::{self, Error, ErrorKind};
@@ -24,4 +25,12 @@ pub fn apply_edits(alloc: Global, base: &str, edits: &str) -> io::Result<String>
         }
     }
     Ok(text)
+}
+
+/// Adds a message after its length.
+pub fn put_framed(stream: &mut Vec<u8>, message: &[u8]) -> io::Result<()> {
+    if message.len() > LONGEST_MESSAGE || write_tcp(stream, message).is_err() {
+        return Err(no_case());
+    }
+    Ok(())
 }

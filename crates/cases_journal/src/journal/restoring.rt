@@ -45,12 +45,7 @@ fn show_told(text: &mut Vec<u8>, r: &Restored) -> io::Result<()> {
 }
 
 /// Adds what restoring it gives if a read fails before each of its bytes in turn, and at its end.
-pub fn show_failing(
-    alloc: Global,
-    text: &mut Vec<u8>,
-    way: Way,
-    journal: &[u8],
-) -> io::Result<()> {
+pub fn show_failing(alloc: Global, text: &mut Vec<u8>, way: Way, journal: &[u8]) -> io::Result<()> {
     let mut census = Census::new(alloc);
     for place in 0..=journal.len() {
         let mut told = Vec::new(alloc);

@@ -2,10 +2,10 @@
 ghost use Rattle.std.specs.Prelude.{◌≡◌, true, IfOk};
 ghost use Rattle.chpw_rules.specs.Fitting.{config_fits};
 
-use crate::words::no_case;
+use crate::words::{no_case, put_framed};
 use chpw_config::read_config;
 use chpw_endpoints::Endpoints;
-use chpw_frame::{LONGEST_MESSAGE, TcpOutcome, read_tcp, write_tcp};
+use chpw_frame::{TcpOutcome, read_tcp};
 use chpw_rules::Config;
 use chpw_serve::serve_alone;
 use std::alloc::Global;
@@ -29,7 +29,8 @@ pub fn reply_of(
     second: i64,
     message: &[u8],
 ) -> io::Result<Vec<u8>> {
-    let stream = stream_of(alloc, message)?;
+    let mut stream = Vec::new(alloc);
+    put_framed(&mut stream, message)?;
     let mut written = Vec::new(alloc);
     serve_alone(
         alloc,
@@ -50,13 +51,4 @@ fn first_reply(alloc: Global, mut replies: &[u8]) -> io::Result<Vec<u8>> {
         TcpOutcome::Message(reply) => Ok(reply),
         _ => Err(no_case()),
     }
-}
-
-/// A message after its length.
-fn stream_of(alloc: Global, message: &[u8]) -> io::Result<Vec<u8>> {
-    let mut stream = Vec::new(alloc);
-    if message.len() > LONGEST_MESSAGE || write_tcp(&mut stream, message).is_err() {
-        return Err(no_case());
-    }
-    Ok(stream)
 }

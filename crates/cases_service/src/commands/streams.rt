@@ -9,7 +9,8 @@ use support_cases::Answers;
 use support_streams::{Course, Giver, Taker, Way};
 
 /// It has 86 bytes, and prints 16.
-const SCRIPT: &str = "realm EXAMPLE.COM\npolicy 0 0 2 4096 no\nprincipal alice 1 4096:a1\nopen 10 -1\nshow alice";
+const SCRIPT: &str =
+    "realm EXAMPLE.COM\npolicy 0 0 2 4096 no\nprincipal alice 1 4096:a1\nopen 10 -1\nshow alice";
 
 #[derive(Drop)]
 pub struct Cases;

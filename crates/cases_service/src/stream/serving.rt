@@ -2,10 +2,10 @@
 
 use crate::stream::messages::{Message, show_reply};
 use crate::stream::setting::{Holding, Setting};
-use crate::words::no_case;
+use crate::words::put_framed;
 use chpw_decider::{Alone, Decider};
 use chpw_endpoints::Endpoints;
-use chpw_frame::{TcpOutcome, read_tcp, write_tcp};
+use chpw_frame::{TcpOutcome, read_tcp};
 use chpw_journal::MemorySink;
 use chpw_serve::{Ended, Gate, Messages, NoGate, Observer, serve_stream};
 use std::alloc::Global;
@@ -96,35 +96,11 @@ pub fn serve_by<M: Messages, D: Decider, G: Gate + Observer>(
 
 /// The stream of these messages.
 pub fn stream_of(alloc: Global, messages: &[&Message]) -> io::Result<Vec<u8>> {
-    let mut stream = no_stream(alloc);
+    let mut stream = Vec::new(alloc);
     for message in messages {
-        send(&mut stream, &message.bytes)?;
+        put_framed(&mut stream, &message.bytes)?;
     }
-    Ok(stream.taken)
-}
-
-/// The stream of these bytes as one message.
-pub fn stream_of_one(alloc: Global, bytes: &[u8]) -> io::Result<Vec<u8>> {
-    let mut stream = no_stream(alloc);
-    send(&mut stream, bytes)?;
-    Ok(stream.taken)
-}
-
-fn no_stream(alloc: Global) -> Taker {
-    Taker {
-        taken: Vec::new(alloc),
-        course: Course::start(Way::of("")),
-    }
-}
-
-fn send(stream: &mut Taker, message: &[u8]) -> io::Result<()> {
-    if message.len() > chpw_frame::LONGEST_MESSAGE {
-        return Err(no_case());
-    }
-    match write_tcp(stream, message) {
-        Ok(()) => Ok(()),
-        Err(_) => Err(no_case()),
-    }
+    Ok(stream)
 }
 
 /// Serves a stream in a world of its own: the result, and what its table then holds.

@@ -2,9 +2,9 @@
 //! at a call, each served in a world of its own.
 
 use crate::stream::messages::Message;
-use crate::stream::serving::{How, serve_anew, served_as, stream_of, stream_of_one};
+use crate::stream::serving::{How, serve_anew, served_as, stream_of};
 use crate::stream::setting::Setting;
-use crate::words::no_case;
+use crate::words::{no_case, put_framed};
 use std::alloc::Global;
 use std::io;
 use std::ops::Range;
@@ -52,7 +52,8 @@ fn result_of_bytes(
     message: &Message,
     bytes: &[u8],
 ) -> io::Result<String> {
-    let stream = stream_of_one(alloc, bytes)?;
+    let mut stream = Vec::new(alloc);
+    put_framed(&mut stream, bytes)?;
     served_as(alloc, setting, how, &[message], &stream)
 }
 
