@@ -281,8 +281,18 @@ def told(text, journal, tell):
     return torn + tell(table)
 
 
+def is_writable(name):
+    """Whether a file can have the name: each component is UTF-8, without a slash."""
+    try:
+        return not any("/" in part.decode() for part in name)
+    except UnicodeDecodeError:
+        return False
+
+
 def configuration_case(table):
     """With the text that it gives read again: the same principals."""
+    if not all(map(is_writable, table.principals)):
+        return "cannot write\n"
     text = configuration(table)
     again = opening(text)
     assert (again.principals, again.count) == (table.principals, table.count)
