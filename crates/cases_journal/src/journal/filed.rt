@@ -57,18 +57,32 @@ fn show_case<R: Files<File = File>>(
 
 /// Adds what opening the file gives, and how many bytes are in it then.
 fn show_opened<R: Files<File = File>>(rt: &R, alloc: Global, text: &mut Vec<u8>) -> io::Result<()> {
+    show_opening(rt, alloc, text)?;
+    let left = fs::metadata(rt, SCRATCH)?.len();
+    write!(text, ", {left} bytes")
+}
+
+fn show_opening<R: Files<File = File>>(
+    rt: &R,
+    alloc: Global,
+    text: &mut Vec<u8>,
+) -> io::Result<()> {
     match open_journal(rt, alloc, SCRATCH, table(alloc)?) {
         Ok(journal) => {
             let shown = show_journal(rt, text, &journal);
             drop(journal);
-            shown?;
+            shown
         }
-        Err(OpenFault::CannotRead) => text.extend_from_slice(b"cannot read")?,
-        Err(OpenFault::CannotWrite) => text.extend_from_slice(b"cannot write")?,
-        Err(OpenFault::Restore(fault)) => write!(text, "{fault}")?,
+        Err(fault) => show_fault(text, fault),
     }
-    let left = fs::metadata(rt, SCRATCH)?.len();
-    write!(text, ", {left} bytes")
+}
+
+fn show_fault(text: &mut Vec<u8>, fault: OpenFault) -> io::Result<()> {
+    match fault {
+        OpenFault::CannotRead => write!(text, "cannot read"),
+        OpenFault::CannotWrite => write!(text, "cannot write"),
+        OpenFault::Restore(fault) => write!(text, "{fault}"),
+    }
 }
 
 /// Adds whether the file existed, the mode of a new one, what is in the table, and where a torn tail was cut off.
@@ -103,21 +117,34 @@ fn append<R: Files<File = File>>(rt: &R, alloc: Global, more: &[u8]) -> io::Resu
 /// Adds whether the file existed when it was locked, and what opening it gives beside the locked file and beside the
 /// journal restored from it.
 fn show_locked<R: Files<File = File>>(rt: &R, alloc: Global, text: &mut Vec<u8>) -> io::Result<()> {
-    let Ok(locked) = JournalFile::lock(rt, SCRATCH) else {
-        return Err(no_case());
-    };
-    text.extend_from_slice(if locked.found { b"found; " } else { b"new; " })?;
-    show_beside(rt, alloc, text)?;
-    let Ok(journal) = locked.restore(alloc, table(alloc)?) else {
-        return Err(no_case());
-    };
-    let shown = show_beside(rt, alloc, text);
+    let journal = shown_locked(rt, alloc, text)?;
+    let shown = show_beside(rt, alloc, text, "");
     drop(journal);
     shown
 }
 
-fn show_beside<R: Files<File = File>>(rt: &R, alloc: Global, text: &mut Vec<u8>) -> io::Result<()> {
+fn shown_locked<R: Files<File = File>>(
+    rt: &R,
+    alloc: Global,
+    text: &mut Vec<u8>,
+) -> io::Result<Journal<File>> {
+    let Ok(locked) = JournalFile::lock(rt, SCRATCH) else {
+        return Err(no_case());
+    };
+    let found = if locked.found { "found; " } else { "new; " };
+    match show_beside(rt, alloc, text, found) {
+        Ok(()) => locked.restore(alloc, table(alloc)?).map_err(|_| no_case()),
+        Err(error) => Err(error),
+    }
+}
+
+fn show_beside<R: Files<File = File>>(
+    rt: &R,
+    alloc: Global,
+    text: &mut Vec<u8>,
+    found: &str,
+) -> io::Result<()> {
+    text.extend_from_slice(found.as_bytes())?;
     show_opened(rt, alloc, text)?;
-    text.extend_from_slice(b"; ")?;
-    Ok(())
+    Ok(text.extend_from_slice(b"; ")?)
 }
