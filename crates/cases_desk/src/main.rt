@@ -3,7 +3,7 @@
 //! Answers cases of workers at one desk.
 //!
 //! A line on standard input that is a topic's name in brackets begins the topic, and the lines below it are cases of it;
-//! README.md lists their kinds.
+//! desk.rt lists their kinds.
 #![tactic(auto)]
 
 mod desk;

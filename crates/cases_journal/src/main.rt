@@ -1,6 +1,6 @@
 //! Layer: tests. Touches: standard input and output. Called by: nobody, it is run.
 //!
-//! Answers cases of what a service holds: journals and reloads.
+//! Answers cases of what a service holds: journals and reloads, passwords and names.
 //!
 //! A line on standard input that is a topic's name in brackets begins the topic, and the lines below it are cases of it;
 //! README.md lists their kinds.
@@ -9,6 +9,7 @@
 mod journal;
 mod pieces;
 mod reload;
+mod rules;
 mod telling;
 
 use std::alloc::Global;
@@ -23,7 +24,7 @@ struct Cases<'a, R: Files<File = File>> {
 
 impl<R: Files<File = File>> Topics for Cases<'_, R> {
     fn has(&self, topic: &str) -> bool {
-        matches!(topic, "journal" | "reload")
+        matches!(topic, "journal" | "reload" | "rules")
     }
 
     fn print<W: Write>(
@@ -36,6 +37,7 @@ impl<R: Files<File = File>> Topics for Cases<'_, R> {
         match topic {
             "journal" => answer_lines(alloc, out, &mut journal::Cases { rt: self.rt }, lines),
             "reload" => answer_lines(alloc, out, &mut reload::Cases, lines),
+            "rules" => answer_lines(alloc, out, &mut rules::Cases, lines),
             _ => refuse_lines(out, lines),
         }
     }

@@ -66,6 +66,7 @@ fn serve_text(alloc: Global, it: &ServeOptions<'_>) -> Result<String, AllocError
     );
     let more = (it.raise, it.udp, it.listen.as_slice());
     format!(in alloc;
-        "serve {files:?} log, resume, control {others:?} port, workers, connections {work:?} limits {limits:?} kdc {kdc:?} strict {strict:?} raise, udp, addresses {more:?}"
+        "serve {files:?} log, resume, control {others:?} port, workers, connections {work:?} limits {limits:?} kdc {kdc:?} \
+        strict {strict:?} raise, udp, addresses {more:?}"
     )
 }
