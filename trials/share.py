@@ -1,4 +1,4 @@
-"""The share of trials/ that the gate tries, within ten minutes of a processor: the edits that were refused over other sources,
+"""The share of trials/ that the gate tries, within five minutes of a processor: the edits that were refused over other sources,
 the oldest verdicts first, and then those that were never refused as they are."""
 import concurrent.futures
 import datetime
@@ -6,7 +6,7 @@ import hashlib
 import resource
 
 # The seconds of a processor that a share may take.
-BUDGET = 600
+BUDGET = 300
 # What a try is taken to cost while nobody knows.
 COST = 30
 # The most seconds of a processor that one task of a share may take, and the least with which one is begun.
