@@ -40,7 +40,7 @@ pub fn together<D: DeskName + Send + Sync, R: Threads + Wait + Sync>(
     passes: &mut [Pass<D>],
     task: &str,
 ) -> io::Result<String> {
-    let told = Told::new();
+    let told = Told::new(String::from_str(scene.alloc, task)?);
     let workers = passes.len();
     let barrier = Barrier::new(workers);
     race(
@@ -50,7 +50,6 @@ pub fn together<D: DeskName + Send + Sync, R: Threads + Wait + Sync>(
         scene.alloc,
         scene.service,
         scene.desk,
-        task,
         passes,
     );
     let changer = passes.iter().position(|pass| pass.front().is_some());
@@ -67,7 +66,6 @@ fn race<D: DeskName + Send + Sync, R: Threads + Wait + Sync>(
     alloc: Global,
     service: &Service,
     desk: &Desk<D, MemorySink>,
-    task: &str,
     passes: &mut [Pass<D>],
 ) {
     thread::for_each_mut(
@@ -82,7 +80,7 @@ fn race<D: DeskName + Send + Sync, R: Threads + Wait + Sync>(
                 service,
                 desk,
             };
-            told.note(scene.race(pass, &mut gate, task));
+            told.note(scene.race(pass, &mut gate, told.task.as_str()));
         },
     );
 }
@@ -154,17 +152,19 @@ impl<D: DeskName, R: Wait> Scene<'_, D, R> {
     }
 }
 
-/// How many workers said what.
+/// What the workers are to do, and how many of them said what.
 #[derive(Drop)]
 struct Told {
+    task: String,
     changed: AtomicU32,
     replayed: AtomicU32,
     seen: AtomicU32,
 }
 
 impl Told {
-    fn new() -> Told {
+    fn new(task: String) -> Told {
         Told {
+            task,
             changed: AtomicU32::new(0),
             replayed: AtomicU32::new(0),
             seen: AtomicU32::new(0),

@@ -7,6 +7,7 @@ use crate::desk::racing::together;
 use crate::desk::scene::Scene;
 use crate::desk::words::{first_word, no_case, number};
 use chpw_book::{AtDesk, DeskName, Pass};
+use chpw_client::SentRequest;
 use chpw_serve::NoGate;
 use std::alloc::Global;
 use std::io;
@@ -76,23 +77,32 @@ fn overtaken<D: DeskName, R: Wait>(
     };
     let (raises, text) = first_word(text);
     let sent = request(scene.alloc, text)?;
+    overtaken_by(scene, first, second, number(Some(raises)), &sent)
+}
+
+fn overtaken_by<D: DeskName, R: Wait>(
+    scene: &Scene<'_, D, R>,
+    pass: &mut Pass<D>,
+    other: &mut Pass<D>,
+    raises: u32,
+    sent: &SentRequest,
+) -> io::Result<String> {
+    let place = AtDesk {
+        rt: scene.rt,
+        desk: scene.desk,
+        pass,
+    };
     let mut place = Overtaken {
-        place: AtDesk {
-            rt: scene.rt,
-            desk: scene.desk,
-            pass: first,
-        },
-        other: second,
-        raises: number(Some(raises)),
+        place,
+        other,
+        raises,
         raised: 0,
         decisions: 0,
         derivations: 0,
     };
-    let mut said = printed_answer(scene.alloc, scene.service, &mut place, &mut NoGate, &sent)?;
+    let said = printed_answer(scene.alloc, scene.service, &mut place, &mut NoGate, sent)?;
     let (raised, decisions, derivations) = (place.raised, place.decisions, place.derivations);
-    write!(
-        said,
-        "; {raised} raises, {decisions} decisions, {derivations} under the lock"
-    )?;
-    Ok(said)
+    Ok(format!(in scene.alloc;
+        "{said}; {raised} raises, {decisions} decisions, {derivations} under the lock"
+    )?)
 }
