@@ -18,7 +18,7 @@ mod values;
 mod writers;
 
 use crate::der::unread::Unread;
-use hex::decode;
+use hex::{FromHexError, decode};
 use std::alloc::{AllocError, Global};
 use std::io;
 use support_cases::Answers;
@@ -81,5 +81,8 @@ fn bytes_of(alloc: Global, text: &str) -> Result<Vec<u8>, Unread> {
 }
 
 fn hex_bytes(alloc: Global, text: &str) -> Result<Vec<u8>, Unread> {
-    decode(alloc, text).map_err(|_| Unread::Why("not hexadecimal"))
+    decode(alloc, text).map_err(|error| match error {
+        FromHexError::OutOfMemory => Unread::Memory,
+        _ => Unread::Why("not hexadecimal"),
+    })
 }
