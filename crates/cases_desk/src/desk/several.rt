@@ -72,11 +72,14 @@ fn overtaken<D: DeskName, R: Wait>(
     passes: &mut [Pass<D>],
     text: &str,
 ) -> io::Result<String> {
-    let [first, second] = passes else {
-        return Err(no_case());
-    };
     let (raises, text) = first_word(text);
     let sent = request(scene.alloc, text)?;
+    let Some((first, others)) = passes.split_first_mut() else {
+        return Err(no_case());
+    };
+    let Some(second) = others.first_mut() else {
+        return Err(no_case());
+    };
     overtaken_by(scene, first, second, number(Some(raises)), &sent)
 }
 
