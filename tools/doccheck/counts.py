@@ -121,6 +121,7 @@ TABLE = [
     ("docs/TESTS.md", rf"^{SCRIPT} \| (?P<n>\d+) blocks \|", lambda it: in_file(it["file"], "== ")),
     ("docs/TESTS.md", rf"^{TOPIC} \| (?P<n>\d+), in \d+ scripts \|", of_topic(cases)),
     ("docs/TESTS.md", rf"^{TOPIC} \| \d+, in (?P<n>\d+) scripts \|", of_topic(beginning("start"))),
+    ("docs/TESTS.md", r"^\| `(?P<name>\w+)` \((?P<n>\d+)\) \|", lambda it: tests(it["name"])),
     ("docs/TESTS.md", r"`must-fail/` has (?P<n>\d+)", of(must_fail)),
     ("docs/TESTS.md", r"`trials/` has (?P<n>\d+)", of(refused)),
     ("docs/TESTS.md", r"(?P<n>\d+) wrong bodies that no clause", of(caught)),

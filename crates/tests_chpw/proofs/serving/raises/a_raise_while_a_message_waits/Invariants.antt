@@ -1,0 +1,12 @@
+use Rattle.std.specs.Prelude.{[]}
+use Rattle.chpw_book.specs.Starting.{ledger_name, ledger_parts, list_book, list_root, workers_of}
+use Rattle.tests_chpw.proofs.serving.raises.a_raise_while_a_message_waits.Given as goal
+
+abbrev pub ghosts-raised_at-D-DeskName : goal.ghosts-raised_at-D-DeskName
+ghosts-raised_at-D-DeskName g a = record { workers = workers_of a.unnamed; prior = [] }
+
+abbrev pub ghosts-raised_at-D-Ledger : goal.ghosts-raised_at-D-Ledger
+ghosts-raised_at-D-Ledger g a = record { name = ledger_name a.unnamed; parts = ledger_parts a.unnamed }
+
+abbrev pub ghosts-raised_at-D-LogName : goal.ghosts-raised_at-D-LogName
+ghosts-raised_at-D-LogName g a = record { book = list_book a.unnamed; root = list_root a.unnamed }
