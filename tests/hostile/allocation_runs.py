@@ -23,7 +23,7 @@ CASES = {
         "authorization_data", "change_passwd_data", "ticket", "enc_ticket_part 6381d8", "authenticator", "ap_req", "ap_rep",
         "enc_ap_rep_part", "krb_priv", "enc_krb_priv_part", "krb_error",
     ],
-    ("cases_kerberos", "messages"): ["ap-req:", "krb-priv:", "reply:", "krb-error:"],
+    ("cases_kerberos", "messages"): ["ap-req ", "krb-priv ", "reply ", "krb-error "],
 }
 # Records of which there is no case; each is written as it was read.
 RECORDS = [

@@ -1,19 +1,17 @@
-"""Each allocation refused in turn: of calls, of programs, of a service.
+"""Each allocation refused in turn: of programs, and of a service.
 
-The program `cases_allocations` is run on each line of its cases: once with all memory, and then once for each of the
-allocations that it made, which is refused; no run is left out. Each run has to end with status 0 and print what the first
-one printed. A line that is never refused in its call is a failure too, and so is a stream that isn't refused both before its
-entry and after it. Other programs are run likewise (allocation_runs.py), and so is `serve` (allocation_service.py). Needs gcc.
+A program is run once with all memory, and then once for each of the allocations that it made, which is refused; no run is left
+out (allocation_runs.py). So is `serve` (allocation_service.py). What a call leaves that was refused memory is a clause of its
+contract. Needs gcc.
 
-A line of the output says where the refused allocations fell: `refused`, the call answered so, or the program ended so; `beside`
-it; `nowhere`, where the call did without, as a list does that was to grow by a hint.
+A line of the output says where the refused allocations fell: `refused`, the program ended so; `beside`, it left a warning out;
+`nowhere`, where it did without, as a list does that was to grow by a hint.
 """
 
 import concurrent.futures
 import functools
 import os
 import pathlib
-import re
 import sys
 import tempfile
 
@@ -23,38 +21,13 @@ from harness.server import Server
 from tests.hostile import allocation_runs, allocation_service
 from tests.hostile.refusing import Refusing, library, report, sweep
 
-CRATE = TOP / "crates/cases_allocations"
 SCRIPT = TOP / "samples/drill/changes.script"
-FELL = re.compile(r"\[([a-z ]*)\] ")
-STREAM = re.compile(r"(alone|desk) serve ")
 
 
 def arguments():
     parser = Parser(__doc__, "calls N, refused allocations M, failed F")
     parser.add_program("--server", PROGRAM)
-    parser.add_argument("--cases", type=pathlib.Path, default=CRATE / "stdin", metavar="FILE", help="other calls than its stdin")
     return parser.parse_args()
-
-
-def calls_of(file):
-    lines = file.read_text().splitlines()
-    return [line for line in lines if line and not line.startswith("#")]
-
-
-def place(run, whole):
-    """Where a refusal fell, and what is wrong with a run, or nothing."""
-    fell = FELL.match(run.out)
-    if run.status != 0 or not fell:
-        return "no answer", f"ends with {run.status}: {run.out.strip()[:200]!r}"
-    same = FELL.sub("", run.out, 1) == FELL.sub("", whole.out, 1)
-    return fell[1], None if same else f"prints {run.out.strip()[:200]!r}"
-
-
-def swept_call(made, line):
-    wanted = ["refused", "refused after its entry"] if STREAM.match(line) else ["refused"]
-    refusing = Refusing(made, "/")
-    words = [CRATE / "out/cases_allocations"]
-    return sweep(line, lambda number: refusing.run(words, number, f"where {line}\n"), place, wanted)
 
 
 def swept_service(made, program):
@@ -70,8 +43,6 @@ def sweeps(given, made, port):
         yield functools.partial(allocation_runs.swept_command, made, given.server, script, port, command)
     for case in allocation_runs.cases():
         yield functools.partial(allocation_runs.swept_case, made, *case)
-    for line in calls_of(given.cases):
-        yield functools.partial(swept_call, made, line)
 
 
 def swept(given, folder):
