@@ -2,7 +2,7 @@
 
 A `Draft` has a value for each part of a request (RFC 3244 section 2, RFC 4120 section 5), from the frame to the
 ChangePasswdData. As it stands it is a change that every server takes; a fault is one value that differs. Encryption and
-DER are those of changepw_client.py, so nothing here is the service's.
+DER are those of harness.wire, so nothing here is the service's.
 """
 
 import contextlib
@@ -27,7 +27,9 @@ def key_of(etype, key):
 
 
 def host(address):
-    return wire.sequence((0, wire.integer(2)), (1, wire.octets(address)))
+    """A HostAddress of IPv4, or of the type that stands before the address."""
+    number, octets = (2, address) if isinstance(address, bytes) else address
+    return wire.sequence((0, wire.integer(number)), (1, wire.octets(octets)))
 
 
 def optional(write, value):
@@ -81,6 +83,7 @@ class Draft:
     session_shown: bytes | None = None
     crealm: bytes = REALM
     cname: bytes | None = None
+    cname_type: int = 1
     starts: int | None = -60
     ends: int = 3_600
     addresses: tuple | None = None
@@ -94,6 +97,8 @@ class Draft:
     subkey_said: int | None = None
     subkey_shown: bytes | None = None
     number: int | None = 5
+    auth_said: int | None = None
+    auth_kvno: int | None = None
     auth_usage: int = 11
     auth_damage: int = 0
     auth_inner: bytes | None = None
@@ -102,6 +107,7 @@ class Draft:
     priv_pvno: int = 5
     priv_type: int = 21
     priv_said: int | None = None
+    priv_kvno: int | None = None
     priv_key: bytes | None = None
     priv_usage: int = 13
     priv_damage: int = 0
@@ -110,6 +116,7 @@ class Draft:
     priv_cut: object = None
     priv_number: int | None = 5
     priv_time: int | None = None
+    priv_has_usec: bool = True
     sender: bytes | None = HERE
     receiver: bytes | None = None
 
@@ -140,7 +147,7 @@ class Draft:
         addresses = None if self.addresses is None else wire.tlv(0x30, b"".join(map(host, self.addresses)))
         part = self.tkt_inner or wire.application(3, wire.sequence(
             (0, wire.flags(self.flags)), (1, held), (2, wire.string(self.crealm)),
-            (3, wire.name(1, self.cname or self.client)),
+            (3, wire.name(self.cname_type, *(self.cname or self.client).split(b"/"))),
             (4, wire.sequence((0, wire.integer(1)), (1, wire.octets(b"")))), *moments, (9, addresses)))
         kvno = self.kvno if self.tkt_kvno == "kvno" else self.tkt_kvno
         key = self.tkt_key or self.service[self.tkt_etype]
@@ -157,7 +164,7 @@ class Draft:
             (0, wire.integer(self.auth_vno)), (1, wire.string(self.auth_realm)),
             (2, wire.name(1, self.auth_name or self.client)), (4, wire.integer(self.cusec)),
             (5, wire.moment(self.now + self.ctime)), (6, subkey), (7, optional(wire.integer, self.number))))
-        return self.encrypted(self.session, self.auth_usage, plain, None, None, self.auth_damage)
+        return self.encrypted(self.session, self.auth_usage, plain, self.auth_said, self.auth_kvno, self.auth_damage)
 
     def ap_req(self):
         message = wire.application(14, wire.sequence(
@@ -178,10 +185,10 @@ class Draft:
     def krb_priv(self):
         time = optional(lambda it: wire.moment(self.now + it), self.priv_time)
         part = self.priv_inner or wire.application(28, wire.sequence(
-            (0, wire.octets(self.user_data())), (1, time), (2, time and wire.integer(self.cusec)),
+            (0, wire.octets(self.user_data())), (1, time), (2, wire.integer(self.cusec) if time and self.priv_has_usec else None),
             (3, optional(wire.integer, self.priv_number)), (4, optional(host, self.sender)),
             (5, optional(host, self.receiver))))
-        sealed = self.encrypted(self.priv_key or self.subkey, self.priv_usage, part, self.priv_said, None, self.priv_damage)
+        sealed = self.encrypted(self.priv_key or self.subkey, self.priv_usage, part, self.priv_said, self.priv_kvno, self.priv_damage)
         if self.priv_open:
             sealed = wire.sequence((0, wire.integer(0)), (2, wire.octets(part)))
         message = wire.application(21, wire.sequence(

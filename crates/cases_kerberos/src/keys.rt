@@ -4,13 +4,11 @@
 //! reason, and the next line is read.
 
 mod answers;
-mod refusal;
-mod words;
 
 use crate::keys::answers::answer;
-use crate::keys::refusal::Refusal;
+use crate::refusal::told;
 use std::alloc::Global;
-use std::io::{self, Error, ErrorKind};
+use std::io;
 use support_cases::Answers;
 
 #[derive(Drop)]
@@ -18,10 +16,6 @@ pub struct Cases;
 
 impl Answers for Cases {
     fn answer(&mut self, alloc: Global, case: &str) -> io::Result<String> {
-        match answer(alloc, case) {
-            Ok(text) => Ok(text),
-            Err(Refusal::Memory) => Err(Error::from(ErrorKind::OutOfMemory)),
-            Err(refusal) => Ok(format!(in alloc; "refused: {refusal}")?),
-        }
+        told(alloc, answer(alloc, case))
     }
 }

@@ -10,6 +10,8 @@ mod der;
 mod keys;
 mod keytab;
 mod messages;
+mod refusal;
+mod words;
 
 use std::alloc::Global;
 use std::io::{self, Write};

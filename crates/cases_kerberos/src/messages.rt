@@ -1,22 +1,19 @@
-//! Cases of krb_msgs, a line each.
+//! Cases of krb_msgs, a line of words each; messages and keys are in hexadecimal.
 //!
-//! A line names a message of a small world, a colon, and what is changed in it, with commas between, as in `ap-req:
-//! message pvno 4, message use-session-key`. The message is made by the makers, changed and opened again. A line that
-//! begins with `#`, or is empty, is copied.
+//! - `ap-req PEER KVNO ETYPE KEY KVNO ETYPE KEY MESSAGE`: what it opens to that comes from this address, for a service with
+//!   these two keys.
+//! - `krb-priv lenient NUMBER MESSAGE`, `krb-priv strict NUMBER MESSAGE`: what it opens to after an AP-REQ with this sequence
+//!   number, `-` for none.
+//! - `reply KEY CTIME CUSEC AP-REP KRB-PRIV`: what a client reads that asked at this time, under this session key.
+//! - `krb-error MESSAGE`: what a client reads.
 
-mod ap_records;
-mod ap_reqs;
-mod keys;
-mod making;
-mod parts;
-mod privates;
-mod refusal;
-mod replies;
-pub mod world;
+mod opening;
+mod showing;
 
-use crate::messages::refusal::Refusal;
+use crate::messages::opening::{opened_ap_req, opened_krb_priv, read_error, read_private};
+use crate::refusal::{Answer, Refusal, told};
 use std::alloc::Global;
-use std::io::{self, Error, ErrorKind};
+use std::io;
 use support_cases::Answers;
 
 #[derive(Drop)]
@@ -24,22 +21,21 @@ pub struct Cases;
 
 impl Answers for Cases {
     fn answer(&mut self, alloc: Global, case: &str) -> io::Result<String> {
-        match answer(alloc, case) {
-            Ok(text) => Ok(text),
-            Err(Refusal::Memory) => Err(Error::from(ErrorKind::OutOfMemory)),
-            Err(refusal) => Ok(format!(in alloc; "refused: {refusal}")?),
-        }
+        told(alloc, answer(alloc, case))
     }
 }
 
 /// The answer to a case.
-fn answer(alloc: Global, line: &str) -> Result<String, Refusal> {
-    let (message, changes) = line.split_once(':').unwrap_or((line, ""));
-    match message {
-        "ap-req" => ap_reqs::answer(alloc, changes),
-        "krb-priv" => privates::answer(alloc, changes),
-        "reply" => replies::answer(alloc, changes),
-        "krb-error" => replies::error_answer(alloc, changes),
+fn answer(alloc: Global, line: &str) -> Answer {
+    let words: Vec<&str> = line.split_whitespace().collect(alloc)?;
+    let Some((kind, words)) = words.split_first() else {
+        return Err(Refusal::NoSuchCase);
+    };
+    match *kind {
+        "ap-req" => opened_ap_req(alloc, words),
+        "krb-priv" => opened_krb_priv(alloc, words),
+        "reply" => read_private(alloc, words),
+        "krb-error" => read_error(alloc, words),
         _ => Err(Refusal::NoSuchCase),
     }
 }

@@ -1,19 +1,17 @@
 //! Layer: tests. Touches: standard input and output. Called by: most crates above.
 //!
-//! What the programs of cases share: each case is a line on standard input or a block of lines, and its answer is printed
+//! What the programs of cases share: each case is a line on standard input, and its answer is printed
 //! on standard output.
 #![tactic(auto)]
 
-mod blocks;
 mod census;
 mod change;
 mod fault;
 mod printing;
 mod topics;
 
-pub use blocks::{Blocks, answer_blocks};
 pub use census::Census;
 pub use change::Change;
 pub use fault::Fault;
-pub use printing::{Answers, answer_lines, print_answers, refuse_lines};
+pub use printing::{Answers, answer_lines, refuse_lines};
 pub use topics::{Topics, print_topics};

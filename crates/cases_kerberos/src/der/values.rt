@@ -1,10 +1,9 @@
 //! Values of records: each kind of number, and the bits of flags; and whether values can be written.
 
 use crate::der::unread::Unread;
-use crate::messages::world::ap_rep_part;
 use krb_der::{
-    KerberosFlags, KerberosTime, Microseconds, read_ap_req, read_enc_ap_rep_part,
-    read_encrypted_data, read_host_address, text_len,
+    EncApRepPart, KerberosFlags, KerberosTime, Microseconds, SeqNumber, read_ap_req,
+    read_enc_ap_rep_part, read_encrypted_data, read_host_address, text_len,
 };
 use std::alloc::{AllocError, Global};
 
@@ -51,9 +50,12 @@ fn bits(alloc: Global, flags: KerberosFlags) -> Result<String, AllocError> {
 /// `CTIME CUSEC`: the length of the text of an EncAPRepPart with these, `none` if they can't be written.
 pub fn part_length(alloc: Global, words: &str) -> Result<String, AllocError> {
     let (ctime, cusec) = words.split_once(' ').unwrap_or((words, ""));
-    let mut part = ap_rep_part();
-    part.ctime = KerberosTime(ctime.parse().unwrap_or(0));
-    part.cusec = Microseconds(cusec.parse().unwrap_or(0));
+    let part = EncApRepPart {
+        ctime: KerberosTime(ctime.parse().unwrap_or(0)),
+        cusec: Microseconds(cusec.parse().unwrap_or(0)),
+        subkey: None,
+        seq_number: Some(SeqNumber(5)),
+    };
     match text_len(&part) {
         Some(length) => format!(in alloc; "{length}"),
         None => String::from_str(alloc, "none"),

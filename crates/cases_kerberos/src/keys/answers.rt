@@ -2,16 +2,14 @@
 
 ghost use Rattle.std.specs.Prelude.{◌≤◌, ◌↔◌, IsTrue, IfOk};
 
-use crate::keys::refusal::Refusal;
-use crate::keys::words::{bytes, cipher, etype, key, number, sixteen, two};
+use crate::refusal::{Answer, Refusal};
+use crate::words::{bytes, cipher, etype, key, number, sixteen, two};
 use krb_aes::{BLOCK_LEN, cts_decrypt, cts_encrypt};
 use krb_keys::{
     FOLD_MAX_LEN, PBKDF2_MAX_LEN, derive_key, hmac_sha1, nfold, pbkdf2, seal, string_to_key,
     string_to_keys, unseal,
 };
 use std::alloc::Global;
-
-type Answer = Result<String, Refusal>;
 
 /// The answer to a line of words.
 pub fn answer(alloc: Global, line: &str) -> Answer {

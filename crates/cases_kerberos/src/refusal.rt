@@ -2,8 +2,21 @@
 
 use hex::FromHexError;
 use krb_keys::{BadKey, UnsealFault};
-use std::alloc::AllocError;
+use std::alloc::{AllocError, Global};
+use std::io::{self, ErrorKind};
 use thiserror::Error;
+
+/// The text of an answer, or why there is none.
+pub type Answer = Result<String, Refusal>;
+
+/// What is printed for a case. Want of memory ends the program.
+pub fn told(alloc: Global, answer: Answer) -> io::Result<String> {
+    match answer {
+        Ok(text) => Ok(text),
+        Err(Refusal::Memory) => Err(io::Error::from(ErrorKind::OutOfMemory)),
+        Err(refusal) => Ok(format!(in alloc; "refused: {refusal}")?),
+    }
+}
 
 /// Why a case has no answer.
 #[derive(Debug, Drop, Error)]

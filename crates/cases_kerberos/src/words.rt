@@ -1,6 +1,6 @@
 //! The words of a case: byte strings in hexadecimal, where `-` is the empty one, numbers and keys.
 
-use crate::keys::refusal::Refusal;
+use crate::refusal::Refusal;
 use hex::FromHex;
 use krb_aes::Aes;
 use krb_keys::{AES128_CTS_HMAC_SHA1_96, AES256_CTS_HMAC_SHA1_96, Etype, Key, key_of};
