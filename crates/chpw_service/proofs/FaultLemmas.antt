@@ -7,7 +7,7 @@ use Rattle.chpw_start.specs.declared.fault.ServeFault.{ServeFault}
 use Rattle.chpw_start.specs.declared.fault.ServeFault.TheVariants.{CannotRead, Config, Exposed, CannotWrite, Present}
 use Rattle.chpw_start.specs.declared.fault.ServeFault.TheVariants.{Journal, CannotListen, CannotListenAt}
 use Rattle.chpw_start.specs.declared.fault.ServeFault.TheVariants.{CannotPrint, Memory, CannotClose}
-use Rattle.chpw_service.specs.Faults.{IsOfService}
+use Rattle.chpw_host.specs.Faults.{IsOfService}
 
 -- a journal that can't be read
 unread_journal : (path : List ℕ) (fault : ServeFault) → IsUnread path fault → IsOfJournal path fault

@@ -6,8 +6,8 @@ use Rattle.chpw_control.specs.declared.status.Status.{Status}
 use Rattle.chpw_control.specs.declared.time.Time.{Time}
 use Rattle.chpw_kdc.specs.Dialogs.{State as Dialog}
 use Rattle.chpw_logging.specs.declared.counters.Counters.{Counters}
-use Rattle.chpw_service.specs.Status.{IsReadOf, IsStatusAnswer, IsStatusOf}
-use Rattle.chpw_service.specs.declared.readings.Readings.{Readings}
+use Rattle.chpw_host.specs.Status.{IsReadOf, IsStatusAnswer, IsStatusOf}
+use Rattle.chpw_host.specs.declared.readings.Readings.{Readings}
 use Rattle.chpw_transfers.specs.declared.connection_counts.ConnectionCounts.{ConnectionCounts}
 
 -- the answer tells what was read of this service

@@ -1,6 +1,1 @@
-pub mod Faults
-pub mod Notifications
-pub mod Serving
-pub mod SocketAddresses
-pub mod Status
 pub mod WholeRuns

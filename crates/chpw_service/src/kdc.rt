@@ -4,13 +4,12 @@ ghost use Rattle.std.specs.Str.{IsUtf8};
 ghost use Rattle.std.specs.Option.{option_copied};
 ghost use Rattle.chpw_control.specs.Statuses.{IsTold};
 ghost use Rattle.chpw_printing.specs.Quoting.{name_text as printed_name};
-ghost use Rattle.chpw_service.specs.Status.{IsReadOf, IsStatusAnswer, refusal_words};
+ghost use Rattle.chpw_host.specs.Status.{IsReadOf, IsStatusAnswer, refusal_words};
 
-use crate::readings::{KdcReadings, Readings};
-use crate::status::{StatusSources, answer_of};
 use chpw_connections::Unconfirmed;
 use chpw_control::Time;
 use chpw_desks::{JournalLength, KdcPlace, ServiceContext};
+use chpw_host::{KdcReadings, Readings, StatusSources, answer_of};
 use chpw_invocation::VERSION;
 use chpw_kdc::{KdcDialog, Notice as KdcNotice, ProtocolFault, RefusedName};
 use chpw_logging::{Counters, Log, Notice, is_first, time_of};

@@ -1,7 +1,7 @@
 //! What a service opens with: what its files say, and its journal.
 ghost use Rattle.std.specs.Prelude.{◌≡◌, IfErr, IfOk, Ok, true};
 ghost use Rattle.chpw_rules.specs.Fitting.{config_fits};
-ghost use Rattle.chpw_service.specs.Faults.{IsOfService};
+ghost use Rattle.chpw_host.specs.Faults.{IsOfService};
 ghost use Rattle.chpw_service.specs.WholeRuns.{IsOpenedFrom};
 ghost use Rattle.chpw_start.specs.Faults.{SetsNames};
 ghost use Rattle.chpw_start.specs.Rules.{AreRulesOf};

@@ -3,7 +3,7 @@ ghost use Rattle.std.specs.Prelude.{◌≡◌, ◌⊎◌, IfErr, IfOk, IfSome, I
 ghost use Rattle.chpw_changelog.specs.Pens.{opening_state, opening_table};
 ghost use Rattle.chpw_reload.specs.ReloadRuns.{IsServiceRun};
 ghost use Rattle.chpw_start.specs.Faults.{IsLate};
-ghost use Rattle.chpw_service.specs.Faults.{told_as};
+ghost use Rattle.chpw_host.specs.Faults.{told_as};
 ghost use Rattle.chpw_desks.specs.ServiceRuns.{RunsTo};
 ghost use Rattle.chpw_service.specs.WholeRuns.{IsServedByNewWorkers};
 ghost use Rattle.chpw_logging.specs.declared.logging.LogLines.{LogLines};
@@ -11,10 +11,9 @@ ghost use Rattle.rand_chacha.specs.ChaCha.{key_of};
 ghost use Rattle.chpw_table.specs.Agreement.{Held};
 
 use crate::kdc::{ControlTerms, SocketKdc};
-use crate::late_fault::LateFault;
-use crate::limits::limit_of;
 use chpw_book::DeskName;
 use chpw_desks::{Machine, Opened, ServiceContext, ServiceWorker, make_staff, serve_histories};
+use chpw_host::{LateFault, limit_of};
 use chpw_reactor::{KdcTerms, Pool, StatusReporter};
 use chpw_sockets::PoolFault;
 use chpw_start::{Rules, ServeFault};

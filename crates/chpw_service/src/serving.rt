@@ -5,25 +5,24 @@ ghost use Rattle.chpw_kdc.specs.Dialogs.{at_start};
 ghost use Rattle.chpw_reactor.specs.Engines.{workers_at};
 ghost use Rattle.chpw_reactor.specs.Tasks.{IsTableTold};
 ghost use Rattle.chpw_start.specs.Faults.{IsLate};
-ghost use Rattle.chpw_service.specs.Faults.{IsOfService};
+ghost use Rattle.chpw_host.specs.Faults.{IsOfService};
 ghost use Rattle.chpw_changelog.specs.Pens.{opening_state};
 ghost use Rattle.chpw_start.specs.Raised.{IsRaisedWhereAsked};
-ghost use Rattle.chpw_service.specs.Serving.{reach_asked};
+ghost use Rattle.chpw_host.specs.Serving.{reach_asked};
 ghost use Rattle.chpw_start.specs.declared.raising.RaiseReport.{RaiseReport};
 ghost use Rattle.chpw_service.specs.WholeRuns.{IsServedFrom, IsWholeRun};
 ghost use Rattle.chpw_logging.specs.declared.logging.LogLines.{LogLines};
 ghost use Rattle.rand_chacha.specs.ChaCha.{key_of};
 
-use crate::binding::{BoundSockets, bind};
-use crate::control_socket::{control_socket, take_away};
 use crate::kdc::ControlTerms;
-use crate::limits::limits_of;
 use crate::opening::{OpenJournal, Settings, open_journal, settings_of};
 use crate::running::{serve_fault_of, serve_from};
-use crate::service_manager::{notify_ready, notify_stopping};
 use chpw_book::{Desk, DeskName, Pass};
 use chpw_desks::{
     JournalLength, KdcPlace, Machine, Opened, Opening, ServiceContext, first_opening, start_desk,
+};
+use chpw_host::{
+    BoundSockets, bind, control_socket, limits_of, notify_ready, notify_stopping, take_away,
 };
 use chpw_invocation::ServeOptions;
 use chpw_journal::FileSink;

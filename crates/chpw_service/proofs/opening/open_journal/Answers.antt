@@ -1,6 +1,6 @@
 use Rattle.std.proofs.Common.{inl, inr, subst, sym}
 use Rattle.std.proofs.lemmas.Result.{err_from_is_err_and}
-use Rattle.chpw_service.specs.Faults.{IsOfService}
+use Rattle.chpw_host.specs.Faults.{IsOfService}
 use Rattle.chpw_service.proofs.FaultLemmas.{resumption_of_service}
 use Rattle.chpw_service.proofs.opening.open_journal.Goals as goal
 

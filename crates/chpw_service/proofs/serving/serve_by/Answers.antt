@@ -2,7 +2,7 @@ use Rattle.std.proofs.Common.{inl, inr, subst, sym}
 use Rattle.std.proofs.lemmas.Result.{IfErr-weaker, err_from_is_err_and, on_ok_weaker}
 use Rattle.chpw_book.specs.Starting.{table_of}
 use Rattle.chpw_start.specs.Faults.{IsLate}
-use Rattle.chpw_service.specs.Faults.{IsOfService}
+use Rattle.chpw_host.specs.Faults.{IsOfService}
 use Rattle.chpw_service.proofs.FaultLemmas.{late_of_service}
 use Rattle.chpw_service.proofs.WholeRunLemmas.{whole_run}
 use Rattle.chpw_service.proofs.serving.serve_by.Goals as goal

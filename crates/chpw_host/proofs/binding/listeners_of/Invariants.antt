@@ -1,0 +1,5 @@
+use Rattle.std.proofs.Common.{◌≡◌, length}
+use Rattle.chpw_host.proofs.binding.listeners_of.Given as goal
+
+abbrev pub invariant-loop-address : goal.invariant-loop-address
+invariant-loop-address g l = length l.listeners.items ≡ l.address-index
