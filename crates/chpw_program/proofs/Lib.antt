@@ -1,3 +1,1 @@
-pub mod AskingLemmas
-pub mod CheckLemmas
 pub mod RunningLemmas

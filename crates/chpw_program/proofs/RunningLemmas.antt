@@ -10,10 +10,10 @@ use Rattle.chpw_commands.specs.declared.drill.DrillFault.TheVariants.{Memory}
 use Rattle.chpw_service.specs.WholeRuns.{IsWholeRun}
 use Rattle.chpw_start.specs.declared.fault.ServeFault.{ServeFault}
 use Rattle.chpw_logging.specs.declared.logging.LogLines.{LogLines}
-use Rattle.chpw_program.specs.Endings.{ending_served}
+use Rattle.chpw_endings.specs.Endings.{ending_served}
 use Rattle.chpw_program.specs.Running.{HasDone, IsRunBy}
-use Rattle.chpw_program.specs.declared.ending.Ending.{Ending}
-use Rattle.chpw_program.specs.declared.ending.Ending.TheVariants.{Early, Misused}
+use Rattle.chpw_endings.specs.declared.ending.Ending.{Ending}
+use Rattle.chpw_endings.specs.declared.ending.Ending.TheVariants.{Early, Misused}
 
 pub run_by : (R : Type 0) (words : List (List ℕ)) (asked : Invocation) (ending : Ending) → AsksFor (subcommand_of program words) asked
     → HasDone R asked ending → IsRunBy R words ending

@@ -8,9 +8,9 @@ use Rattle.chpw_invocation.specs.declared.invocation.Invocation.TheVariants.{Che
 use Rattle.chpw_commands.specs.declared.drill.DrillFault.TheVariants.{Memory}
 use Rattle.chpw_service.specs.WholeRuns.{IsWholeRun}
 use Rattle.chpw_logging.specs.declared.logging.LogLines.{LogLines}
-use Rattle.chpw_program.specs.Checking.{HasChecked}
-use Rattle.chpw_program.specs.declared.ending.Ending.{Ending}
-use Rattle.chpw_program.specs.declared.ending.Ending.TheVariants.{Early, Good, Misused}
+use Rattle.chpw_endings.specs.Checking.{HasChecked}
+use Rattle.chpw_endings.specs.declared.ending.Ending.{Ending}
+use Rattle.chpw_endings.specs.declared.ending.Ending.TheVariants.{Early, Good, Misused}
 
 -- a service that ended well has had a whole run with its options, and a check tells what came of its file
 abbrev pub HasDone : Type 0 → Invocation → Ending → Type 0

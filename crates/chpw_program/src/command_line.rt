@@ -2,8 +2,8 @@
 ghost use Rattle.std.specs.Prelude.{◌≡◌, ◌≢◌, ◌⊎◌, IfErr};
 ghost use Rattle.std.specs.IoError.{error_kind};
 
-use crate::ending::Ending;
 use chpw_commands::DrillFault;
+use chpw_endings::Ending;
 use std::io::ErrorKind;
 use std::rt::Env;
 use std::{env, io};

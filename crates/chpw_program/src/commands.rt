@@ -1,24 +1,17 @@
 //! The commands, each with its ending.
 ghost use Rattle.std.specs.Prelude.{◌≡◌, ◌≢◌, map, string_bytes};
 ghost use Rattle.clap.specs.Values.{kind_of};
-ghost use Rattle.chpw_program.specs.Checking.{HasChecked, IsChecked, PrintsCheck};
-ghost use Rattle.chpw_program.specs.Endings.{ending_brought, ending_drilled, ending_served};
+ghost use Rattle.chpw_endings.specs.Endings.{ending_brought, ending_drilled, ending_served};
 ghost use Rattle.chpw_program.specs.Running.{IsRunBy};
 
-use crate::client::ask;
-use crate::control::send_command;
-use crate::ending::Ending;
-use crate::new_password::unread_ending;
-use chpw_check::{explain_check, run_check, warn_check};
 use chpw_commands::{DrillFault, run_drill};
+use chpw_endings::{Ending, ask, check_file, send_command};
 use chpw_import::{KeysFault, tell_kdc, tell_keytab, tell_password};
 use chpw_invocation::{Invocation, command_of};
 use chpw_service::{Machine, serve};
-use chpw_start::{ServeFault, make_journal, read_configuration, tell_table};
+use chpw_start::{ServeFault, make_journal, tell_table};
 use clap::Error;
 use clap::error::ErrorKind;
-use std::alloc::Global;
-use std::fs::{File, Files};
 use std::io::{self, Write};
 
 /// Runs the command of these words; if they ask for none, clap's text is an error.
@@ -32,7 +25,7 @@ where
     match command_of(rt.alloc(), words) {
         Err(error) => explain_misuse(errors, error),
         Ok(Invocation::Drill) => drill(rt),
-        Ok(Invocation::Check { config }) => check(rt, errors, config),
+        Ok(Invocation::Check { config }) => check_file(rt, errors, config),
         Ok(Invocation::Table(options)) => ending_of_service(tell_table(rt, options)),
         Ok(Invocation::Import(options)) => ending_of_keys(tell_keytab(rt, options)),
         Ok(Invocation::ImportKdc(options)) => ending_of_keys(tell_kdc(rt, options)),
@@ -88,64 +81,5 @@ fn ending_of_drill<'a>(ended: Result<(), DrillFault>) -> Ending<'a>
     match ended {
         Ok(()) => Ending::Good,
         Err(fault) => Ending::Early(fault),
-    }
-}
-
-// The configuration in a file.
-#[tactic(auto, using(crate::proofs::CheckLemmas::has_checked, crate::proofs::CheckLemmas::has_unread))]
-fn check<'a, W: Write>(
-    rt: &(impl Files<File = File> + Print + AllocGlobal),
-    errors: &mut W,
-    file: &'a str,
-) -> Ending<'a>
-    ensures checked { HasChecked file.now result }
-{
-    match read_configuration(rt, file) {
-        Ok(text) => check_text(
-            rt.alloc(),
-            file,
-            text.as_slice(),
-            &mut io::writer(rt),
-            errors,
-        ),
-        Err(error) => unread_ending(file, &error),
-    }
-}
-
-// Writes the line about the configuration with this text, and its warnings, which change no ending.
-fn check_text<'a, W: Write, E: Write>(
-    alloc: Global,
-    file: &'a str,
-    text: &[u8],
-    out: &mut W,
-    errors: &mut E,
-) -> Ending<'a>
-    ensures checked { IsChecked file.now text.now result }
-    ensures printed { PrintsCheck text.now result (W.contents out.old) (W.contents out.new) }
-{
-    let ending = print_check(alloc, file, text, out);
-    warn(alloc, file, text, errors);
-    ending
-}
-
-// Writes the warnings about the configuration with this text. If there is no memory for them a line says so.
-fn warn<E: Write>(alloc: Global, file: &str, text: &[u8], errors: &mut E) {
-    if let Err(DrillFault::Memory) = warn_check(alloc, file, text, errors) {
-        let _ = writeln!(errors, "{file}: memory: warnings are left out");
-    }
-}
-
-// Writes the line about the configuration with this text, and ends accordingly.
-fn print_check<'a, W: Write>(alloc: Global, file: &'a str, text: &[u8], out: &mut W) -> Ending<'a>
-    ensures checked { IsChecked file.now text.now result }
-    ensures printed { PrintsCheck text.now result (W.contents out.old) (W.contents out.new) }
-{
-    match run_check(alloc, text, out) {
-        Err(fault) => Ending::Early(fault),
-        Ok(_) => match explain_check(alloc, text) {
-            Err(_) => Ending::Early(DrillFault::Memory),
-            Ok(None) => Ending::Good,
-            Ok(Some(words)) => Ending::Faulty { file, words },
-        },
     }
 }

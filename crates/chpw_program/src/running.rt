@@ -1,17 +1,15 @@
 //! A run of the program, from its words to its status.
 ghost use Rattle.std.specs.Prelude.{◌≡◌, ◌≤◌, ℕ, List, OnOk};
 ghost use Rattle.std.specs.Io.KnownBytes.{Appends};
-ghost use Rattle.chpw_program.specs.Reasons.{told_of};
-ghost use Rattle.chpw_program.specs.Endings.{status_of};
+ghost use Rattle.chpw_endings.specs.Reasons.{told_of};
+ghost use Rattle.chpw_endings.specs.Endings.{status_of};
 ghost use Rattle.chpw_program.specs.Running.{IsRunBy};
-ghost use Rattle.chpw_program.specs.declared.ending.Ending.{Ending};
+ghost use Rattle.chpw_endings.specs.declared.ending.Ending.{Ending};
 
 use crate::command_line::words;
 use crate::commands::run;
 use crate::descriptors::{NOTHING, hold_standard};
-use crate::ending::{Ending, tell};
-use crate::journal_reason::journal_reason;
-use crate::reasons::{Reason, reason_of};
+use chpw_endings::{Ending, Reason, journal_reason, reason_of, tell};
 use std::fs::{File, Files};
 use std::io::{self, Write};
 use std::net::{Net, TcpListener, TcpStream};

@@ -1,6 +1,0 @@
-use Rattle.std.proofs.Common.{All, take}
-use Rattle.chpw_program.specs.Overlaps.{Takes}
-use Rattle.chpw_program.proofs.overlaps.overlap_of.Given as goal
-
-abbrev pub invariant-loop-wildcard : goal.invariant-loop-wildcard
-invariant-loop-wildcard l = All (λ a. All (λ b. ¬ (Takes a b)) l.addresses) (take l.wildcard-index l.addresses)
