@@ -95,9 +95,13 @@ class Verdicts:
         for path in used_by(script, self.top) if script else []:
             with open(f"{self.top}/{path}", "rb") as file:
                 found.update(file.read())
+        self.add_crates(found, crate)
+        return found.hexdigest()[:32]
+
+    def add_crates(self, found, crate):
+        """Adds the sums of a crate and of all below it to another sum."""
         for it in sorted(self.all_below(crate) | {crate}):
             found.update(f"{it} {self.crate_sum(it)}\n".encode())
-        return found.hexdigest()[:32]
 
     def has(self, edit, crate, script=None):
         """Whether this edit was refused or caught over the texts as they stand."""
