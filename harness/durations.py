@@ -61,8 +61,13 @@ class Left:
         self.processors = processors
         self.began = time.time()
 
-    def left(self, done, running=()):
-        """The seconds that are left when these parts have ended, and those of `running` have run for so many seconds."""
-        made = sum(self.seconds[it] for it in done) + sum(min(self.seconds[it], since) for it, since in dict(running).items())
-        speed = (made + BELIEVED * self.processors) / (time.time() - self.began + BELIEVED)
-        return (sum(self.seconds.values()) - made) / speed
+    def left(self, done, running=(), since=()):
+        """The seconds that are left when these parts have ended, and those of `running` have run for so many seconds. `since`
+        is when the parts began that run, one on each processor, where nobody knows which they are."""
+        now = time.time()
+        made = sum(self.seconds[it] for it in done) + sum(min(self.seconds[it], ran) for it, ran in dict(running).items())
+        under_way = sum(now - it for it in since)
+        spent = self.processors * (now - self.began) - under_way
+        speed = (made + BELIEVED * self.processors) / (spent + BELIEVED * self.processors)
+        rest = sum(self.seconds.values()) - made - speed * under_way
+        return max(0, rest) / (speed * self.processors)

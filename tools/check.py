@@ -100,8 +100,8 @@ def in_words(copy):
 
 
 def in_counts(copy):
-    copy.one_more("docs/TESTS.md", r"^\| `\w+` \| (?P<n>\d+) \|")
-    yield r"docs/TESTS\.md:\d+: \d+ stands there, and there are \d+: \| `\w+` \| \d+ \|"
+    copy.one_more("docs/TESTS.md", r"^\| `\w+`: \w+ \| (?P<n>\d+) \|")
+    yield r"docs/TESTS\.md:\d+: \d+ stands there, and there are \d+: \| `\w+`: \w+ \| \d+ \|"
     copy.one_more("trials/README.md", r"has (?P<n>\d+) more")
     yield r"trials/README\.md:\d+: \d+ stands there, and there are \d+: `must-fail/CRATE/` has \d+"
     copy.change("docs/TESTS.md", r"^\| `cases_service`: client ", lambda it: "| planted ")

@@ -67,6 +67,8 @@ class Proofs:
         processors = len(os.sched_getaffinity(0))
         share = seconds * processors / sum(took.values())
         self.left = durations.Left({it: share * own for it, own in took.items()}, processors)
+        # when the crates began that are being proved: where one ends, another begins
+        self.since = [self.left.began] * processors
         self.later = later
         self.done = set()
         self.last = ""
@@ -76,7 +78,8 @@ class Proofs:
         found = PROVED.fullmatch(line.rstrip("\n"))
         if found and found[1] in self.left.seconds:
             self.done.add(found[1])
-            rest = self.left.left(self.done)
+            self.since = [*self.since[1:], time.time()]
+            rest = self.left.left(self.done, since=self.since)
             say(f"{len(self.done)} of {len(self.left.seconds)} crates: {found[1]}; {durations.spoken(rest)} left of this step, "
                 f"{durations.spoken(rest + self.later)} of all")
 

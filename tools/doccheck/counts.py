@@ -46,11 +46,6 @@ def of_agents():
     return len(list((TOP / "trials/agent").glob("*.edit")))
 
 
-def tests(crate):
-    sources = (CRATES / crate / "src").rglob("*.rt")
-    return sum(len(re.findall(r"^\s*#\[test\]", it.read_text(), re.MULTILINE)) for it in sources)
-
-
 def lines(crate, topic=""):
     """The lines of `stdin` below a topic's heading; without a name, those before the first heading."""
     return lines_of((CRATES / crate / "stdin").read_text(), topic)
@@ -86,11 +81,10 @@ def answering():
 
 
 def check_whole(document, faults):
-    """No program of cases and no crate of tests is left out."""
+    """No program of cases is left out."""
     if document is None:
         return
     wanted = [f"| `{name}`: {topic} | " if topic else f"| `{name}` | " for name, topic in answering()]
-    wanted += [f"| `{it.name}` (" for it in CRATES.iterdir() if tests(it.name)]
     wanted += [f"| `tests.hostile.{SCRIPTS.get(it.stem, it.stem)}`: {it.stem} | " for it in FILES.glob("*.cases")]
     for row in wanted:
         faults.check(f"\n{row}" in document.text, document.name, f"no row {row.strip('| (')}")
@@ -115,13 +109,12 @@ SCRIPT = r"\| `tests\.hostile\.\w+`: (?P<file>\w+)"
 # expression has one, and `topic` one of its topics. An expression that finds nothing in its document is a fault, so that no
 # row is left without use.
 TABLE = [
-    ("docs/TESTS.md", r"^\| `(?P<name>\w+)` \| (?P<n>\d+) \|", lambda it: cases(it["name"])),
     ("docs/TESTS.md", rf"^{TOPIC} \| (?P<n>\d+) \|", of_topic(cases)),
     ("docs/TESTS.md", rf"^{SCRIPT} \| (?P<n>\d+) \|", lambda it: in_file(it["file"])),
     ("docs/TESTS.md", rf"^{SCRIPT} \| (?P<n>\d+) blocks \|", lambda it: in_file(it["file"], "== ")),
     ("docs/TESTS.md", rf"^{TOPIC} \| (?P<n>\d+), in \d+ scripts \|", of_topic(cases)),
     ("docs/TESTS.md", rf"^{TOPIC} \| \d+, in (?P<n>\d+) scripts \|", of_topic(beginning("start"))),
-    ("docs/TESTS.md", r"^\| `(?P<name>\w+)` \((?P<n>\d+)\) \|", lambda it: tests(it["name"])),
+    ("docs/TESTS.md", rf"^{TOPIC} \| (?P<n>\d+) blocks \|", of_topic(beginning("=="))),
     ("docs/TESTS.md", r"`must-fail/` has (?P<n>\d+)", of(must_fail)),
     ("docs/TESTS.md", r"`trials/` has (?P<n>\d+)", of(refused)),
     ("docs/TESTS.md", r"(?P<n>\d+) wrong bodies that no clause", of(caught)),

@@ -1,4 +1,4 @@
-//! Layer: commands. Touches: the writers handed in. Called by: chpw_program.
+//! Layer: commands. Touches: the writers handed in. Called by: chpw_endings.
 //!
 //! `check`: what is wrong with the text of a configuration, and what it may not mean.
 #![tactic(auto)]

@@ -1,4 +1,4 @@
-//! Layer: answering. Touches: memory. Called by: chpw_program.
+//! Layer: answering. Touches: memory. Called by: chpw_endings.
 //!
 //! A client of the service (RFC 3244 section 2) that needs no KDC: it makes its own ticket with the
 //! service's key, and reads the reply.

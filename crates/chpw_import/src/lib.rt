@@ -1,4 +1,4 @@
-//! Layer: commands. Touches: files and one socket. Called by: chpw_program.
+//! Layer: commands. Touches: files and one socket. Called by: chpw_endings and chpw_program.
 //!
 //! Importing keys: the service keys and the principals' keys of a keytab, with the entries that are skipped and why;
 //! the principals that a KDC has; and a principal's keys from a password.

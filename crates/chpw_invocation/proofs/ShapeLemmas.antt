@@ -1,27 +1,14 @@
 -- The form of a command whose options are added in turn.
-use Rattle.std.proofs.Common.{◌≡◌, ◌∙◌, ◌<◌, ◌+◌, ℕ, refl, sym, ap, false, List, [], ◌∷◌, ◌++◌, map, take, length, get_or, Option, Result, Ok, Err, IfOk}
+use Rattle.std.proofs.Common.{◌≡◌, ◌∙◌, ◌<◌, ◌+◌, ℕ, refl, sym, ap, false, List, [], ◌∷◌, ◌++◌, map, take, length, get_or, Result, Ok, Err, IfOk}
 use Rattle.std.proofs.lemmas.List.{take_more, map-append}
-use Rattle.std.specs.Borrow.{Bor}
 use Rattle.clap.specs.Walk.{Rule, Text, rule_of}
-use Rattle.clap.specs.Simple.{App, app_of, app_of_fields, with_rule}
+use Rattle.clap.specs.Simple.{App, app_of, with_rule}
 use Rattle.clap.specs.Built.{AddsArg}
 use Rattle.clap.specs.declared.builder.arg.Arg.{Arg}
 use Rattle.clap.specs.declared.builder.command.Command.{Command}
-use Rattle.clap.specs.declared.builder.command.Command.TheOpen.{Command-F}
-use Rattle.clap.specs.declared.builder.command.Command.TheViews.{out-Command}
 use Rattle.chpw_invocation.specs.declared.options.OptionLine.{OptionLine}
 use Rattle.chpw_invocation.specs.Options.{rule_for}
 use Rattle.chpw_invocation.specs.Program.{IsBuilt, IsLocal, alone, command}
-
--- the two texts of help are no part of the form
-pub texts_added : (named told helped : Command) (a : App) (about more : Option (Bor Text))
-    → out-Command told ≡ record (out-Command named) { about = about }
-    → out-Command helped ≡ record (out-Command told) { after_help = more } → app_of named ≡ a → IsLocal named
-    → (app_of helped ≡ a) × IsLocal helped
-texts_added named told helped a about more told_is helped_is is local = (
-  ap app_of_fields helped_is ∙ ap app_of_fields told_is ∙ is,
-  ap (λ (f : Command-F Command). f.has_globals) helped_is ∙ ap (λ (f : Command-F Command). f.has_globals) told_is ∙ local,
-)
 
 -- a command with this name and these options
 abbrev pub HasOptions : Text → List OptionLine → Command → Type 0

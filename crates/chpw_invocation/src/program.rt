@@ -25,7 +25,15 @@ pub const VERSION: &str = "0.2";
 // compares both with the documents.
 const LONG_VERSION: &str = "0.2\ntoolchain rattle-kit-13 logic dac8208d650f15bf";
 
-// A command with this name, these texts (one in the list, one below the options), and these options.
+// A command with this name and these texts: one in the list, one below the options.
+fn titled<'a>(alloc: Global, name: &'a str, about: &'a str, more: &'a str) -> Command<'a>
+    ensures shape { app_of result ≡ specs_of.alone (new_shape name.entry.now) }
+    ensures local { specs_of.IsLocal result }
+{
+    Command::new(alloc, name).about(about).after_help(more)
+}
+
+// A command with this name, these texts, and these options.
 fn command_with<'a>(
     alloc: Global,
     name: &'a str,
@@ -37,7 +45,7 @@ fn command_with<'a>(
         ≡ specs_of.alone (specs_of.command name.entry.now (map rule_for options.now))) }
     ensures local { IfOk result specs_of.IsLocal }
 {
-    let mut command = Command::new(alloc, name).about(about).after_help(more);
+    let mut command = titled(alloc, name, about, more);
     for option in options {
         command = command.arg(argument_of(alloc, option))?;
     }
@@ -130,9 +138,7 @@ fn leading<'a>(alloc: Global) -> Command<'a>
     ensures shape { app_of result ≡ specs_of.leading (specs_of.alone (new_shape (codes "chpw_server"))) }
     ensures local { specs_of.IsLocal result }
 {
-    Command::new(alloc, "chpw_server")
-        .about(ABOUT)
-        .after_help(STATUSES)
+    titled(alloc, "chpw_server", ABOUT, STATUSES)
         .version(LONG_VERSION)
         .subcommand_required(true)
         .arg_required_else_help(true)

@@ -1,4 +1,4 @@
-//! Layer: threads and sockets. Touches: files, under a lock. Called by: chpw_desks, chpw_service and chpw_program.
+//! Layer: threads and sockets. Touches: files, under a lock. Called by: chpw_desks, chpw_host, chpw_service and chpw_program.
 //!
 //! The log of a service: a line for the result of each message, the events and the counters of the service, and its notices on
 //! standard error.

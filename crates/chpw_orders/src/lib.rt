@@ -1,4 +1,4 @@
-//! Layer: threads and sockets. Touches: files. Called by: chpw_desks and chpw_service.
+//! Layer: threads and sockets. Touches: files. Called by: chpw_desks and chpw_host.
 //!
 //! What the orders of callers at the control socket read, write and are answered, without a desk: a configuration read anew, and a
 //! compact journal.

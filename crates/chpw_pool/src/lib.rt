@@ -1,4 +1,4 @@
-//! Layer: tests. Touches: threads and sockets. Called by: tests_pool.
+//! Layer: tests. Touches: threads and sockets. Called by: cases_desk.
 //!
 //! For programs of cases alone: a pool of workers at one desk. A service has its workers from desk to desk, and so starts them
 //! itself.

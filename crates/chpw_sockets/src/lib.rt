@@ -1,4 +1,4 @@
-//! Layer: threads and sockets. Touches: sockets, but no thread. Called by: chpw_reactor and chpw_service.
+//! Layer: threads and sockets. Touches: sockets, but no thread. Called by: chpw_reactor, chpw_host and chpw_service.
 //!
 //! The sockets of connections and datagrams: which place each has, and what one call of a socket does for its connection. The reactor
 //! and the workers share them, with the connections, under one lock.

@@ -1,4 +1,4 @@
-//! Layer: machines without sockets. Touches: the streams handed in. Called by: chpw_sockets, chpw_reactor and chpw_service.
+//! Layer: machines without sockets. Touches: the streams handed in. Called by: chpw_sockets, chpw_reactor, chpw_host and chpw_service.
 //!
 //! What connections, the agent at the KDC's database and callers at the control socket are given and give, at any reader and writer: the state that
 //! reactor and workers share, each read and write, and when a connection is accepted. Without a socket of its own, a clock or a thread.

@@ -1,5 +1,7 @@
 //! What a warning is about.
 ghost use Rattle.std.specs.Prelude.{◌≡◌};
+ghost use Rattle.chpw_warnings.specs.Settings.{reads};
+ghost use Rattle.chpw_warnings.specs.declared.warning.Place.TheVariants.{File, Policy, PrincipalKey};
 
 use chpw_rules::{Items, Name};
 
@@ -25,37 +27,43 @@ pub enum Place {
 }
 
 impl Place {
-    ghost use Rattle.chpw_warnings.specs.Settings.{reads};
-
     /// Whether the setting of this name is read in this table (docs/ADMIN.md, The configuration).
     pub fn reads(self, key: &str) -> bool
         ensures value { result ≡ reads self key.now }
     {
         match self {
-            Place::File => {
-                key == "service"
-                    || key == "policy"
-                    || key == "rule"
-                    || key == "principal"
-                    || key == "kdc"
-            }
+            Place::File => is_file_setting(key),
             Place::Service => key == "realm" || key == "max_entries" || key == "key",
             Place::ServiceKey(_) => key == "kvno" || key == "etype" || key == "key",
-            Place::Policy => {
-                key == "min_length"
-                    || key == "min_classes"
-                    || key == "depth"
-                    || key == "iterations"
-                    || key == "set_needs_initial"
-            }
+            Place::Policy => is_policy_setting(key),
             Place::Rule(_) => key == "actor" || key == "target",
             Place::Principal(_) => key == "name" || key == "key",
-            Place::PrincipalKey { .. } => {
-                key == "kvno" || key == "iterations" || key == "aes128" || key == "aes256"
-            }
+            Place::PrincipalKey { .. } => is_key_setting(key),
             Place::Kdc => key == "include" || key == "exclude",
         }
     }
+}
+
+fn is_file_setting(key: &str) -> bool
+    ensures value { result ≡ reads File key.now }
+{
+    key == "service" || key == "policy" || key == "rule" || key == "principal" || key == "kdc"
+}
+
+fn is_policy_setting(key: &str) -> bool
+    ensures value { result ≡ reads Policy key.now }
+{
+    key == "min_length"
+        || key == "min_classes"
+        || key == "depth"
+        || key == "iterations"
+        || key == "set_needs_initial"
+}
+
+fn is_key_setting(key: &str) -> bool
+    ensures value { result ≡ reads (PrincipalKey 0 0) key.now }
+{
+    key == "kvno" || key == "iterations" || key == "aes128" || key == "aes256"
 }
 
 /// Whom a rule names.
