@@ -360,6 +360,23 @@ class Agents(ServiceCase):
             self.tell("the table's newest keys", " ".join(newest), keys_of("alice", "New-pass2"))
         tell_stays(self, client)
 
+    def test_a_list_of_the_version_before_a_change(self):
+        """The agent has read the database before a change is decided, and says then what it read: the version before. One key is on
+        its way to the KDC, and it is put once."""
+        agent = start(self, LONG, options=["--control", "control"])
+        alice, _ = both_requests()
+        client = self.client()
+        with agent.called() as link:
+            client.send(alice)
+            wait_for(lambda: table(self)["alice"] == 2)
+            link.say(listed("alice", "bob"))
+            link.is_to_put("alice", 2)
+            self.tell("keys on their way", status(self)["kdc-behind"], "1")
+            link.say(f"put {ALICE} 2\nchanged\n")
+            self.tell("the reply", client.told(alice), CHANGED)
+            link.is_asked("list keys")
+        tell_stays(self, client)
+
     def test_principals_that_are_counted(self):
         """`status` tells how many principals the table has, with those that the KDC brings and without those that it takes."""
         agent = start(self, LONG, options=["--control", "control"])

@@ -26,7 +26,7 @@ use Rattle.chpw_kdc.specs.Dialogs.{State}
 use Rattle.chpw_kdc.specs.Answering.{after_answer, awaiting, of_asked, of_list, of_get, of_put, compared, after_judgement, with_listed}
 use Rattle.chpw_kdc.specs.Answering.{with_lacked, lacked_in, is_many, refused_if_held, list_postponed, with_update, settled, lifted, after_higher, is_newest}
 use Rattle.chpw_kdc.specs.Answering.{accepted, refused, has_version, is_listed, is_first, is_put_for, if_named, without_first}
-use Rattle.chpw_kdc.specs.Answering.{confirmed_with}
+use Rattle.chpw_kdc.specs.Answering.{confirmed_with, is_on_its_way}
 use Rattle.chpw_kdc.specs.Runs.{Settles, IsNews, HasVersion, IsAskedFor}
 use Rattle.chpw_kdc.specs.Paces.{pace_due}
 
@@ -121,6 +121,12 @@ abbrev pub Compares : (Name → Bool) → State → Answer → State → Type 0
 Compares ours s a t =
     (t.mirror ≡ s.mirror) × (t.issued ≡ s.issued) × Brings ours s a t × PutsRight s t × (t.confirmed ≡ s.confirmed) × (t.asked ≡ s.asked)
 
+-- the mirror's key of a name is put, unless this is so
+put_unless : (ours : Name → Bool) (s : State) (a : Answer) (b : Bool) (name : Name) (key : KeyRow) → key_of s.mirror name ≡ Some key
+    → Compares ours s a (if b then s else record s { puts = s.puts ++ internal s.pace.began name key ∷ [] })
+put_unless ours s a true name key is = (refl, refl, inl refl, inl refl, refl, refl)
+put_unless ours s a false name key is = (refl, refl, inl refl, inr (name, key, is, refl), refl, refl)
+
 by_judgement : (ours : Name → Bool) (s : State) (name : Name) (kvno : ℕ) (keys : KeyPair) (j : Judgement)
     → judgement ours (key_of s.mirror name) name kvno keys ≡ j → Compares ours s (answer.Has name kvno keys) (after_judgement name j s)
 by_judgement ours s name kvno keys judged.Leave is = (refl, refl, inl refl, inl refl, refl, refl)
@@ -144,7 +150,8 @@ by_judgement ours s name kvno keys (judged.Adopt key) is =
       refl,
     )
 by_judgement ours s name kvno keys (judged.Put key) is =
-    (refl, refl, inl refl, inr (name, key, judged_put ours (key_of s.mirror name) name kvno keys key is, refl), refl, refl)
+    put_unless ours s (answer.Has name kvno keys) (is_on_its_way s.puts name key) name key
+    (judged_put ours (key_of s.mirror name) name kvno keys key is)
 
 compares : (ours : Name → Bool) (s : State) (name : Name) (kvno : ℕ) (keys : KeyPair)
     → Compares ours s (answer.Has name kvno keys) (compared ours name kvno keys s)

@@ -21,12 +21,13 @@ use Rattle.chpw_kdc.specs.Mirrors.{key_of, judgement}
 use Rattle.chpw_kdc.specs.Dialogs.{State, at_start, after_fault, after_request, request_by, is_late, without_update, first_update}
 use Rattle.chpw_kdc.specs.Answering.{after_byte, after_answer, awaiting, of_asked, of_list, of_get, of_put, after_judgement, with_listed}
 use Rattle.chpw_kdc.specs.Answering.{with_lacked, lacked_in, is_many, refused, is_listed, is_first, is_put_for, without_first}
-use Rattle.chpw_kdc.specs.Answering.{with_update, lifted, accepted, settled, is_newest}
+use Rattle.chpw_kdc.specs.Answering.{with_update, lifted, accepted, settled, is_newest, is_on_its_way}
 use Rattle.chpw_kdc.specs.Runs.{Event, holds, holds_none, fills, wants, loses_want, wants_comparison, connects, loses, asks, hears}
 use Rattle.chpw_kdc.specs.Runs.{ticks, takes, decides, tells, behind, run, state_after, Keeps, Lasts, Grounds, IsGrounded}
 use Rattle.chpw_kdc.specs.Runs.{UpdatesAreGrounded, AsksFew, FewAreAsked}
 use Rattle.chpw_kdc.specs.Paces.{pace_due}
-use Rattle.chpw_kdc.proofs.EffectLemmas.{Said, Brings, from_test, from_named}
+use Rattle.chpw_kdc.specs.declared.put.Put.{Put}
+use Rattle.chpw_kdc.proofs.EffectLemmas.{Said, Brings, from_test, from_named, internal}
 use Rattle.chpw_kdc.proofs.RunLemmas.{run_append, by_events, by_byte, by_line, IsHeard}
 
 -- ---- the connection lasts
@@ -156,10 +157,15 @@ updates_are_grounded start events u h =
 
 -- ---- few are asked for alone
 
+unless_gets : (b : Bool) (ps : List Put) (s : State) → (if b then s else record s { puts = ps }).gets ≡ s.gets
+unless_gets true ps s = refl
+unless_gets false ps s = refl
+
 judged_gets : (name : Name) (j : Judgement) (s : State) → (after_judgement name j s).gets ≡ s.gets
 judged_gets name judged.Leave s = refl
 judged_gets name (judged.Adopt key) s = refl
-judged_gets name (judged.Put key) s = refl
+judged_gets name (judged.Put key) s =
+    unless_gets (is_on_its_way s.puts name key) (s.puts ++ internal s.pace.began name key ∷ []) s
 
 refused_gets : (b : Bool) (name : Name) (why : Reason) (s : State) → (if b then refused name why s else s).gets ≡ s.gets
 refused_gets true name why s = refl

@@ -22,16 +22,17 @@ use Rattle.chpw_kdc.specs.declared.put.UnderWay.{UnderWay}
 use Rattle.chpw_kdc.specs.declared.put.UnderWay.TheVariants as asked
 use Rattle.chpw_kdc.specs.declared.update.KdcUpdate.{KdcUpdate}
 use Rattle.chpw_kdc.specs.Mirrors.{Mirror, key_of}
+use Rattle.chpw_record.specs.declared.key.KeyRow.{KeyRow}
 use Rattle.chpw_kdc.specs.declared.update.Notice.{Notice}
 use Rattle.chpw_kdc.specs.declared.update.Notice.TheVariants.{TooManyGone}
 use Rattle.chpw_kdc.specs.Tellings.{Tellings, after_missing, after_few, after_told, with_refusal, is_told}
 use Rattle.chpw_kdc.specs.Paces.{pace_ended}
 use Rattle.chpw_kdc.specs.Dialogs.{State}
 use Rattle.chpw_kdc.specs.Answering.{after_answer, after_judgement, awaiting, each, and_then, is_listed, is_many, lacked_in, of_asked, of_list, refused}
-use Rattle.chpw_kdc.specs.Answering.{succeeded, with_lacked, with_listed}
+use Rattle.chpw_kdc.specs.Answering.{succeeded, with_lacked, with_listed, brings, is_on_its_way}
 use Rattle.chpw_kdc.specs.Lists.{Row, has, other, name_of, names_of, line_of, AreNew, judgement_of, put_by, adoption_by}
 use Rattle.chpw_kdc.specs.Lists.{puts_for, adoptions_for, AskedAlone, ListsPutRight}
-use Rattle.chpw_kdc.proofs.EffectLemmas.{from_test}
+use Rattle.chpw_kdc.proofs.EffectLemmas.{from_test, internal}
 use Rattle.chpw_kdc.proofs.HearingLemmas.{each-append}
 use Rattle.chpw_kdc.proofs.MirrorLemmas.{at_exact}
 
@@ -92,22 +93,34 @@ record IsRow (ours : Name → Bool) (s : State) (row : Row) (t : State) : Type 0
   new : is_listed s.listed (name_of row) ≡ false
   listed : t.listed ≡ insert_key name_cmp s.listed (name_of row)
   mirror : t.mirror ≡ s.mirror
-  puts : t.puts ≡ s.puts ++ put_by s.pace.began (name_of row) (judgement_of ours s.mirror row)
+  puts : t.puts ≡ s.puts ++ put_by s.puts s.pace.began (name_of row) (judgement_of ours s.mirror row)
   updates : t.updates ≡ s.updates ++ adoption_by (name_of row) (judgement_of ours s.mirror row)
   gets : t.gets ≡ s.gets
   began : t.pace.began ≡ s.pace.began
   many : t.tellings.is_many_told ≡ s.tellings.is_many_told
   asked : t.asked ≡ s.asked
 
-judged_puts : (name : Name) (j : Judgement) (s : State) → (after_judgement name j s).puts ≡ s.puts ++ put_by s.pace.began name j
+-- a put, unless this is so
+abbrev with_unless : Bool → Put → State → State
+with_unless b p s = if b then s else record s { puts = s.puts ++ p ∷ [] }
+
+puts_unless : (b : Bool) (p : Put) (s : State) → (with_unless b p s).puts ≡ s.puts ++ (if b then [] else p ∷ [])
+puts_unless true p s = sym (append-nil s.puts)
+puts_unless false p s = refl
+
+judged_puts : (name : Name) (j : Judgement) (s : State) → (after_judgement name j s).puts ≡ s.puts ++ put_by s.puts s.pace.began name j
 judged_puts name judged.Leave s = sym (append-nil s.puts)
 judged_puts name (judged.Adopt key) s = sym (append-nil s.puts)
-judged_puts name (judged.Put key) s = refl
+judged_puts name (judged.Put key) s = puts_unless (is_on_its_way s.puts name key) (internal s.pace.began name key) s
+
+updates_unless : (b : Bool) (p : Put) (s : State) → (with_unless b p s).updates ≡ s.updates ++ []
+updates_unless true p s = sym (append-nil s.updates)
+updates_unless false p s = sym (append-nil s.updates)
 
 judged_updates : (name : Name) (j : Judgement) (s : State) → (after_judgement name j s).updates ≡ s.updates ++ adoption_by name j
 judged_updates name judged.Leave s = sym (append-nil s.updates)
 judged_updates name (judged.Adopt key) s = refl
-judged_updates name (judged.Put key) s = sym (append-nil s.updates)
+judged_updates name (judged.Put key) s = updates_unless (is_on_its_way s.puts name key) (internal s.pace.began name key) s
 
 -- no more than that
 record IsBeside (s t : State) : Type 0 where
@@ -118,10 +131,14 @@ record IsBeside (s t : State) : Type 0 where
   many : t.tellings.is_many_told ≡ s.tellings.is_many_told
   asked : t.asked ≡ s.asked
 
+beside_unless : (b : Bool) (p : Put) (s : State) → IsBeside s (with_unless b p s)
+beside_unless true p s = record { listed = refl; mirror = refl; gets = refl; began = refl; many = refl; asked = refl }
+beside_unless false p s = record { listed = refl; mirror = refl; gets = refl; began = refl; many = refl; asked = refl }
+
 judged_beside : (name : Name) (j : Judgement) (s : State) → IsBeside s (after_judgement name j s)
 judged_beside name judged.Leave s = record { listed = refl; mirror = refl; gets = refl; began = refl; many = refl; asked = refl }
 judged_beside name (judged.Adopt key) s = record { listed = refl; mirror = refl; gets = refl; began = refl; many = refl; asked = refl }
-judged_beside name (judged.Put key) s = record { listed = refl; mirror = refl; gets = refl; began = refl; many = refl; asked = refl }
+judged_beside name (judged.Put key) s = beside_unless (is_on_its_way s.puts name key) (internal s.pace.began name key) s
 
 refused_many : (b : Bool) (name : Name) (why : Reason) (t : Tellings)
     → (with_refusal name why (if b then t else after_told name why t)).is_many_told ≡ t.is_many_told
@@ -183,13 +200,50 @@ row_answered ours now s (has name kvno keys) list =
 row_answered ours now s (other name why) list =
     ap (λ (o : Option UnderWay). of_asked ours now o (awaiting now s) (line_of (other name why))) list
 
+-- ---- what is on its way
+
+-- the same keys are on their way by changes
+abbrev SameWay : List Put → List Put → Type 0
+SameWay ps qs = (name : Name) (key : KeyRow) → is_on_its_way ps name key ≡ is_on_its_way qs name key
+
+or_false : (b : Bool) → (b || false) ≡ b
+or_false true = refl
+or_false false = refl
+
+-- what a list puts is of no change
+same_with_put : (b : Bool) (ps : List Put) (since : ℕ) (name : Name) (key : KeyRow)
+    → SameWay (ps ++ (if b then [] else internal since name key ∷ [])) ps
+same_with_put true ps since name key n k = ap (λ (qs : List Put). is_on_its_way qs n k) (append-nil ps)
+same_with_put false ps since name key n k =
+    list_any-append (brings n k) ps (internal since name key ∷ []) ∙ or_false (list_any (brings n k) ps)
+
+same_with : (ps : List Put) (since : ℕ) (name : Name) (j : Judgement) → SameWay (ps ++ put_by ps since name j) ps
+same_with ps since name judged.Leave n k = ap (λ (qs : List Put). is_on_its_way qs n k) (append-nil ps)
+same_with ps since name (judged.Adopt key) n k = ap (λ (qs : List Put). is_on_its_way qs n k) (append-nil ps)
+same_with ps since name (judged.Put key) n k = same_with_put (is_on_its_way ps name key) ps since name key n k
+
+same_put_by : (ps qs : List Put) (since : ℕ) (name : Name) (j : Judgement) → SameWay ps qs → put_by ps since name j ≡ put_by qs since name j
+same_put_by ps qs since name judged.Leave same = refl
+same_put_by ps qs since name (judged.Adopt key) same = refl
+same_put_by ps qs since name (judged.Put key) same =
+    ap (λ (b : Bool). if b then [] else internal since name key ∷ []) (same name key)
+
+same_puts_for : (ours : Name → Bool) (ps qs : List Put) (since : ℕ) (mirror : Mirror) (rows : List Row) → SameWay ps qs
+    → puts_for ours ps since mirror rows ≡ puts_for ours qs since mirror rows
+same_puts_for ours ps qs since mirror [] same = refl
+same_puts_for ours ps qs since mirror (row ∷ rows) same =
+    ap (λ (l : List Put). l ++ puts_for ours ps since mirror rows)
+    (same_put_by ps qs since (name_of row) (judgement_of ours mirror row) same)
+    ∙ ap (λ (l : List Put). put_by qs since (name_of row) (judgement_of ours mirror row) ++ l)
+    (same_puts_for ours ps qs since mirror rows same)
+
 -- ---- rows, one after the other
 
 record AreRows (ours : Name → Bool) (before : List Name) (s : State) (rows : List Row) (t : State) : Type 0 where
   once : AreNew before rows
   listed : AreListed t.listed (before ++ names_of rows)
   mirror : t.mirror ≡ s.mirror
-  puts : t.puts ≡ s.puts ++ puts_for ours s.pace.began s.mirror rows
+  puts : t.puts ≡ s.puts ++ puts_for ours s.puts s.pace.began s.mirror rows
   updates : t.updates ≡ s.updates ++ adoptions_for ours s.mirror rows
   gets : t.gets ≡ s.gets
   many : t.tellings.is_many_told ≡ s.tellings.is_many_told
@@ -217,6 +271,7 @@ rows_heard ours now (row ∷ rows) before s t list are h =
     let f = parted (after_answer ours now s (line_of row)) (λ u. each (after_answer ours now) u (map line_of rows)) t h in
     let u : State = f.0 in
     let one = row_of_list ours now (awaiting now s) u row (sym (row_answered ours now s row list) ∙ f.1) in
+    let own = put_by s.puts s.pace.began (name_of row) (judgement_of ours s.mirror row) in
     let more = rows_heard ours now rows (before ++ name_of row ∷ []) u t (one.asked ∙ list)
     (subst (λ (ns : List Name). AreListed ns (before ++ name_of row ∷ [])) (sym one.listed) (one_more s.listed before (name_of row) are)) f.2 in
     record {
@@ -225,10 +280,13 @@ rows_heard ours now (row ∷ rows) before s t list are h =
       mirror = more.mirror ∙ one.mirror;
       puts =
           more.puts
-          ∙ ap (λ (ps : List Put). ps ++ puts_for ours u.pace.began u.mirror rows) one.puts
-          ∙ ap (λ (n : ℕ). (s.puts ++ put_by s.pace.began (name_of row) (judgement_of ours s.mirror row)) ++ puts_for ours n u.mirror rows) one.began
-          ∙ ap (λ (m : Mirror). (s.puts ++ put_by s.pace.began (name_of row) (judgement_of ours s.mirror row)) ++ puts_for ours s.pace.began m rows) one.mirror
-          ∙ append_assoc s.puts (put_by s.pace.began (name_of row) (judgement_of ours s.mirror row)) (puts_for ours s.pace.began s.mirror rows);
+          ∙ ap (λ (ps : List Put). ps ++ puts_for ours ps u.pace.began u.mirror rows) one.puts
+          ∙ ap (λ (l : List Put). (s.puts ++ own) ++ l)
+          (same_puts_for ours (s.puts ++ own) s.puts u.pace.began u.mirror rows
+          (same_with s.puts s.pace.began (name_of row) (judgement_of ours s.mirror row)))
+          ∙ ap (λ (n : ℕ). (s.puts ++ own) ++ puts_for ours s.puts n u.mirror rows) one.began
+          ∙ ap (λ (m : Mirror). (s.puts ++ own) ++ puts_for ours s.puts s.pace.began m rows) one.mirror
+          ∙ append_assoc s.puts own (puts_for ours s.puts s.pace.began s.mirror rows);
       updates =
           more.updates
           ∙ ap (λ (us : List KdcUpdate). us ++ adoptions_for ours u.mirror rows) one.updates

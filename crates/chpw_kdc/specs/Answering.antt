@@ -23,18 +23,30 @@ use Rattle.chpw_kdc.specs.declared.update.KdcUpdate.{KdcUpdate}
 use Rattle.chpw_kdc.specs.declared.update.KdcUpdate.TheVariants as update
 use Rattle.chpw_kdc.specs.Faults.{fault_of_line}
 use Rattle.chpw_kdc.specs.Lines.{answer_of, is_changed}
-use Rattle.chpw_kdc.specs.Mirrors.{Mirror, key_of, judgement}
+use Rattle.chpw_kdc.specs.Mirrors.{Mirror, key_of, judgement, is_same}
 use Rattle.chpw_kdc.specs.Paces.{pace_awaiting, pace_failed, pace_postponed, pace_succeeded, pace_ended, pace_due}
 use Rattle.chpw_kdc.specs.Tellings.{after_refusal, after_accepted, after_missing, after_few, after_failure, after_success}
-use Rattle.chpw_kdc.specs.Dialogs.{State}
+use Rattle.chpw_kdc.specs.Dialogs.{State, is_of_change}
 
 -- ---- the parts of an answer's effect
 
 abbrev pub with_update : KdcUpdate → State → State
 with_update u s = record s { updates = s.updates ++ u ∷ [] }
 
+-- a change's put, of this key of the name: its version, and both keys
+abbrev pub brings : Name → KeyRow → Put → Bool
+brings name key p =
+    is_of_change p && is_same_name p.name name && is_same p.key key.kvno (record { aes256 = key.aes256; aes128 = key.aes128 })
+
+-- the KDC gets this key, since a change's put of it is on its way
+abbrev pub is_on_its_way : List Put → Name → KeyRow → Bool
+is_on_its_way puts name key = list_any (brings name key) puts
+
+-- the KDC gets this key, once
 abbrev pub with_put : Name → KeyRow → State → State
-with_put name key s = record s { puts = s.puts ++ record { name = name; key = key; ticket = None; since = s.pace.began } ∷ [] }
+with_put name key s =
+    if is_on_its_way s.puts name key then s
+    else record s { puts = s.puts ++ record { name = name; key = key; ticket = None; since = s.pace.began } ∷ [] }
 
 abbrev pub after_judgement : Name → Judgement → State → State
 after_judgement name judged.Leave s = s

@@ -1,5 +1,5 @@
 -- What one whole list does: each name in which table and KDC differ is put right, once.
-use Rattle.std.specs.Prelude.{◌≡◌, ℕ, List, [], ◌∷◌, ◌++◌, map, length, Bool, true, false, Ok, None, Some}
+use Rattle.std.specs.Prelude.{◌≡◌, ℕ, List, [], ◌∷◌, ◌++◌, map, length, Bool, true, false, Ok, None, Some, if◌then◌else◌}
 use Rattle.chpw_rules.specs.declared.name.Name.{Name}
 use Rattle.chpw_kdc.specs.declared.fields.KeyPair.{KeyPair}
 use Rattle.chpw_kdc.specs.declared.answer.Reason.{Reason}
@@ -15,7 +15,7 @@ use Rattle.chpw_kdc.specs.declared.update.Notice.{Notice}
 use Rattle.chpw_kdc.specs.declared.update.Notice.TheVariants.{TooManyGone}
 use Rattle.chpw_kdc.specs.Mirrors.{Mirror, key_of, judgement}
 use Rattle.chpw_kdc.specs.Dialogs.{State}
-use Rattle.chpw_kdc.specs.Answering.{after_answer, each, is_listed, is_many, lacked_in}
+use Rattle.chpw_kdc.specs.Answering.{after_answer, each, is_listed, is_many, is_on_its_way, lacked_in}
 
 -- ---- what the KDC has
 
@@ -51,11 +51,12 @@ abbrev pub judgement_of : (Name → Bool) → Mirror → Row → Judgement
 judgement_of ours mirror (has name kvno keys) = judgement ours (key_of mirror name) name kvno keys
 judgement_of ours mirror (other name why) = judged.Leave
 
--- the key that the KDC gets
-abbrev pub put_by : ℕ → Name → Judgement → List Put
-put_by now name judged.Leave = []
-put_by now name (judged.Adopt key) = []
-put_by now name (judged.Put key) = record { name = name; key = key; ticket = None; since = now } ∷ []
+-- the key that the KDC gets, unless a change's put of it is on its way already
+abbrev pub put_by : List Put → ℕ → Name → Judgement → List Put
+put_by ps now name judged.Leave = []
+put_by ps now name (judged.Adopt key) = []
+put_by ps now name (judged.Put key) =
+    if is_on_its_way ps name key then [] else record { name = name; key = key; ticket = None; since = now } ∷ []
 
 -- the key that the table gets
 abbrev pub adoption_by : Name → Judgement → List KdcUpdate
@@ -63,9 +64,9 @@ adoption_by name judged.Leave = []
 adoption_by name (judged.Adopt key) = update.Adopt name key ∷ []
 adoption_by name (judged.Put key) = []
 
-abbrev pub puts_for : (Name → Bool) → ℕ → Mirror → List Row → List Put
-puts_for ours now mirror [] = []
-puts_for ours now mirror (row ∷ rows) = put_by now (name_of row) (judgement_of ours mirror row) ++ puts_for ours now mirror rows
+abbrev pub puts_for : (Name → Bool) → List Put → ℕ → Mirror → List Row → List Put
+puts_for ours ps now mirror [] = []
+puts_for ours ps now mirror (row ∷ rows) = put_by ps now (name_of row) (judgement_of ours mirror row) ++ puts_for ours ps now mirror rows
 
 abbrev pub adoptions_for : (Name → Bool) → Mirror → List Row → List KdcUpdate
 adoptions_for ours mirror [] = []
@@ -88,7 +89,7 @@ pub record IsPutRight (ours : Name → Bool) (s : State) (rows : List Row) (coun
   pub once : AreNew [] rows
   pub mirror : t.mirror ≡ s.mirror
   -- for each row what is to be done for its name, and no more
-  pub puts : t.puts ≡ s.puts ++ puts_for ours s.pace.began s.mirror rows
+  pub puts : t.puts ≡ s.puts ++ puts_for ours s.puts s.pace.began s.mirror rows
   pub updates : t.updates ≡ s.updates ++ adoptions_for ours s.mirror rows
   pub lacked : let names = lacked_in (names_of rows) s.mirror in AskedAlone (is_many (length names) (length s.mirror)) names s t
   pub over : t.asked ≡ None

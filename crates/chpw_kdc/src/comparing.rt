@@ -2,7 +2,7 @@
 ghost use Rattle.std.specs.Prelude.{◌≡◌, IfOk, OnOk, OnErr, IfErr, Ok, false};
 ghost use Rattle.chpw_kdc.specs.Faults.{IsFault, IsListFault};
 ghost use Rattle.chpw_kdc.specs.Answers.{SameLost};
-ghost use Rattle.chpw_kdc.specs.Answering.{of_list, is_listed, with_listed, compared, refused_if_held, after_end, lacked_in, is_many};
+ghost use Rattle.chpw_kdc.specs.Answering.{of_list, is_listed, with_listed, with_put, is_on_its_way, compared, refused_if_held, after_end, lacked_in, is_many};
 
 use crate::answer::{Answer, Reason};
 use crate::dialog::KdcDialog;
@@ -11,6 +11,7 @@ use crate::fields::KeyPair;
 use crate::judging::{IsOurs, Judgement, judge};
 use crate::put::Put;
 use crate::update::KdcUpdate;
+use chpw_record::KeyRow;
 use chpw_rules::Name;
 use std::alloc::AllocError;
 use std::collections::VecDeque;
@@ -79,14 +80,32 @@ impl KdcDialog {
         match judge(ours, self.mirror.get(&name), &name, kvno, keys) {
             Judgement::Leave => {}
             Judgement::Adopt(key) => self.updates.push_back(KdcUpdate::Adopt { name, key })?,
-            Judgement::Put(key) => self.puts.push_back(Put {
+            Judgement::Put(key) => self.put_right(name, key)?,
+        }
+        Ok(())
+    }
+
+    // The KDC gets this key. A change that came after the KDC was read may have it on its way.
+    fn put_right(&mut self, name: Name, key: KeyRow) -> Result<(), AllocError>
+        ensures step { OnOk result (self.new ≡ with_put name key self.old) }
+        ensures unchanged { OnErr result (self.new ≡ self.old) }
+    {
+        if !self.is_on_its_way(&name, &key) {
+            self.puts.push_back(Put {
                 name,
                 key,
                 ticket: None,
                 since: self.pace.began,
-            })?,
+            })?;
         }
         Ok(())
+    }
+
+    // Whether a change's put of this key of the name is on its way.
+    fn is_on_its_way(&self, name: &Name, key: &KeyRow) -> bool
+        ensures value { result ≡ is_on_its_way self.now.puts name.now key.now }
+    {
+        self.puts.iter().any(|put| put.brings(name, key))
     }
 
     // The KDC has the name, but the agent doesn't write it or give its keys.

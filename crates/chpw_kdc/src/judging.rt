@@ -72,8 +72,8 @@ fn may_adopt<O: IsOurs>(ours: &O, name: &Name) -> bool
     name.parts.as_slice().len() == 1 && name.fits() && ours.is_ours(name)
 }
 
-// Whether this is the version, and these the keys.
-fn is_same(held: &KeyRow, kvno: u32, keys: &KeyPair) -> bool
+/// Whether this is the version, and these the keys.
+pub(crate) fn is_same(held: &KeyRow, kvno: u32, keys: &KeyPair) -> bool
     ensures value { result ≡ is_same held.now kvno keys.now }
 {
     held.kvno == kvno && held.aes128 == keys.aes128 && held.aes256 == keys.aes256

@@ -29,8 +29,9 @@ pub fn only_what_the_kdc_says()
     ensures { UpdatesAreGrounded }
 {}
 
-/// A whole list puts right each name in which table and KDC differ, once: the KDC's newer key is for the desk to adopt, one of
-/// an older version, or another key of the same one, is put, and the names that it lacks are asked for alone.
+/// A whole list puts right each name in which table and KDC differ, once: the KDC's newer key is for the desk to adopt; for one of
+/// an older version, or another key of the same one, the table's is put, unless a change has it on its way; and the names that it
+/// lacks are asked for alone.
 pub fn each_difference_once()
     ensures { ListsPutRight }
 {}

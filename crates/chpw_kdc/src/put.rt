@@ -1,5 +1,9 @@
 //! A key on its way to the KDC, and the request under way.
+ghost use Rattle.std.specs.Prelude.{◌≡◌};
+ghost use Rattle.chpw_kdc.specs.Answering.{brings};
 
+use crate::fields::KeyPair;
+use crate::judging::is_same;
 use chpw_record::KeyRow;
 use chpw_rules::Name;
 
@@ -16,6 +20,19 @@ pub(crate) struct Put {
     pub ticket: Option<u64>,
     // Since when it is: when the change came, or when the comparison began.
     pub since: u64,
+}
+
+impl Put {
+    /// Whether a change put this key of the name.
+    pub fn brings(&self, name: &Name, key: &KeyRow) -> bool
+        ensures value { result ≡ brings name.now key.now self.now }
+    {
+        let keys = KeyPair {
+            aes256: key.aes256,
+            aes128: key.aes128,
+        };
+        self.ticket.is_some() && self.name.is_same(name) && is_same(&self.key, key.kvno, &keys)
+    }
 }
 
 /// The request under way.
