@@ -1,8 +1,8 @@
 -- The text of a resume file.
 use Rattle.std.proofs.Common.{◌≡◌, ℕ, Bool, true, false, zero, suc, ◌-◌, get_or, add-one, Option, Some, None, Result, Ok, Err, IfOk, ◌+◌, ◌<◌, ◌≤◌}
-use Rattle.std.proofs.Common.{◌^◌, List, [], ◌∷◌, ◌++◌, length, map, take, drop, append_assoc, append-nil, refl, sym, ◌∙◌, ap, subst, arith, length-append}
+use Rattle.std.proofs.Common.{List, [], ◌∷◌, ◌++◌, length, map, take, drop, append_assoc, append-nil, refl, sym, ◌∙◌, ap, subst, arith, length-append}
 use Rattle.std.specs.Prelude.{ℤ}
-use Rattle.std.specs.Int.{to_be_bytes, cast_unsigned, w32, w64}
+use Rattle.std.specs.Int.{to_be_bytes, w32}
 use Rattle.std.specs.List.{AllByRecursion}
 use Rattle.std.proofs.lemmas.List.{take-append-drop, take_all, map-append}
 use Rattle.std.proofs.lemmas.Grind.{flat_map-append}
@@ -196,6 +196,46 @@ id_more text new x y ids i id within item e h =
     h ∙ (ap (λ t. t ++ b) e ∙ (append_assoc header (joined bs) b
     ∙ (ap (λ t. header ++ t) (block_more (joined bs) (joined bs ++ b) bs (id_text id) refl refl)
     ∙ ap (λ l. header ++ joined (x ∷ y ∷ l)) (sym more))))
+
+-- ---- what is too long
+
+first_longer : (n : ℕ) (b : List ℕ) (bs : List (List ℕ)) → n < length b → n < length (joined (b ∷ bs))
+first_longer n b bs h = let l = length-append (block b) (joined bs) in let k = length-append (to_be_bytes w32 (length b)) b in omega (arith, h, l, k)
+
+later_longer : (n : ℕ) (b : List ℕ) (bs : List (List ℕ)) → n < length (joined bs) → n < length (joined (b ∷ bs))
+later_longer n b bs h = let l = length-append (block b) (joined bs) in omega (arith, h, l)
+
+-- blocks are no shorter than one of them
+pub longer_at : (n : ℕ) (bs : List (List ℕ)) (i : ℕ) (b : List ℕ) → i < length bs → b ≡ get_or bs i b → n < length b → n < length (joined bs)
+longer_at n [] i b within item h = absurd (omega (arith, within))
+longer_at n (x ∷ bs) zero b within item h = first_longer n x bs (subst (λ y. n < length y) item h)
+longer_at n (x ∷ bs) (suc i) b within item h = later_longer n x bs (longer_at n bs i b (omega (arith, within)) item h)
+
+pub longer_part : (n : ℕ) (id : RequestId) (i : ℕ) (part : List ℕ) → i < length id.client.parts → part ≡ get_or id.client.parts i part → n < length part
+    → n < length (id_text id)
+longer_part n id i part within item h =
+    later_longer n (times_bytes id.ctime id.cusec) (id.crealm ∷ id.client.parts)
+    (later_longer n id.crealm id.client.parts (longer_at n id.client.parts i part within item h))
+
+-- a text is longer than its blocks
+longer_text : (n : ℕ) (r : Resume) → n < length (joined (blocks_of r)) → n < length (resume_text r)
+longer_text n r h =
+    let l = length-append (body_of r) (sha1 (body_of r)) in
+    let k = length-append header (joined (blocks_of r)) in
+    omega (arith, h, l, k)
+
+ids_longer : (n : ℕ) (ids : List RequestId) (i : ℕ) (id : RequestId) → i < length ids → id ≡ get_or ids i id → n < length (id_text id)
+    → n < length (joined (map id_text ids))
+ids_longer n [] i id within item h = absurd (omega (arith, within))
+ids_longer n (x ∷ ids) zero id within item h = first_longer n (id_text x) (map id_text ids) (subst (λ (y : RequestId). n < length (id_text y)) item h)
+ids_longer n (x ∷ ids) (suc i) id within item h =
+    later_longer n (id_text x) (map id_text ids) (ids_longer n ids i id (omega (arith, within)) item h)
+
+pub text_longer_id : (n : ℕ) (r : Resume) (i : ℕ) (id : RequestId) → i < length r.carried.ids → id ≡ get_or r.carried.ids i id → n < length (id_text id)
+    → n < length (resume_text r)
+text_longer_id n r i id within item h =
+    longer_text n r (later_longer n r.realm (state_text r ∷ map id_text r.carried.ids)
+    (later_longer n (state_text r) (map id_text r.carried.ids) (ids_longer n r.carried.ids i id within item h)))
 
 pub text_whole : (r : Resume) (text new sum d : List ℕ) (i : ℕ) → length r.carried.ids ≤ i
     → text ≡ header ++ joined (r.realm ∷ state_text r ∷ map id_text (take i r.carried.ids)) → d ≡ text → sum ≡ sha1 d → new ≡ text ++ sum

@@ -1,6 +1,5 @@
 -- What the format promises.
 use Rattle.std.specs.Prelude.{◌≡◌}
-use Rattle.chpw_blocks.specs.Blocks.{IsShort}
 use Rattle.chpw_resume.specs.declared.resume.Resume.{Resume}
 use Rattle.chpw_resume.specs.ResumeText.{ResumeFits, blocks_of, resume_text}
 

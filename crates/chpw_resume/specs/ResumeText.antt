@@ -1,6 +1,6 @@
 -- The text of a resume file, format 1: a line, blocks, and at the end the SHA-1 (FIPS 180-4) of all that, 20 bytes. A block stands
 -- after its length, four bytes. Numbers are high byte first, times as two's complement in 8 bytes.
-use Rattle.std.specs.Prelude.{◌≡◌, ◌≢◌, ℕ, ℤ, ◌-◌, ◌≤◌, List, [], ◌∷◌, ◌++◌, length, drop, min, map, codes, Option, Some, None, Result, Ok, Err, MatchOption}
+use Rattle.std.specs.Prelude.{◌≡◌, ◌≢◌, ℕ, ℤ, List, ◌∷◌, ◌++◌, length, map, codes, Option, Result, Ok, Err, MatchOption}
 use Rattle.std.specs.Int.{to_be_bytes, cast_unsigned, w32, w64}
 use Rattle.std.specs.List.{AllByRecursion}
 use Rattle.sha1.specs.Sha1.{sha1}

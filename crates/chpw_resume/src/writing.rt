@@ -1,7 +1,8 @@
 //! Writing the text of a resume file.
-ghost use Rattle.std.specs.Prelude.{◌≡◌, ◌≤◌, ◌++◌, OnOk, IfOk, length};
+ghost use Rattle.std.specs.Prelude.{◌≡◌, ◌≤◌, ◌<◌, ◌++◌, OnOk, IfOk, Err, length};
 ghost use Rattle.chpw_blocks.specs.Blocks.{block, IsShort};
 ghost use Rattle.chpw_resume.specs.ResumeText.{id_text, resume_text, state_text, times_bytes};
+ghost use Rattle.chpw_resume.specs.declared.writing.WriteFault.TheVariants.{Memory, TooLong};
 
 use crate::resume::{HEADER, LONGEST_RESUME, Resume};
 use chpw_blocks::put_block;
@@ -19,15 +20,18 @@ pub enum WriteFault {
 }
 
 impl From<AllocError> for WriteFault {
+    ghost from_gives = { λ _ fault. fault ≡ Memory };
+
     fn from(_: AllocError) -> WriteFault {
         WriteFault::Memory
     }
 }
 
-/// The text of the resume file that has this.
+/// The text of the resume file that has this. `TooLong` where that is longer than a resume file may be.
 pub fn write_resume(alloc: Global, resume: &Resume) -> Result<Vec<u8>, WriteFault>
     ensures value { IfOk result (λ text. text.items ≡ resume_text resume.now) }
     ensures short { IfOk result (λ text. length text.items ≤ LONGEST_RESUME) }
+    ensures long { result ≡ Err TooLong → LONGEST_RESUME < length (resume_text resume.now) }
 {
     let mut text = Vec::from_slice(alloc, &HEADER)?;
     put(&mut text, resume.realm.as_slice())?;
@@ -47,6 +51,7 @@ pub fn write_resume(alloc: Global, resume: &Resume) -> Result<Vec<u8>, WriteFaul
 fn put(text: &mut Vec<u8>, bytes: &[u8]) -> Result<(), WriteFault>
     ensures value { OnOk result (text.new.items ≡ text.old.items ++ block bytes.now) }
     ensures short { OnOk result (IsShort bytes.now) }
+    ensures long { result ≡ Err TooLong → LONGEST_RESUME < length bytes.now }
 {
     if bytes.len() > LONGEST_RESUME {
         return Err(WriteFault::TooLong);
@@ -58,6 +63,7 @@ fn put(text: &mut Vec<u8>, bytes: &[u8]) -> Result<(), WriteFault>
 // Adds what follows the realm.
 fn put_state(alloc: Global, text: &mut Vec<u8>, resume: &Resume) -> Result<(), WriteFault>
     ensures value { OnOk result (text.new.items ≡ text.old.items ++ block (state_text resume.now)) }
+    ensures long { result ≡ Err TooLong → LONGEST_RESUME < length (state_text resume.now) }
 {
     let state = state_of(alloc, resume)?;
     put(text, &state)
@@ -79,6 +85,7 @@ fn state_of(alloc: Global, resume: &Resume) -> Result<Vec<u8>, AllocError>
 // Adds a used id.
 fn put_id(alloc: Global, text: &mut Vec<u8>, id: &RequestId) -> Result<(), WriteFault>
     ensures value { OnOk result (text.new.items ≡ text.old.items ++ block (id_text id.now)) }
+    ensures long { result ≡ Err TooLong → LONGEST_RESUME < length (id_text id.now) }
 {
     let blocks = id_of(alloc, id)?;
     put(text, &blocks)
@@ -86,6 +93,7 @@ fn put_id(alloc: Global, text: &mut Vec<u8>, id: &RequestId) -> Result<(), Write
 
 fn id_of(alloc: Global, id: &RequestId) -> Result<Vec<u8>, WriteFault>
     ensures value { IfOk result (λ text. text.items ≡ id_text id.now) }
+    ensures long { result ≡ Err TooLong → LONGEST_RESUME < length (id_text id.now) }
 {
     let times = times_of(alloc, id)?;
     let mut blocks = Vec::new(alloc);

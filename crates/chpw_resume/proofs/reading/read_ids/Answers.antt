@@ -1,6 +1,5 @@
-use Rattle.std.proofs.Common.{◌≡◌, ◌<◌, length, map, sym, ◌∙◌, ap, subst, arith}
+use Rattle.std.proofs.Common.{◌≡◌, map, sym, ◌∙◌, ap, subst}
 use Rattle.std.specs.List.{AllByRecursion}
-use Rattle.std.proofs.lemmas.Grind.{common_steps}
 use Rattle.chpw_blocks.specs.Blocks.{IsShort}
 use Rattle.chpw_resume.specs.ResumeText.{id_text, IdFits}
 use Rattle.chpw_resume.proofs.TextLemmas.{fits_more, ids_more, none_at, short_at}

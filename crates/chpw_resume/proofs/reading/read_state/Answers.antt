@@ -1,7 +1,7 @@
-use Rattle.std.proofs.Common.{◌≡◌, length, sym, ◌∙◌, ap, arith, rules, to_z, of_z, w64}
+use Rattle.std.proofs.Common.{◌≡◌, sym, ◌∙◌, ap, arith, rules, to_z, of_z, w64}
 use Rattle.std.proofs.lemmas.Grind.{common_steps}
 use Rattle.chpw_resume.specs.ResumeText.{time_bytes}
-use Rattle.chpw_resume.proofs.TextLemmas.{cut_two, state_length}
+use Rattle.chpw_resume.proofs.TextLemmas.{cut_two}
 use Rattle.chpw_resume.proofs.reading.read_state.Goals as goal
 
 pub returns : goal.returns

@@ -1,4 +1,4 @@
-use Rattle.std.proofs.Common.{◌≡◌, ◌∷◌, ◌++◌, take}
+use Rattle.std.proofs.Common.{◌≡◌, ◌∷◌, take}
 use Rattle.chpw_blocks.specs.Blocks.{joined}
 use Rattle.chpw_resume.specs.ResumeText.{times_bytes}
 use Rattle.chpw_resume.proofs.writing.id_of.Given as goal
