@@ -8,6 +8,8 @@ ghost use Rattle.chpw_start.specs.Faults.{IsLate};
 ghost use Rattle.chpw_host.specs.Faults.{IsOfService};
 ghost use Rattle.chpw_changelog.specs.Pens.{opening_state};
 ghost use Rattle.chpw_start.specs.Raised.{IsRaisedWhereAsked};
+ghost use Rattle.chpw_start.specs.Rules.{AreRulesOf};
+ghost use Rattle.chpw_rules.specs.Fitting.{config_fits};
 ghost use Rattle.chpw_host.specs.Serving.{reach_asked};
 ghost use Rattle.chpw_start.specs.declared.raising.RaiseReport.{RaiseReport};
 ghost use Rattle.chpw_service.specs.WholeRuns.{IsServedFrom, IsWholeRun};
@@ -35,9 +37,10 @@ use chpw_sockets::DatagramSockets;
 use chpw_start::{
     RaiseReport, Rules, ServeFault, is_shared, own_ids, raise_where_asked, standing_at,
 };
-use chpw_table::{LAST_SECOND, Moment, Table};
+use chpw_table::{JournalSink, LAST_SECOND, Moment, Table};
 use chpw_transfers::KdcSide;
 use chpw_workers::MachineClock;
+use mio::net::UnixListener;
 use std::alloc::Global;
 use std::fs::{File, Files};
 use std::marker::Brand;
@@ -77,46 +80,104 @@ where
     ensures run { OnOk result (IsWholeRun R (LogLines R) options.entry) }
     ensures fault { IfErr result (IsOfService options.entry) }
 {
+    let settings = settings_of(rt, &options)?;
+    let log = log_of(rt, rt.alloc(), &options)?;
+    serve_with(rt, time, &options, &log, settings)
+}
+
+/// What a service has once its files, its sockets and its journal are open.
+#[derive(Drop)]
+struct Ready {
+    rules: Rules,
+    names: NamePatterns,
+    seed: [u8; 32],
+    sockets: BoundSockets,
+    control: Option<UnixListener>,
+    journal: OpenJournal,
+}
+
+// Takes its ports, opens the journal, then the control socket, and serves.
+fn serve_with<'a, 'l, R: Machine, T: Clock + Sync>(
+    rt: &'l R,
+    time: &'l T,
+    options: &'l ServeOptions<'a>,
+    log: &'l Log<'l, R>,
+    settings: Settings,
+) -> Result<(), ServeFault<'a>>
+where
+    R::Dir: Send + Sync,
+    requires fits { config_fits settings.config ≡ true }
+    requires rules { AreRulesOf settings.config options.now settings.rules }
+    ensures run { OnOk result (IsWholeRun R (LogLines R) options.now) }
+    ensures fault { IfErr result (IsOfService options.now) }
+{
     let Settings {
         config,
         rules,
         names,
         seed,
-    } = settings_of(rt, &options)?;
-    let log = log_of(rt, rt.alloc(), &options)?;
-    let counters = Mutex::new(Counters::default());
-    let sockets = bind(rt, &options, rules.service.realm())?;
+    } = settings;
+    let sockets = bind(rt, options, rules.service.realm())?;
     let mut clock = MachineClock::new(time);
+    let journal = open_journal(rt, log, options, config, &mut clock)?;
+    tell_shared(rt, log, options);
+    let control = control_socket(rt, options.control)?;
+    let ready = Ready {
+        rules,
+        names,
+        seed,
+        sockets,
+        control,
+        journal,
+    };
+    serve_ready(rt, time, options, log, ready, &mut clock)
+}
+
+// Serves with what is open, and tells of the beginning and of the end.
+fn serve_ready<'a, 'l, R: Machine, T: Clock + Sync>(
+    rt: &'l R,
+    time: &'l T,
+    options: &'l ServeOptions<'l>,
+    log: &'l Log<'l, R>,
+    ready: Ready,
+    clock: &mut MachineClock<'_, T>,
+) -> Result<(), ServeFault<'a>>
+where
+    R::Dir: Send + Sync,
+    requires fresh { ⟦<FileSink<File> as JournalSink>⟧.failed ready.journal.sink ≡ 0 }
+    ensures served { OnOk result ((since : Moment) × IsServedFrom R (LogLines R) options.now (key_of ready.seed)
+        ready.journal.table ready.rules since) }
+    ensures fault { IfErr result IsLate }
+{
     let OpenJournal {
         table,
         sink,
         length,
-    } = open_journal(rt, &log, &options, config, &mut clock)?;
-    tell_shared(rt, &log, &options);
-    let listener = control_socket(rt, options.control)?;
+    } = ready.journal;
+    let counters = Mutex::new(Counters::default());
     let since = clock.now();
     let started = counters.lock(rt).start(since, &table);
     log.put_event(since, &started);
-    tell_quiet(rt.alloc(), &log, since, &table);
-    let kdc = kdc_side(rt, &options, &table, names);
+    tell_quiet(rt.alloc(), log, since, &table);
+    let kdc = kdc_side(rt, options, &table, ready.names);
     let opening = first_opening(table, sink, options.workers);
     let service = Start {
-        rt,
-        time,
-        options: &options,
-        seed,
-        log: &log,
+        rt: &*rt,
+        time: &*time,
+        options: &*options,
+        seed: ready.seed,
+        log: &*log,
         counters: &counters,
         journal: length,
         kdc,
-        sockets,
+        sockets: ready.sockets,
     };
     let control = ControlTerms {
-        listener,
+        listener: ready.control,
         since: time_of(since),
         workers: options.workers,
     };
-    let ended = serve_opened::<Brand, R, T>(service, control, rules, opening, &mut clock);
+    let ended = serve_opened::<Brand, R, T>(service, control, ready.rules, opening, clock);
     notify_stopping(rt);
     take_away(rt, options.control);
     let last = counters.lock(rt).end();

@@ -1,5 +1,6 @@
 //! What the lines do, in their order.
 ghost use Rattle.std.specs.Prelude.{◌≡◌, ◌++◌, ◌∷◌, [], IfOk};
+ghost use Rattle.std.specs.Option.{option_map};
 ghost use Rattle.std.specs.List.{list_any};
 ghost use Rattle.chpw_rules.specs.Fitting.{is_same_principal};
 ghost use Rattle.chpw_commands.specs.declared.drill.line.Line.TheVariants.{Rule as RuleLine, Principal as PrincipalLine, Open as OpenLine};
@@ -7,7 +8,7 @@ ghost use Rattle.chpw_commands.specs.Drilled.{turn};
 ghost use Rattle.chpw_commands.specs.Stages.{Stage as StageModel, Machine, blank, with_rule};
 ghost use Rattle.chpw_commands.specs.Stages.{with_principal, takes_principal, turn_first};
 ghost use Rattle.chpw_commands.specs.Stages.{turn_named, turn_listed, turn_running, turn_line};
-ghost use Rattle.chpw_commands.specs.Following.{Runs, Follows, held_realm, IsTurn, FitsLine};
+ghost use Rattle.chpw_commands.specs.Following.{Runs, Follows, held_realm, IsTurn, FitsLine, running_turn};
 
 use crate::drill::line::{Line, parse_line};
 use crate::drill::printed::shown_line;
@@ -203,6 +204,25 @@ fn turn_running(alloc: Global, drill: Drill, line: Line) -> Result<Option<Turn>,
         → IsTurn found (turn_running m line)) }
 {
     let mut drill = drill;
+    let Some(output) = output_of(alloc, &mut drill, line)? else {
+        return Ok(None);
+    };
+    Ok(Some(Turn {
+        stage: Stage::Running(drill),
+        output,
+    }))
+}
+
+// What the machine prints for a line; none for one that stands before `open` alone.
+fn output_of(
+    alloc: Global,
+    drill: &mut Drill,
+    line: Line,
+) -> Result<Option<Items<u8>>, TurnFault>
+    requires moment { FitsLine line }
+    ensures value { IfOk result (λ found. (m : Machine) → Runs drill.old m
+        → IsTurn (option_map (running_turn drill.new) found) (turn_running m line)) }
+{
     let output = match line {
         Line::Fail => {
             drill.fails = true;
@@ -216,10 +236,7 @@ fn turn_running(alloc: Global, drill: Drill, line: Line) -> Result<Option<Turn>,
         }
         _ => return Ok(None),
     };
-    Ok(Some(Turn {
-        stage: Stage::Running(drill),
-        output: Items::of(output),
-    }))
+    Ok(Some(Items::of(output)))
 }
 
 fn turn_line(alloc: Global, stage: Stage, line: Line) -> Result<Option<Turn>, TurnFault>

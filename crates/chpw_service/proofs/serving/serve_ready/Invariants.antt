@@ -1,6 +1,6 @@
 use Rattle.std.specs.Prelude.{[]}
 use Rattle.chpw_book.specs.Starting.{ledger_name, ledger_parts, list_book, list_root, workers_of}
-use Rattle.chpw_service.proofs.serving.serve_by.Given as goal
+use Rattle.chpw_service.proofs.serving.serve_ready.Given as goal
 
 abbrev pub ghosts-serve_opened-D-DeskName : goal.ghosts-serve_opened-D-DeskName
 ghosts-serve_opened-D-DeskName g a = record { workers = workers_of a.opening.unnamed; prior = [] }
