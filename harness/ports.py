@@ -1,22 +1,36 @@
 """Ports of loopback."""
 
 import contextlib
+import pathlib
+import random
 import socket
 import time
 
+# below it are ports of services that have a number of their own
+FIRST = 10_000
+# the lowest and the highest port that the system gives to a connection that is made
+GIVEN = pathlib.Path("/proc/sys/net/ipv4/ip_local_port_range")
+
+
+def are_free(port, stack):
+    """Whether nobody listens on the port, over TCP or UDP; until the stack ends, nobody else does."""
+    with contextlib.suppress(OSError):
+        for kind in (socket.SOCK_STREAM, socket.SOCK_DGRAM):
+            stack.enter_context(socket.socket(type=kind)).bind(("127.0.0.1", port))
+        return True
+    return False
+
 
 def free_ports(count):
-    """Ports on which nobody listens, over TCP or UDP, at the moment."""
+    """Ports on which nobody listens at the moment, and which no connection gets as its own before somebody does."""
+    ports = range(FIRST, int(GIVEN.read_text().split()[0])) or range(FIRST, 65_536)
+    found = []
     with contextlib.ExitStack() as stack:
-        ports = []
-        while len(ports) < count:
-            tcp = stack.enter_context(socket.socket())
-            udp = stack.enter_context(socket.socket(type=socket.SOCK_DGRAM))
-            tcp.bind(("127.0.0.1", 0))
-            with contextlib.suppress(OSError):
-                udp.bind(tcp.getsockname())
-                ports.append(tcp.getsockname()[1])
-        return ports
+        while len(found) < count:
+            port = random.choice(ports)
+            if are_free(port, stack):
+                found.append(port)
+    return found
 
 
 def is_heard(port, address="127.0.0.1"):

@@ -1,5 +1,5 @@
 //! The service on a port.
-ghost use Rattle.std.specs.Prelude.{◌≡◌, ◌≤◌, ℕ, IfOk, IfErr, IfSome, IsSome, None, Ok, OnOk, Option, false, is_some, true, length};
+ghost use Rattle.std.specs.Prelude.{◌≡◌, ◌≤◌, ◌<◌, ℕ, IfOk, IfErr, IfSome, IsSome, None, Ok, OnOk, Option, false, is_some, true, length};
 ghost use Rattle.chpw_book.specs.Starting.{IsNamed, table_of, workers_of};
 ghost use Rattle.chpw_kdc.specs.Dialogs.{at_start};
 ghost use Rattle.chpw_reactor.specs.Engines.{workers_at};
@@ -9,6 +9,7 @@ ghost use Rattle.chpw_host.specs.Faults.{IsOfService};
 ghost use Rattle.chpw_changelog.specs.Pens.{opening_state};
 ghost use Rattle.chpw_start.specs.Raised.{IsRaisedWhereAsked};
 ghost use Rattle.chpw_start.specs.Rules.{AreRulesOf};
+ghost use Rattle.chpw_table.specs.Times.{IsMoment};
 ghost use Rattle.chpw_rules.specs.Fitting.{config_fits};
 ghost use Rattle.chpw_host.specs.Serving.{reach_asked};
 ghost use Rattle.chpw_start.specs.declared.raising.RaiseReport.{RaiseReport};
@@ -149,35 +150,40 @@ where
         ready.journal.table ready.rules since) }
     ensures fault { IfErr result IsLate }
 {
-    let OpenJournal {
-        table,
-        sink,
-        length,
-    } = ready.journal;
+    let Ready {
+        rules,
+        names,
+        seed,
+        sockets,
+        control,
+        journal: OpenJournal {
+            table,
+            sink,
+            length,
+        },
+    } = ready;
     let counters = Mutex::new(Counters::default());
     let since = clock.now();
-    let started = counters.lock(rt).start(since, &table);
-    log.put_event(since, &started);
-    tell_quiet(rt.alloc(), log, since, &table);
-    let kdc = kdc_side(rt, options, &table, ready.names);
+    tell_start(rt, log, &counters, since, &table);
+    let kdc = kdc_side(rt, options, &table, names);
     let opening = first_opening(table, sink, options.workers);
     let service = Start {
         rt: &*rt,
         time: &*time,
         options: &*options,
-        seed: ready.seed,
+        seed,
         log: &*log,
         counters: &counters,
         journal: length,
         kdc,
-        sockets: ready.sockets,
+        sockets,
     };
-    let control = ControlTerms {
-        listener: ready.control,
+    let terms = ControlTerms {
+        listener: control,
         since: time_of(since),
         workers: options.workers,
     };
-    let ended = serve_opened::<Brand, R, T>(service, control, ready.rules, opening, clock);
+    let ended = serve_opened::<Brand, R, T>(service, terms, rules, opening, clock);
     notify_stopping(rt);
     take_away(rt, options.control);
     let last = counters.lock(rt).end();
@@ -215,6 +221,22 @@ fn reach_asked(is_asked: bool, wait: u32) -> Option<u64>
     } else {
         None
     }
+}
+
+// Appends the line of the start, and reports until when requests are refused, if they are.
+fn tell_start<R: Wait + Eprint + AllocGlobal>(
+    rt: &R,
+    log: &Log<'_, R>,
+    counters: &Mutex<Counters>,
+    now: Moment,
+    table: &Table,
+)
+    requires moment { IsMoment now }
+    requires micros { now.micros < 1000000 }
+{
+    let started = counters.lock(rt).start(now, table);
+    log.put_event(now, &started);
+    tell_quiet(rt.alloc(), log, now, table);
 }
 
 // Reports until when requests are refused, if they are at this moment.

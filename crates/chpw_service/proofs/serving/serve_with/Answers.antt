@@ -9,7 +9,7 @@ use Rattle.chpw_service.proofs.serving.serve_with.Goals as goal
 -- an address can't be had
 pub returns-in_err-sockets : goal.returns-in_err-sockets
 returns-in_err-sockets g c =
-    let p = err_from_is_err_and c.from_residual-in_err-sockets.result c.from_residual-in_err-sockets.ensures.1 in
+    let p = err_from_is_err_and c.from_residual.result c.from_residual.ensures.1 in
     let fault = late_of_service c.args.options.now _ c.in_err-sockets.ensures.fault in
     record { run = rw p.1 tt; fault = rw p.1 (subst (IsOfService c.args.options.now) (sym p.2) fault) }
 
@@ -25,7 +25,7 @@ pub returns-clause-run : goal.returns-clause-run
 returns-clause-run g c =
     on_ok_weaker c.serve_ready.result
     (λ served. whole_run c.args.options.now c.args.settings.config c.args.settings.rules c.new-clock.result served.0
-    c.in_ok-journal.field-0.table c.args.settings.seed c.in_ok-journal.field-0.table c.requires.rules
+    c.in_ok-journal.journal.table c.args.settings.seed c.in_ok-journal.journal.table c.requires.rules
     c.new-clock.ensures.start c.in_ok-journal.ensures.opened refl served.1)
     c.serve_ready.ensures.served
 
