@@ -45,9 +45,7 @@ pub(crate) fn settings_of<'a, R: Files<File = File> + AllocGlobal>(
 {
     let Configuration { config, text } = configuration_of(rt, options.config)?;
     let names = kdc_names(rt.alloc(), &text)?;
-    let seed = read_seed(rt, options.seed)?;
-    refuse_exposed(rt, options)?;
-    refuse_missing(rt, options)?;
+    let seed = seed_of(rt, options)?;
     match rules_of(rt.alloc(), &config, text, options) {
         Ok(rules) => Ok(Settings {
             config,
@@ -57,6 +55,20 @@ pub(crate) fn settings_of<'a, R: Files<File = File> + AllocGlobal>(
         }),
         Err(_) => Err(ServeFault::Memory),
     }
+}
+
+// Reads the seed. Then the start is refused if others may read, write or replace one of its files where they may not, or if a journal
+// is missing that must exist.
+fn seed_of<'a, R: Files<File = File> + AllocGlobal>(
+    rt: &R,
+    options: &ServeOptions<'a>,
+) -> Result<[u8; 32], ServeFault<'a>>
+    ensures fault { IfErr result (IsOfService options.now) }
+{
+    let seed = read_seed(rt, options.seed)?;
+    refuse_exposed(rt, options)?;
+    refuse_missing(rt, options)?;
+    Ok(seed)
 }
 
 /// The journal that a service opens with.
