@@ -57,8 +57,8 @@ pub(crate) fn settings_of<'a, R: Files<File = File> + AllocGlobal>(
     }
 }
 
-// Reads the seed. Then the start is refused if others may read, write or replace one of its files where they may not, or if a journal
-// is missing that must exist.
+// Reads the seed. Then the start is refused, with strict modes, if others may read, write or replace one of its files, and if its
+// journal must exist and doesn't.
 fn seed_of<'a, R: Files<File = File> + AllocGlobal>(
     rt: &R,
     options: &ServeOptions<'a>,

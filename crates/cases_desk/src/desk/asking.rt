@@ -5,6 +5,7 @@ use chpw_client::{LAST_START, LONGEST_PASSWORD, SentRequest, client_line, client
 use chpw_decider::Decider;
 use chpw_endpoints::Endpoints;
 use chpw_messages::Service;
+use chpw_rules::Config;
 use chpw_serve::{Gate, Observer, WorkerWords, answer};
 use chpw_table::Moment;
 use std::alloc::Global;
@@ -36,6 +37,16 @@ pub fn request_at(
     password: &str,
 ) -> io::Result<SentRequest> {
     let config = config(alloc, Vec::new(alloc), 4, 1)?;
+    request_under(alloc, &config, now, client, password)
+}
+
+fn request_under(
+    alloc: Global,
+    config: &Config,
+    now: Moment,
+    client: &str,
+    password: &str,
+) -> io::Result<SentRequest> {
     if now.seconds < 0
         || now.seconds > LAST_START
         || now.micros >= 1_000_000
@@ -47,7 +58,7 @@ pub fn request_at(
     let client = name(alloc, client)?;
     let sent = client_request(
         alloc,
-        &config,
+        config,
         now,
         &client,
         password.as_bytes(),

@@ -5,7 +5,7 @@ use crate::desk::running::{Block, End};
 use crate::desk::updates::verdict_text;
 use crate::desk::words::no_case;
 use chpw_book::{CloseFault, CloseRefused, Closed, Desk, DeskName, Pass};
-use chpw_journal::{MemorySink, restore};
+use chpw_journal::{MemorySink, Restored, restore};
 use chpw_table::{Entry, Event};
 use std::alloc::{AllocError, Global};
 use std::io;
@@ -71,7 +71,7 @@ fn close<D: DeskName, R: Wait>(
 pub fn closed_text(
     alloc: Global,
     mut text: String,
-    closed: Closed<MemorySink>,
+    closed: &Closed<MemorySink>,
     block: Block<'_>,
 ) -> io::Result<String> {
     let history = closed.history.as_slice();
@@ -97,14 +97,18 @@ fn show_journal(
     opening: Opening<'_>,
 ) -> io::Result<()> {
     let size = journal.len();
-    let Ok(restored) = restore(alloc, opening.table(alloc)?, &mut journal) else {
-        return Err(no_case());
-    };
+    let table = opening.table(alloc)?;
+    match restore(alloc, table, &mut journal) {
+        Ok(restored) => Ok(show_restored(text, size, &restored)?),
+        Err(_) => Err(no_case()),
+    }
+}
+
+fn show_restored(text: &mut String, size: usize, restored: &Restored) -> Result<(), AllocError> {
     let (records, kept, torn) = (restored.records, restored.kept, restored.torn);
     let count = restored.table.count();
     write!(text, "journal: {size} bytes; restored: {records} records, ")?;
-    writeln!(text, "{kept} bytes, count {count}, torn {torn}")?;
-    Ok(())
+    writeln!(text, "{kept} bytes, count {count}, torn {torn}")
 }
 
 /// Adds the history, in one line, as copies of its entries show it.

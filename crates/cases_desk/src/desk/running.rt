@@ -59,9 +59,14 @@ pub fn run<R: Machine>(rt: &R, alloc: Global, block: Block<'_>) -> io::Result<St
         Ok(workers) if 1 <= workers && workers <= 16 => workers,
         _ => return Err(no_case()),
     };
-    let service = Service::of(alloc, &block.opening.config(alloc)?)?;
+    let service = service_of(alloc, block.opening)?;
     let unnamed = UnnamedDesk::of(block.opening.table(alloc)?, workers);
     run_at::<Brand, R>(rt, alloc, unnamed, &service, block)
+}
+
+fn service_of(alloc: Global, opening: Opening<'_>) -> io::Result<Service> {
+    let config = opening.config(alloc)?;
+    Ok(Service::of(alloc, &config)?)
 }
 
 fn run_at<D: DeskName + Send + Sync, R: Machine>(
@@ -102,6 +107,6 @@ fn end_with<D: DeskName, R: Wait>(
         desk.abandon(rt);
         return said;
     }
-    let closed = finish(rt, desk, passes);
-    closed_text(alloc, said?, closed?, block)
+    let closed = finish(rt, desk, passes)?;
+    closed_text(alloc, said?, &closed, block)
 }

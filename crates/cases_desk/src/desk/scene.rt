@@ -10,7 +10,7 @@ use chpw_journal::MemorySink;
 use chpw_messages::Service;
 use chpw_serve::{Gate, NoGate, Observer};
 use chpw_table::{Durability, KeyRow, Lookup};
-use std::alloc::Global;
+use std::alloc::{AllocError, Global};
 use std::io;
 use std::sync::Wait;
 use support_realm::name;
@@ -137,12 +137,16 @@ impl<D: DeskName, R: Wait> Scene<'_, D, R> {
         let now = support_realm::NOW;
         let refused = self.desk.refuses_anyway(now, &opened);
         let counts = self.desk.missing(self.rt, now, &opened);
-        let mut said = format!(in self.alloc; "refused {refused}, lacks")?;
-        for count in counts.as_slice() {
-            write!(said, " {count}")?;
-        }
-        Ok(said)
+        Ok(lacks_text(self.alloc, refused, counts.as_slice())?)
     }
+}
+
+fn lacks_text(alloc: Global, refused: bool, counts: &[u32]) -> Result<String, AllocError> {
+    let mut text = format!(in alloc; "refused {refused}, lacks")?;
+    for count in counts {
+        write!(text, " {count}")?;
+    }
+    Ok(text)
 }
 
 fn version(key: Option<KeyRow>) -> u32 {
