@@ -16,7 +16,15 @@ const RECORD: usize = 66;
 /// (`not synced`, or `error N` for this fault of the system's) or needn't be yet (`unsynced`), or of two, of which the second is
 /// synced (`unsynced, synced`); how many bytes are on the disk; and why the first append failed that did.
 pub fn show_appended(alloc: Global, text: &mut Vec<u8>, way: &str, end: &str) -> io::Result<()> {
-    let mut sink = FileSink::new(Disk {
+    let mut sink = FileSink::new(disk_of(alloc, way, end));
+    let told = append_results(&mut sink, end);
+    let shown = show_sink(text, told, &sink);
+    drop(sink);
+    shown
+}
+
+fn disk_of(alloc: Global, way: &str, end: &str) -> Disk {
+    Disk {
         taker: Taker {
             taken: Vec::new(alloc),
             course: Course::start(Way::of(way)),
@@ -24,12 +32,13 @@ pub fn show_appended(alloc: Global, text: &mut Vec<u8>, way: &str, end: &str) ->
         is_synced: end != "not synced",
         error: error_of(end),
         kept: 0,
-    });
-    let told = append_results(&mut sink, end);
-    let (failures, kept, cause) = (sink.failures(), sink.file().kept, sink.cause());
-    drop(sink);
+    }
+}
+
+fn show_sink(text: &mut Vec<u8>, told: &str, sink: &FileSink<Disk>) -> io::Result<()> {
+    let (failures, kept) = (sink.failures(), sink.file().kept);
     write!(text, "{told}, failures {failures}, on the disk {kept}")?;
-    match cause {
+    match sink.cause() {
         Some(cause) => write!(text, ", since {cause}"),
         None => Ok(()),
     }

@@ -65,12 +65,22 @@ fn show_over(
     mut sink: MemorySink,
     changes: &str,
 ) -> io::Result<()> {
+    show_answers_anew(alloc, text, &mut sink, changes)?;
+    show_restored(alloc, text, Way::of(""), sink.bytes())
+}
+
+/// Adds the answers of a table before any change, and a separator.
+fn show_answers_anew(
+    alloc: Global,
+    text: &mut Vec<u8>,
+    sink: &mut MemorySink,
+    changes: &str,
+) -> io::Result<()> {
     let mut table = table(alloc)?;
-    let shown = show_answers(alloc, text, &mut table, &mut sink, changes);
+    let shown = show_answers(alloc, text, &mut table, sink, changes);
     drop(table);
     shown?;
-    text.extend_from_slice(b"; ")?;
-    show_restored(alloc, text, Way::of(""), sink.bytes())
+    Ok(text.extend_from_slice(b"; ")?)
 }
 
 /// Adds the answer to each change and raise, how many appends failed, and what the table then has.
@@ -84,10 +94,9 @@ fn show_answers(
     let mut number = 0_u32;
     for change in changes.split(", ") {
         number = number.saturating_add(1);
-        let (who, figure) = change.split_once(' ').unwrap_or((change, ""));
-        match who {
-            "raise" => show_raise(text, table, sink, figure)?,
-            _ => show_change(text, table, sink, request(alloc, who, figure, number)?)?,
+        match change.strip_prefix("raise ") {
+            Some(count) => show_raise(text, table, sink, count)?,
+            None => show_change(alloc, text, table, sink, change, number)?,
         }
     }
     write!(text, "failures {},", sink.failures())?;
@@ -96,25 +105,31 @@ fn show_answers(
 
 /// A principal's request for a password of its own: the password of this number has keys of that byte throughout, and
 /// 161 is that of the keys held at the start.
-fn request(alloc: Global, client: &str, password: &str, cusec: u32) -> io::Result<Opened> {
+fn request(alloc: Global, change: &str, cusec: u32) -> io::Result<Opened> {
+    let (client, password) = change.split_once(' ').unwrap_or((change, ""));
+    let digest = digest_of(alloc, password)?;
+    let client = name(alloc, client)?;
+    Ok(support_realm::change(alloc, client, cusec, digest)?)
+}
+
+fn digest_of(alloc: Global, password: &str) -> io::Result<Digest> {
     let byte = (number(password)? % 256) as u8;
     let keys = (4096, Key::Aes128([byte; 16]), Key::Aes256([byte; 32]));
-    match Digest::of(9, 4, vec![in alloc; keys]?) {
-        Some(digest) => Ok(support_realm::change(alloc, name(alloc, client)?, cusec, digest)?),
-        None => Err(no_case()),
-    }
+    Digest::of(9, 4, vec![in alloc; keys]?).ok_or(no_case())
 }
 
 fn show_change(
+    alloc: Global,
     text: &mut Vec<u8>,
     table: &mut Table,
     sink: &mut MemorySink,
-    opened: Opened,
+    change: &str,
+    number: u32,
 ) -> io::Result<()> {
     if sink.failures() == u64::MAX {
-        drop(opened);
         return Err(no_case());
     }
+    let opened = request(alloc, change, number)?;
     match table.decide(NOW, opened, sink) {
         Ok(outcome) => {
             let (verdict, io_failed) = (outcome.verdict, outcome.io_failed);

@@ -65,8 +65,17 @@ pub fn show_compact(alloc: Global, text: &mut Vec<u8>, journal: &[u8]) -> io::Re
 }
 
 fn compacted(alloc: Global, journal: &[u8]) -> io::Result<Vec<u8>> {
-    match restore_file(alloc, table(alloc)?, journal) {
-        Ok((restored, _)) => Ok(compact_journal(alloc, &table(alloc)?, &restored.table)?),
-        Err(_) => Err(no_case()),
-    }
+    let Ok((restored, _)) = restore_file(alloc, table(alloc)?, journal) else {
+        return Err(no_case());
+    };
+    let compact = compact_from_start(alloc, &restored.table);
+    drop(restored);
+    compact
+}
+
+fn compact_from_start(alloc: Global, held: &Table) -> io::Result<Vec<u8>> {
+    let base = table(alloc)?;
+    let compact = compact_journal(alloc, &base, held);
+    drop(base);
+    Ok(compact?)
 }

@@ -4,7 +4,7 @@ use crate::reload::file::config_of;
 use crate::telling::show_table;
 use chpw_journal::restore_file;
 use chpw_printing::put_name;
-use chpw_reload::{NextTable, RefusedReload, ReloadFault, finish, prepare, put_fault};
+use chpw_reload::{NextTable, PreparedReload, ReloadFault, finish, prepare, put_fault};
 use chpw_table::Table;
 use std::alloc::{AllocError, Global};
 use std::io;
@@ -33,20 +33,50 @@ fn reload(
     end: usize,
 ) -> io::Result<()> {
     let closed = closed_table(alloc, old, journal)?;
-    let file = config_of(alloc, new)?;
+    match prepared(alloc, new, journal, end) {
+        Ok(Ok(renewal)) => show_finished(alloc, text, renewal, journal, closed),
+        Ok(Err(fault)) => show_unprepared(text, &fault, closed),
+        Err(error) => {
+            drop(closed);
+            Err(error)
+        }
+    }
+}
+
+// The renewal by the new configuration and the front of the journal.
+fn prepared(
+    alloc: Global,
+    new: &str,
+    journal: &[u8],
+    end: usize,
+) -> io::Result<Result<PreparedReload, ReloadFault>> {
     let Some(front) = journal.get(..end) else {
         return Err(no_case());
     };
-    match prepare(alloc, file, front) {
-        Err(fault) => Ok(show_refused(text, &fault, &closed)?),
-        Ok(renewal) => {
-            let rest = journal.get(renewal.kept as usize..).unwrap_or(&[]);
-            match finish(alloc, renewal, rest, closed) {
-                Ok(reloaded) => Ok(show_reloaded(text, &reloaded)?),
-                Err(refused) => Ok(show_refused(text, &refused.fault, &refused.closed)?),
-            }
-        }
-    }
+    Ok(prepare(alloc, config_of(alloc, new)?, front))
+}
+
+fn show_unprepared(text: &mut Vec<u8>, fault: &ReloadFault, closed: Table) -> io::Result<()> {
+    let shown = show_refused(text, fault, &closed);
+    drop(closed);
+    Ok(shown?)
+}
+
+fn show_finished(
+    alloc: Global,
+    text: &mut Vec<u8>,
+    renewal: PreparedReload,
+    journal: &[u8],
+    closed: Table,
+) -> io::Result<()> {
+    let rest = journal.get(renewal.kept as usize..).unwrap_or(&[]);
+    let finished = finish(alloc, renewal, rest, closed);
+    let shown = match &finished {
+        Ok(reloaded) => show_reloaded(text, reloaded),
+        Err(refused) => show_refused(text, &refused.fault, &refused.closed),
+    };
+    drop(finished);
+    Ok(shown?)
 }
 
 // The table with which a desk was closed: that of a configuration with a journal, quiet until the second 300.
