@@ -24,4 +24,15 @@ mod cases;
 mod reading;
 mod replying;
 
-pub use crate::client::cases::Cases;
+use crate::client::cases::Cases;
+use std::alloc::Global;
+use std::io::{self, Write};
+use support_cases::answer_lines;
+
+/// Prints the answers to the lines of this topic.
+pub fn answer<W: Write>(alloc: Global, out: &mut W, lines: &str) -> io::Result<()> {
+    let mut cases = Cases::new(alloc);
+    let printed = answer_lines(alloc, out, &mut cases, lines);
+    drop(cases);
+    printed
+}

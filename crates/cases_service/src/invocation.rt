@@ -17,10 +17,13 @@ pub struct Cases;
 impl Answers for Cases {
     fn answer(&mut self, alloc: Global, case: &str) -> io::Result<String> {
         let words = words_of(alloc, case)?;
-        match command_of(alloc, &words) {
-            Ok(invocation) => Ok(invocation_text(alloc, invocation)?),
-            Err(error) => Ok(first_lines(alloc, error.to_string(alloc)?.as_str())?),
-        }
+        let asked = command_of(alloc, &words);
+        let text = match &asked {
+            Ok(invocation) => invocation_text(alloc, invocation),
+            Err(error) => first_lines(alloc, error.to_string(alloc)?.as_str()),
+        };
+        drop(asked);
+        Ok(text?)
     }
 }
 

@@ -32,8 +32,8 @@ impl Topics for Cases {
         lines: &str,
     ) -> io::Result<()> {
         match topic {
-            "stream" => answer_lines(alloc, out, &mut stream::Cases::new(alloc), lines),
-            "client" => answer_lines(alloc, out, &mut client::Cases::new(alloc), lines),
+            "stream" => stream::answer(alloc, out, lines),
+            "client" => client::answer(alloc, out, lines),
             "invocation" => answer_lines(alloc, out, &mut invocation::Cases, lines),
             "commands" => answer_lines(alloc, out, &mut commands::Cases, lines),
             _ => refuse_lines(out, lines),

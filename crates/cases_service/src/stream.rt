@@ -46,4 +46,15 @@ mod watched;
 mod words;
 mod writing;
 
-pub use crate::stream::cases::Cases;
+use crate::stream::cases::Cases;
+use std::alloc::Global;
+use std::io::{self, Write};
+use support_cases::answer_lines;
+
+/// Prints the answers to the lines of this topic.
+pub fn answer<W: Write>(alloc: Global, out: &mut W, lines: &str) -> io::Result<()> {
+    let mut cases = Cases::new(alloc);
+    let printed = answer_lines(alloc, out, &mut cases, lines);
+    drop(cases);
+    printed
+}

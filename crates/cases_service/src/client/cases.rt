@@ -75,10 +75,10 @@ impl Cases {
 
     fn set_world(&mut self, alloc: Global, text: &str) -> io::Result<()> {
         self.set_client(alloc, text)?;
-        let world = World::start(alloc, self.client.as_str(), -1, Tally::new())?;
-        drop(mem::replace(&mut self.world, Some(world)));
         drop(mem::replace(&mut self.sent, Vec::new(alloc)));
         self.words = Counting::new();
+        let world = World::start(alloc, self.client.as_str(), -1, Tally::new())?;
+        drop(self.world.replace(world));
         Ok(())
     }
 
@@ -122,9 +122,8 @@ impl Cases {
             return Err(no_case());
         };
         let reply = reply_of(alloc, world, self.answered, sent.message.as_slice())?;
-        let told = reply_line(alloc, sent, &reply);
         drop(mem::replace(&mut self.reply, reply));
-        told
+        reply_line(alloc, sent, &self.reply)
     }
 
     fn kvno(&self, alloc: Global, name: &str) -> io::Result<String> {

@@ -4,10 +4,27 @@ use chpw_invocation::{ClientOptions, Invocation, PasswordSource, ServeOptions};
 use std::alloc::{AllocError, Global};
 
 /// The command, with its options in brackets.
-pub fn invocation_text(alloc: Global, asked: Invocation<'_>) -> Result<String, AllocError> {
+pub fn invocation_text(alloc: Global, asked: &Invocation<'_>) -> Result<String, AllocError> {
     match asked {
         Invocation::Drill => String::from_str(alloc, "drill"),
         Invocation::Check { config } => format!(in alloc; "check {config:?}"),
+        Invocation::Serve(it) => serve_text(alloc, it),
+        Invocation::Control(it) => {
+            let order = (it.socket, it.command.word(), it.command.file());
+            format!(in alloc; "control {order:?}")
+        }
+        Invocation::Client(it) => client_text(alloc, it),
+        Invocation::Table(_)
+        | Invocation::Import(_)
+        | Invocation::ImportKdc(_)
+        | Invocation::Key(_)
+        | Invocation::NewJournal(_) => file_text(alloc, asked),
+    }
+}
+
+// A command that makes a file or a text.
+fn file_text(alloc: Global, asked: &Invocation<'_>) -> Result<String, AllocError> {
+    match asked {
         Invocation::Table(it) => {
             format!(in alloc; "table {:?}", (it.config, it.journal, it.form))
         }
@@ -19,22 +36,13 @@ pub fn invocation_text(alloc: Global, asked: Invocation<'_>) -> Result<String, A
         }
         Invocation::Key(it) => {
             let who = (it.realm, it.name, it.password_file);
-            format!(in alloc;
-                "key {who:?} iterations, kvno {:?}",
-                (it.iterations, it.kvno)
-            )
+            let key = (it.iterations, it.kvno);
+            format!(in alloc; "key {who:?} iterations, kvno {key:?}")
         }
         Invocation::NewJournal(it) => {
             format!(in alloc; "new-journal {:?}", (it.config, it.journal, it.resume))
         }
-        Invocation::Serve(it) => serve_text(alloc, &it),
-        Invocation::Control(it) => {
-            format!(in alloc;
-                "control {:?}",
-                (it.socket, it.command.word(), it.command.file())
-            )
-        }
-        Invocation::Client(it) => client_text(alloc, &it),
+        _ => String::from_str(alloc, "another command"),
     }
 }
 
@@ -56,6 +64,14 @@ fn serve_text(alloc: Global, it: &ServeOptions<'_>) -> Result<String, AllocError
     let files = (it.config, it.journal, it.seed);
     let others = (it.log, it.resume, it.control);
     let work = (it.port, it.workers, it.connections);
+    let mut text = format!(in alloc;
+        "serve {files:?} log, resume, control {others:?} port, workers, connections {work:?}"
+    )?;
+    put_limits(&mut text, it)?;
+    Ok(text)
+}
+
+fn put_limits(text: &mut String, it: &ServeOptions<'_>) -> Result<(), AllocError> {
     let limits = (it.idle, it.clients, it.clients_per_peer, it.buffers);
     let kdc = (it.kdc, it.kdc_wait, it.require_kdc);
     let strict = (
@@ -65,8 +81,8 @@ fn serve_text(alloc: Global, it: &ServeOptions<'_>) -> Result<String, AllocError
         it.existing_journal,
     );
     let more = (it.raise, it.udp, it.listen.as_slice());
-    format!(in alloc;
-        "serve {files:?} log, resume, control {others:?} port, workers, connections {work:?} limits {limits:?} kdc {kdc:?} \
-        strict {strict:?} raise, udp, addresses {more:?}"
+    write!(
+        text,
+        " limits {limits:?} kdc {kdc:?} strict {strict:?} raise, udp, addresses {more:?}"
     )
 }

@@ -25,11 +25,12 @@ pub struct Cases {
 
 impl Answers for Cases {
     fn answer(&mut self, alloc: Global, case: &str) -> io::Result<String> {
-        match case.split_once(' ') {
-            Some(("|", text)) => self.add_line(text)?,
-            Some(("world", text)) => self.set_world(alloc, text)?,
-            Some(("message", text)) => return self.add_message(alloc, text),
-            Some(("words", text)) => return words::answer(alloc, text),
+        let (kind, text) = case.split_once(' ').unwrap_or((case, ""));
+        match kind {
+            "|" => self.add_line(text)?,
+            "world" => self.set_world(alloc, text)?,
+            "message" => return self.add_message(alloc, text),
+            "words" => return words::answer(alloc, text),
             _ => return self.of_stream(alloc, case),
         }
         Ok(String::from_str(alloc, case)?)
@@ -78,7 +79,7 @@ impl Cases {
         };
         let (kind, how) = head.split_once(' ').unwrap_or((head, ""));
         match kind {
-            "written" => written_text(alloc, &self.setting, How::of(how), text),
+            "written" => written_text(alloc, &self.setting, &How::of(how), text),
             "repeated" => result_repeated(alloc, &self.setting, how, text),
             _ => self.of_messages(alloc, head, &self.messages_named(alloc, text)?),
         }
@@ -89,13 +90,13 @@ impl Cases {
         let setting = &self.setting;
         let (change, how) = head.split_once(", ").unwrap_or((head, ""));
         if let Some(change) = Change::of(change) {
-            return varied_message(alloc, setting, change, How::of(how), messages);
+            return varied_message(alloc, setting, change, &How::of(how), messages);
         }
         let (kind, how) = head.split_once(' ').unwrap_or((head, ""));
         match kind {
             "answered" | "looks" => answers_text(alloc, setting, how, messages, kind == "looks"),
             "wanting" => wanting(alloc, setting, how, messages),
-            _ => of_peers(alloc, setting, kind, How::of(how), messages),
+            _ => of_peers(alloc, setting, kind, &How::of(how), messages),
         }
     }
 
@@ -117,7 +118,7 @@ fn of_peers(
     alloc: Global,
     setting: &Setting,
     kind: &str,
-    how: How,
+    how: &How,
     messages: &[&Message],
 ) -> io::Result<String> {
     match kind {

@@ -42,12 +42,21 @@ pub fn answers_text(
 ) -> io::Result<String> {
     let World { service, alone } = setting.start(alloc)?;
     let mut decider = Watched::of(alloc, alone, mood_of(who));
+    let text = asked_text(alloc, &service, &mut decider, messages, looks);
+    drop((service, decider));
+    text
+}
+
+fn asked_text(
+    alloc: Global,
+    service: &Service,
+    decider: &mut Watched<MemorySink>,
+    messages: &[&Message],
+    looks: bool,
+) -> io::Result<String> {
     let mut text = String::new(alloc);
-    let shown = show_answers(alloc, &mut text, &service, &mut decider, messages);
-    drop(service);
-    shown?;
-    show_asked(&mut text, &decider, looks)?;
-    drop(decider);
+    show_answers(alloc, &mut text, service, decider, messages)?;
+    show_asked(&mut text, decider, looks)?;
     Ok(text)
 }
 

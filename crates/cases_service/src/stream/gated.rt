@@ -3,6 +3,7 @@
 use crate::stream::messages::Message;
 use crate::stream::serving::{How, ended_text, serve_by, stream_of};
 use crate::stream::setting::Setting;
+use chpw_journal::MemorySink;
 use chpw_serve::{Ended, Gate, Observer, Spot};
 use chpw_table::{Event, Moment, Opened, Receipt};
 use krb_protocol::Refusal;
@@ -69,7 +70,7 @@ fn host_of(peer: IpAddr) -> u8 {
 pub fn gated(
     alloc: Global,
     setting: &Setting,
-    how: How,
+    how: &How,
     messages: &[&Message],
 ) -> io::Result<String> {
     let stream = stream_of(alloc, messages)?;
@@ -86,16 +87,27 @@ fn serve_past(
     alloc: Global,
     gate: &mut Noting,
     setting: &Setting,
-    how: How,
+    how: &How,
     stream: &[u8],
 ) -> io::Result<Ended> {
-    let World { service, mut alone } = setting.start(alloc)?;
+    let mut world = setting.start(alloc)?;
+    let ended = serve_gated(alloc, gate, &mut world, how, stream);
+    drop(world);
+    Ok(ended)
+}
+
+fn serve_gated(
+    alloc: Global,
+    gate: &mut Noting,
+    world: &mut World<MemorySink>,
+    how: &How,
+    stream: &[u8],
+) -> Ended {
     let how = How {
         reader: Way::of(""),
         writer: how.reader,
-        ..how
+        ..*how
     };
-    let outcome = serve_by(alloc, &service, &mut alone, gate, how, stream);
-    drop((service, alone));
-    Ok(outcome.ended)
+    let World { service, alone } = world;
+    serve_by(alloc, service, alone, gate, &how, stream).ended
 }

@@ -19,7 +19,7 @@ pub fn result_repeated(
         return Err(no_case());
     };
     let stream = copies(alloc, text, times.parse().unwrap_or(0))?;
-    let (outcome, holding) = serve_anew(alloc, setting, How::of(how), &stream)?;
+    let (outcome, holding) = serve_anew(alloc, setting, &How::of(how), &stream)?;
     outcome_text(alloc, &outcome, holding)
 }
 

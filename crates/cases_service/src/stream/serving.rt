@@ -47,35 +47,24 @@ pub struct Outcome {
     pub unread: usize,
 }
 
-/// A stream's reader.
-fn reader_of(how: How, stream: &[u8]) -> Giver<'_> {
-    Giver {
-        left: stream,
-        course: Course::start(how.reader),
-    }
-}
-
-/// A stream's writer.
-fn writer_of(alloc: Global, how: How) -> Taker {
-    Taker {
-        taken: Vec::new(alloc),
-        course: Course::start(how.writer),
-    }
-}
-
 /// Serves a stream by any decider and past any gate, with any maker of messages.
 pub fn serve_by<M: Messages, D: Decider, G: Gate + Observer>(
     alloc: Global,
     messages: &M,
     decider: &mut D,
     gate: &mut G,
-    how: How,
+    how: &How,
     stream: &[u8],
 ) -> Outcome {
-    let mut reader = reader_of(how, stream);
-    let mut writer = writer_of(alloc, how);
+    let mut reader = Giver {
+        left: stream,
+        course: Course::start(how.reader),
+    };
+    let mut writer = Taker {
+        taken: Vec::new(alloc),
+        course: Course::start(how.writer),
+    };
     let mut clock = how.clock;
-    let mut words = Counting::new();
     let ended = serve_stream(
         alloc,
         messages,
@@ -85,7 +74,7 @@ pub fn serve_by<M: Messages, D: Decider, G: Gate + Observer>(
         decider,
         gate,
         &mut clock,
-        &mut words,
+        &mut Counting::new(),
     );
     Outcome {
         written: writer.taken,
@@ -107,14 +96,25 @@ pub fn stream_of(alloc: Global, messages: &[&Message]) -> io::Result<Vec<u8>> {
 pub fn serve_anew(
     alloc: Global,
     setting: &Setting,
-    how: How,
+    how: &How,
     stream: &[u8],
 ) -> io::Result<(Outcome, Holding)> {
-    let World { service, mut alone } = setting.start(alloc)?;
-    let outcome = serve_by(alloc, &service, &mut alone, &mut NoGate, how, stream);
-    let served = with_holding(alloc, outcome, &alone);
-    drop((service, alone));
+    let mut world = setting.start(alloc)?;
+    let served = serve_in(alloc, &mut world, how, stream);
+    drop(world);
     served
+}
+
+/// Serves a stream in this world.
+fn serve_in(
+    alloc: Global,
+    world: &mut World<MemorySink>,
+    how: &How,
+    stream: &[u8],
+) -> io::Result<(Outcome, Holding)> {
+    let World { service, alone } = world;
+    let outcome = serve_by(alloc, service, alone, &mut NoGate, how, stream);
+    with_holding(alloc, outcome, alone)
 }
 
 /// The result of a stream, with what a table holds.
@@ -131,7 +131,7 @@ pub fn with_holding(
 pub fn served_text(
     alloc: Global,
     setting: &Setting,
-    how: How,
+    how: &How,
     messages: &[&Message],
 ) -> io::Result<String> {
     served_as(alloc, setting, how, messages, &stream_of(alloc, messages)?)
@@ -141,7 +141,7 @@ pub fn served_text(
 pub fn served_as(
     alloc: Global,
     setting: &Setting,
-    how: How,
+    how: &How,
     messages: &[&Message],
     stream: &[u8],
 ) -> io::Result<String> {

@@ -23,14 +23,19 @@ impl Setting {
     pub fn start(&self, alloc: Global) -> io::Result<World<MemorySink>> {
         let sink = MemorySink::new(alloc, JOURNAL)?;
         let world = World::start(alloc, self.config.as_str(), self.quiet_until, sink)?;
-        if !self.rfc3244_only {
-            return Ok(world);
-        }
-        let World { service, alone } = world;
-        Ok(World {
-            service: service.rfc3244_only(),
-            alone,
+        Ok(if self.rfc3244_only {
+            rfc3244_only(world)
+        } else {
+            world
         })
+    }
+}
+
+fn rfc3244_only(world: World<MemorySink>) -> World<MemorySink> {
+    let World { service, alone } = world;
+    World {
+        service: service.rfc3244_only(),
+        alone,
     }
 }
 

@@ -15,7 +15,7 @@ pub fn varied_message(
     alloc: Global,
     setting: &Setting,
     change: Change,
-    how: How,
+    how: &How,
     messages: &[&Message],
 ) -> io::Result<String> {
     let [message] = messages else {
@@ -34,7 +34,7 @@ fn result_at(
     alloc: Global,
     setting: &Setting,
     change: Change,
-    how: How,
+    how: &How,
     message: &Message,
     place: usize,
 ) -> io::Result<String> {
@@ -48,7 +48,7 @@ fn result_at(
 fn result_of_bytes(
     alloc: Global,
     setting: &Setting,
-    how: How,
+    how: &How,
     message: &Message,
     bytes: &[u8],
 ) -> io::Result<String> {
@@ -70,16 +70,16 @@ pub enum Variation {
 
 impl Variation {
     /// How a stream is served at this place, and what of it is read.
-    fn at(self, how: How, stream: &[u8], place: usize) -> (How, &[u8]) {
+    fn at<'a>(self, how: &How, stream: &'a [u8], place: usize) -> (How, &'a [u8]) {
         match self {
-            Variation::Ending => (how, stream.get(..place).unwrap_or(stream)),
+            Variation::Ending => (*how, stream.get(..place).unwrap_or(stream)),
             Variation::Failing => {
                 let reader = how.reader.failing_after(place);
-                (How { reader, ..how }, stream)
+                (How { reader, ..*how }, stream)
             }
             Variation::Taking => {
                 let writer = how.writer.by(place);
-                (How { writer, ..how }, stream)
+                (How { writer, ..*how }, stream)
             }
         }
     }
@@ -89,7 +89,7 @@ impl Variation {
         self,
         alloc: Global,
         setting: &Setting,
-        how: How,
+        how: &How,
         stream: &[u8],
     ) -> io::Result<Range<usize>> {
         match self {
@@ -107,14 +107,14 @@ pub fn varied_stream(
     alloc: Global,
     setting: &Setting,
     variation: Variation,
-    how: How,
+    how: &How,
     messages: &[&Message],
 ) -> io::Result<String> {
     let stream = stream_of(alloc, messages)?;
     let mut census = Census::new(alloc);
     for place in variation.places(alloc, setting, how, &stream)? {
         let (how, stream) = variation.at(how, &stream, place);
-        let answer = served_as(alloc, setting, how, messages, stream)?;
+        let answer = served_as(alloc, setting, &how, messages, stream)?;
         census.add(alloc, place, answer.as_str())?;
     }
     Ok(census.text(alloc)?)

@@ -8,7 +8,7 @@ use std::alloc::Global;
 use std::io;
 
 /// What is written when these bytes are read, how the stream ends, and what the table then holds.
-pub fn written_text(alloc: Global, setting: &Setting, how: How, text: &str) -> io::Result<String> {
+pub fn written_text(alloc: Global, setting: &Setting, how: &How, text: &str) -> io::Result<String> {
     stream_text(alloc, setting, how, &bytes_of(alloc, text)?)
 }
 
@@ -16,13 +16,13 @@ pub fn written_text(alloc: Global, setting: &Setting, how: How, text: &str) -> i
 pub fn replies_text(
     alloc: Global,
     setting: &Setting,
-    how: How,
+    how: &How,
     messages: &[&Message],
 ) -> io::Result<String> {
     stream_text(alloc, setting, how, &stream_of(alloc, messages)?)
 }
 
-fn stream_text(alloc: Global, setting: &Setting, how: How, stream: &[u8]) -> io::Result<String> {
+fn stream_text(alloc: Global, setting: &Setting, how: &How, stream: &[u8]) -> io::Result<String> {
     let (outcome, holding) = serve_anew(alloc, setting, how, stream)?;
     let written = encode(alloc, &outcome.written)?;
     let ended = ended_text(outcome.ended);
@@ -34,7 +34,7 @@ fn stream_text(alloc: Global, setting: &Setting, how: How, stream: &[u8]) -> io:
 pub fn broken(
     alloc: Global,
     setting: &Setting,
-    how: How,
+    how: &How,
     messages: &[&Message],
 ) -> io::Result<String> {
     let stream = stream_of(alloc, messages)?;
@@ -48,7 +48,7 @@ pub fn broken(
 fn fronts(
     alloc: Global,
     setting: &Setting,
-    how: How,
+    how: &How,
     stream: &[u8],
     whole: &[u8],
 ) -> io::Result<u32> {
@@ -65,11 +65,11 @@ fn fronts(
 fn breaks(
     alloc: Global,
     setting: &Setting,
-    how: How,
+    how: &How,
     stream: &[u8],
     front: &[u8],
 ) -> io::Result<bool> {
     let writer = how.writer.failing_after(front.len());
-    let (outcome, _) = serve_anew(alloc, setting, How { writer, ..how }, stream)?;
+    let (outcome, _) = serve_anew(alloc, setting, &How { writer, ..*how }, stream)?;
     Ok(ended_text(outcome.ended) == "write fault" && outcome.written.as_slice() == front)
 }
