@@ -62,7 +62,9 @@ fn request(alloc: Global) -> Result<ApReq, AllocError> {
 // The bytes of the text that was read or written `count` times.
 fn text_len(alloc: Global, writes: bool, count: u32) -> Result<usize, ReadError> {
     let request = request(alloc)?;
-    text_len_of(alloc, &request, writes, count)
+    let length = text_len_of(alloc, &request, writes, count);
+    drop(request);
+    length
 }
 
 fn text_len_of(
@@ -86,7 +88,7 @@ fn text_len_of(
 }
 
 fn read(alloc: Global, text: &[u8]) -> Result<(), ReadError> {
-    read_ap_req(alloc, text)?;
+    drop(read_ap_req(alloc, text)?);
     Ok(())
 }
 

@@ -38,13 +38,20 @@ pub fn measure(rt: &(impl Print + AllocGlobal), what: &str, count: u32) -> io::R
         "sha1" => print_hex(rt, &digest(count)),
         "both" => print_keys(rt, &last_keys(count)),
         "each" => print_keys(rt, &last_keys_each(count)),
-        "encrypt128" => print_hex(rt, &times_enciphered(&Aes::of(&[1; 16]), count)),
-        "encrypt256" => print_hex(rt, &times_enciphered(&Aes::of(&[1; 32]), count)),
-        "decrypt128" => print_hex(rt, &times_deciphered(&Aes::of(&[1; 16]), count)),
-        "decrypt256" => print_hex(rt, &times_deciphered(&Aes::of(&[1; 32]), count)),
         "unseal" => rt.println(unsealed_count(rt.alloc(), count)?),
-        _ => Err(no_such()),
+        _ => measure_cipher(rt, what, count),
     }
+}
+
+fn measure_cipher(rt: &impl Print, what: &str, count: u32) -> io::Result<()> {
+    let block = match what {
+        "encrypt128" => times_enciphered(&Aes::of(&[1; 16]), count),
+        "encrypt256" => times_enciphered(&Aes::of(&[1; 32]), count),
+        "decrypt128" => times_deciphered(&Aes::of(&[1; 16]), count),
+        "decrypt256" => times_deciphered(&Aes::of(&[1; 32]), count),
+        _ => return Err(no_such()),
+    };
+    print_hex(rt, &block)
 }
 
 fn print_hex(rt: &impl Print, bytes: &[u8]) -> io::Result<()> {

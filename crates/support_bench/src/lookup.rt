@@ -111,8 +111,11 @@ where
     };
     let figures = figures(rt, rt.alloc(), &desk, &mut passes, hold, wanted);
     desk.abandon(rt);
-    let [alone, four, beside] = figures?;
-    let unit = if wanted.counts { "found" } else { "ns" };
+    print_figures(rt, figures?, if wanted.counts { "found" } else { "ns" })
+}
+
+fn print_figures(rt: &impl Print, figures: [u128; 3], unit: &str) -> io::Result<()> {
+    let [alone, four, beside] = figures;
     println!(rt; "lookup {alone} {unit}, four {four} {unit}, beside a held lock {beside} {unit}")
 }
 

@@ -45,14 +45,20 @@ fn task_of<R: Env + AllocGlobal>(rt: &R) -> io::Result<Option<Task>> {
     let (Some(part), Some(what)) = (words.next(), words.next()) else {
         return Ok(None);
     };
-    let count = words.next().and_then(|word| word.as_str().parse().ok());
-    let further = words.next().and_then(|word| word.as_str().parse().ok());
     Ok(Some(Task {
         part,
         what,
-        count: count.unwrap_or(1),
-        further: further.unwrap_or(1),
+        count: number_of(words.next()),
+        further: number_of(words.next()),
     }))
+}
+
+// The number that a word spells, 1 if it spells none or there is none.
+fn number_of(word: Option<String>) -> u32 {
+    match word {
+        Some(word) => word.as_str().parse().unwrap_or(1),
+        None => 1,
+    }
 }
 
 // Each part but `serve`, as the gate does.
@@ -105,12 +111,28 @@ where
         "der" => der::measure(rt, what, count),
         "open" => measure_open(rt, count),
         "stream" => measure_stream(rt, what, count),
-        "lookup" => lookup::measure(rt, what, u16::try_from(count).map_err(|_| no_such())?),
-        "serve" => {
-            let port = what.parse().map_err(|_| no_such())?;
-            let clients = u8::try_from(count).map_err(|_| no_such())?;
-            serve::measure(rt, port, clients, task.further)
-        }
+        "lookup" => measure_lookup(rt, what, count),
+        "serve" => measure_serve(rt, what, count, task.further),
+        _ => Err(no_such()),
+    }
+}
+
+fn measure_lookup<R>(rt: &R, what: &str, count: u32) -> io::Result<()>
+where
+    R: Threads + Wait + Clock + Print + AllocGlobal + Sync,
+{
+    match u16::try_from(count) {
+        Ok(principals) => lookup::measure(rt, what, principals),
+        Err(_) => Err(no_such()),
+    }
+}
+
+fn measure_serve<R>(rt: &R, port: &str, count: u32, changes: u32) -> io::Result<()>
+where
+    R: Net<Stream = TcpStream> + Threads + Clock + Print + AllocGlobal + Sync,
+{
+    match (port.parse(), u8::try_from(count)) {
+        (Ok(port), Ok(clients)) => serve::measure(rt, port, clients, changes),
         _ => Err(no_such()),
     }
 }

@@ -3,7 +3,7 @@
 
 use crate::no_such;
 use krb_keys::Key;
-use krb_msgs::{ServiceKey, Strictness, open_ap, open_priv};
+use krb_msgs::{ApOpened, ServiceKey, Strictness, open_ap, open_priv};
 use std::alloc::Global;
 use std::io;
 use std::net::{IpAddr, Ipv4Addr};
@@ -19,9 +19,18 @@ const PEER: IpAddr = IpAddr::V4(Ipv4Addr::LOCALHOST);
 
 // The bytes of the user-data, where both are opened.
 fn user_len(alloc: Global, ap_req: &[u8], krb_priv: &[u8]) -> Option<usize> {
-    let keys = [SERVICE];
-    let opened = open_ap(alloc, REALM, &keys, ap_req, PEER).ok()?;
-    let private = open_priv(alloc, Strictness::Lenient, PEER, &opened, krb_priv).ok()?;
+    let Ok(opened) = open_ap(alloc, REALM, &[SERVICE], ap_req, PEER) else {
+        return None;
+    };
+    let length = private_len(alloc, &opened, krb_priv);
+    drop(opened);
+    length
+}
+
+fn private_len(alloc: Global, opened: &ApOpened, krb_priv: &[u8]) -> Option<usize> {
+    let Ok(private) = open_priv(alloc, Strictness::Lenient, PEER, opened, krb_priv) else {
+        return None;
+    };
     Some(private.user_bytes.as_slice().len())
 }
 

@@ -64,7 +64,9 @@ pub fn measure(
 ) -> io::Result<()> {
     let stream = stream_of(rt.alloc(), messages)?;
     let mut world = start(rt.alloc(), config)?;
-    measure_of(rt, what, &mut world, &stream)
+    let measured = measure_of(rt, what, &mut world, &stream);
+    drop(world);
+    measured
 }
 
 fn measure_of(

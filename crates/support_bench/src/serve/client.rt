@@ -78,7 +78,9 @@ pub fn requests(
     let client = format!(in alloc; "c{number}")?;
     let config = config(alloc, Vec::new(alloc), 1, 1)?;
     let mut words = WorkerWords::new([number; 32], 0);
-    requests_of(alloc, &config, client.as_str(), seconds, count, &mut words)
+    let requests = requests_of(alloc, &config, client.as_str(), seconds, count, &mut words);
+    drop(config);
+    requests
 }
 
 fn requests_of(
@@ -104,15 +106,15 @@ fn request(
     now: Moment,
     words: &mut WorkerWords,
 ) -> io::Result<SentRequest> {
-    let client = name(alloc, client)?;
-    let password = format!(in alloc; "New-pass{}", now.micros)?;
     let is_in_time = 0 <= now.seconds && now.seconds <= LAST_START && now.micros < 1_000_000;
     if !config.fits() || config.service.as_slice().is_empty() || !is_in_time {
         return Err(no_such());
     }
+    let password = format!(in alloc; "New-pass{}", now.micros)?;
     if password.len() > LONGEST_PASSWORD {
         return Err(no_such());
     }
+    let client = name(alloc, client)?;
     let password = password.as_bytes();
     Ok(client_request(
         alloc, config, now, &client, password, None, true, false, words,
