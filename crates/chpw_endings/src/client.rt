@@ -1,5 +1,5 @@
 //! `client`: one request to a service on this machine, and what its reply says.
-ghost use Rattle.std.specs.Prelude.{◌≡◌, ◌≢◌, ◌<◌, ◌≤ℤ◌, ◌<ℤ◌, ◌++◌, ◌∷◌, [], ℕ, List, pos, true, None, Some, IfErr, IfOk, IfSome, option_map};
+ghost use Rattle.std.specs.Prelude.{◌≡◌, ◌≢◌, ◌<◌, ◌≤◌, ◌≤ℤ◌, ◌<ℤ◌, ◌++◌, ◌∷◌, [], ℕ, List, pos, true, None, Some, IfErr, IfOk, IfSome, OnOk, length, option_map};
 ghost use Rattle.std.specs.Io.KnownBytes.{Appends};
 ghost use Rattle.chpw_client.specs.Lines.{IsLine};
 ghost use Rattle.chpw_frame.specs.Receiving.{IsReceived};
@@ -65,8 +65,7 @@ where
     request_of(rt, options, &client, &target, password.as_slice())
 }
 
-// The request of this client with this target and password, made with the first stream of the seed's words.
-#[tactic(auto, using(crate::proofs::AskingLemmas::asks))]
+// The request of this client with this target and password, at the machine's moment and under the configuration.
 fn request_of<'a, R>(
     rt: &R,
     options: ClientOptions<'a>,
@@ -90,6 +89,34 @@ where
     }
     let now = moment(rt)?;
     let config = settings(rt, options.config)?;
+    request_under(rt, options, &config, now, client, target, password)
+}
+
+// The request under a configuration, made with the first stream of the seed's words.
+#[tactic(auto, using(crate::proofs::AskingLemmas::asks))]
+fn request_under<'a, R: Files<File = File> + AllocGlobal>(
+    rt: &R,
+    options: ClientOptions<'a>,
+    config: &Config,
+    now: Moment,
+    client: &Name,
+    target: &Option<Name>,
+    password: &[u8],
+) -> Result<SentRequest, Ending<'a>>
+    requires fits { config_fits config.now ≡ true }
+    requires start { pos 0 ≤ℤ now.seconds }
+    requires end { now.seconds ≤ℤ pos latest_second }
+    requires micros { now.micros < 1000000 }
+    requires client { is_name client.now ≡ true }
+    requires target { IfSome target.now (λ name. is_name name ≡ true) }
+    requires own { options.old ≡ true → target.now ≡ None }
+    requires named { name_in options.client.now ≡ Some client.now }
+    requires aimed { Names (option_map (λ t. t.now) options.target) target.now }
+    requires given { IsPassword options.password password.now }
+    requires short { length password.now ≤ LONGEST_PASSWORD }
+    ensures asks { IfOk result (Asks options.entry) }
+    ensures early { IfErr result IsUnasked }
+{
     let seed = seed_of(rt, options.seed)?;
     if config.service.as_slice().is_empty() {
         return Err(Ending::BadArgument);
@@ -97,7 +124,7 @@ where
     let mut words = WorkerWords::new(seed, 0);
     let sent = client_request(
         rt.alloc(),
-        &config,
+        config,
         now,
         client,
         password,
@@ -278,14 +305,20 @@ fn tell_reply<'a, W: Write>(
     match client_line(alloc, sent, reply) {
         Err(_) => Ending::Early(DrillFault::Memory),
         Ok(None) => Ending::Unanswered,
-        Ok(Some((line, status))) => {
-            if out.write_all(line.as_slice()).is_err() || out.write_all(b"\n").is_err() {
-                Ending::Early(DrillFault::Write)
-            } else if status == 0 {
-                Ending::Good
-            } else {
-                Ending::Refused
-            }
-        }
+        Ok(Some((line, status))) => match put_line(line.as_slice(), out) {
+            Err(fault) => Ending::Early(fault),
+            Ok(()) if status == 0 => Ending::Good,
+            Ok(()) => Ending::Refused,
+        },
     }
+}
+
+// Writes a line.
+fn put_line<W: Write>(line: &[u8], out: &mut W) -> Result<(), DrillFault>
+    ensures written { OnOk result (Appends (W.contents out.old) (W.contents out.new) (line.now ++ 10 ∷ [])) }
+{
+    if out.write_all(line).is_err() || out.write_all(b"\n").is_err() {
+        return Err(DrillFault::Write);
+    }
+    Ok(())
 }

@@ -12,7 +12,7 @@ use std::fs::{File, Files};
 use std::str;
 
 /// The configuration and the journal that a command reads.
-#[derive(Clone, Copy, Drop)]
+#[derive(Drop)]
 struct JournalFiles<'a> {
     config: &'a str,
     journal: &'a str,
@@ -27,11 +27,26 @@ pub fn journal_reason<'a, R: Files<File = File> + AllocGlobal>(
 ) -> Option<Reason<'a>> {
     let fault = journal_fault(ending)?;
     let JournalFiles { config, journal } = files_of(rt.alloc(), words)?;
+    let line = line_of(rt, config, journal, fault)?;
+    Some(Reason::InWords(journal, line))
+}
+
+// What the journal says at this fault under the configuration in a file, if more can be told.
+fn line_of<R: Files<File = File> + AllocGlobal>(
+    rt: &R,
+    config: &str,
+    journal: &str,
+    fault: RestoreFault,
+) -> Option<String> {
     let text = read_configuration(rt, config).ok()?;
     let explanation = explain_journal(rt, &text, journal, fault)?;
     let line = explanation_line(rt.alloc(), &explanation).ok()?;
-    let line = String::from_str(rt.alloc(), str::from_utf8(&line).ok()?).ok()?;
-    Some(Reason::InWords(journal, line))
+    text_of(rt.alloc(), &line)
+}
+
+// The text of these bytes, if they are one and there is memory for it.
+fn text_of(alloc: Global, bytes: &[u8]) -> Option<String> {
+    String::from_str(alloc, str::from_utf8(bytes).ok()?).ok()
 }
 
 // The fault of a journal with which a run ended, if it did.

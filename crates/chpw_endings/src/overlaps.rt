@@ -5,7 +5,7 @@ ghost use Rattle.chpw_endings.specs.Overlaps.{Takes};
 use std::net::IpAddr;
 
 /// Two addresses, of which the first takes what comes to the second, too.
-#[derive(Clone, Copy, Drop)]
+#[derive(Drop)]
 pub(crate) struct Overlap {
     pub wildcard: IpAddr,
     pub other: IpAddr,

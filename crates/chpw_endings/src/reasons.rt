@@ -137,7 +137,7 @@ impl<'a> Named<'a> {
 }
 
 // What is looked at for a reason.
-#[derive(Clone, Copy, Drop)]
+#[derive(Drop)]
 enum Cause<'a> {
     // This file couldn't be read.
     Unread(&'a str),
@@ -212,24 +212,37 @@ fn of_file<'a, R: Files<File = File>>(
     path: &'a str,
     named: &Named<'a>,
 ) -> Option<Reason<'a>> {
-    let metadata = match fs::metadata(rt, path) {
-        Ok(metadata) => metadata,
-        Err(error) => return of_error(path, error.kind()),
-    };
-    let reason = of_type(path, metadata.is_dir(), metadata.is_file());
-    if reason.is_some() {
-        return reason;
+    match fs::metadata(rt, path) {
+        Err(error) => of_error(path, error.kind()),
+        Ok(metadata) if metadata.is_file() => of_regular(rt, path, metadata.len(), named),
+        Ok(metadata) => of_type(path, metadata.is_dir(), false),
     }
-    if named.seed == Some(path) && is_short(metadata.len()) {
-        return Some(Reason::Short(path));
+}
+
+// Why a regular file with so many bytes can't be read.
+fn of_regular<'a, R: Files<File = File>>(
+    rt: &R,
+    path: &'a str,
+    length: u64,
+    named: &Named<'a>,
+) -> Option<Reason<'a>> {
+    if named.seed == Some(path) && is_short(length) {
+        Some(Reason::Short(path))
+    } else if named.config == Some(path) && is_long(length) {
+        Some(Reason::Long(path))
+    } else {
+        unopened(rt, path, named.locked == Some(path))
     }
-    if named.config == Some(path) && is_long(metadata.len()) {
-        return Some(Reason::Long(path));
-    }
+}
+
+// Why a file can't be opened, or not be locked if it is to be.
+fn unopened<'a, R: Files<File = File>>(
+    rt: &R,
+    path: &'a str,
+    is_locked: bool,
+) -> Option<Reason<'a>> {
     match File::open(rt, path) {
-        Ok(file) if named.locked == Some(path) && file.try_lock().is_err() => {
-            Some(Reason::Held(path))
-        }
+        Ok(file) if is_locked && file.try_lock().is_err() => Some(Reason::Held(path)),
         Ok(_) => None,
         Err(error) => of_error(path, error.kind()),
     }
