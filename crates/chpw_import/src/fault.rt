@@ -58,7 +58,7 @@ impl fmt::Display for KeysFault<'_> {
 }
 
 /// A keytab's fault, in words.
-#[derive(Clone, Copy, Drop)]
+#[derive(Drop)]
 struct KeytabWords(KeytabFault);
 
 impl fmt::Display for KeytabWords {

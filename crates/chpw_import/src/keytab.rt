@@ -29,7 +29,7 @@ pub struct KeytabImport {
 }
 
 /// Why nothing is imported.
-#[derive(Clone, Copy, PartialEq, Eq, Debug, Drop)]
+#[derive(Clone, Copy, Drop)]
 pub enum ImportFault {
     /// The keytab has this fault.
     Keytab(KeytabFault),

@@ -11,7 +11,7 @@ use krb_keytab::KeytabEntry;
 use std::alloc::{AllocError, Global};
 
 /// Why an entry is skipped, in the order of the checks.
-#[derive(Clone, Copy, PartialEq, Eq, Debug, Drop)]
+#[derive(Clone, Copy, Drop)]
 pub enum Reason {
     /// It is of another realm.
     OtherRealm,
@@ -36,7 +36,7 @@ pub enum Reason {
 }
 
 /// A skipped entry: the index-th of the file, from 0.
-#[derive(Clone, Copy, PartialEq, Eq, Debug, Drop)]
+#[derive(Clone, Copy, Drop)]
 pub struct SkippedEntry {
     pub index: usize,
     pub why: Reason,

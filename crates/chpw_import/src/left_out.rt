@@ -18,7 +18,7 @@ use std::alloc::{AllocError, Global};
 use std::collections::BTreeMap;
 
 /// What is used of a keytab: its table, and the rows that it gives, the principals in the order of their names.
-#[derive(Clone, Copy, Drop)]
+#[derive(Drop)]
 pub(crate) struct UsableKeys<'a> {
     pub table: &'a Table,
     pub service: &'a [ServiceRow],

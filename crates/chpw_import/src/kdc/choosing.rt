@@ -9,7 +9,7 @@ use chpw_rules::{Items, KVNOS, KeyBytes, Name, NamePatterns, PRINCIPAL_COUNTS, P
 use std::alloc::{AllocError, Global};
 
 /// Why a principal isn't imported, in the order of the checks.
-#[derive(Clone, Copy, PartialEq, Eq, Debug, Drop)]
+#[derive(Clone, Copy, Drop)]
 pub enum LeftReason {
     /// The agent doesn't tell its keys.
     Untold(Reason),
