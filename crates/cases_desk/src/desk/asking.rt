@@ -1,4 +1,6 @@
 //! Requests of clients, and what they print for the replies.
+ghost use Rattle.std.specs.Prelude.{◌≡◌, true};
+ghost use Rattle.chpw_rules.specs.Fitting.{config_fits};
 
 use crate::desk::words::{first_word, no_case, number};
 use chpw_client::{LAST_START, LONGEST_PASSWORD, SentRequest, client_line, client_request};
@@ -46,7 +48,9 @@ fn request_under(
     now: Moment,
     client: &str,
     password: &str,
-) -> io::Result<SentRequest> {
+) -> io::Result<SentRequest>
+    requires fits { config_fits config.now ≡ true }
+{
     if now.seconds < 0
         || now.seconds > LAST_START
         || now.micros >= 1_000_000
