@@ -214,11 +214,7 @@ fn turn_running(alloc: Global, drill: Drill, line: Line) -> Result<Option<Turn>,
 }
 
 // What the machine prints for a line; none for one that stands before `open` alone.
-fn output_of(
-    alloc: Global,
-    drill: &mut Drill,
-    line: Line,
-) -> Result<Option<Items<u8>>, TurnFault>
+fn output_of(alloc: Global, drill: &mut Drill, line: Line) -> Result<Option<Items<u8>>, TurnFault>
     requires moment { FitsLine line }
     ensures value { IfOk result (λ found. (m : Machine) → Runs drill.old m
         → IsTurn (option_map (running_turn drill.new) found) (turn_running m line)) }
