@@ -1,9 +1,8 @@
 """Which modules of a crate's proof take how long, from nothing and with one processor.
 
-The prover makes modules of each function and checks them one after the other. `Lts` has the states that the borrow checker goes
-through: one for each point of the function, with the types of all that is alive there. So the function that keeps a large value
-while it makes many calls, or returns early often, is the one to part: lend the value to a function of its own. `Proof` has the
-goals, `Layout` the sizes, `Tie` and `Link` what joins a function with those that it calls.
+The prover makes modules of each function and checks them one after the other. Where `Lts` is dear, the function mostly keeps a
+large value while it makes many calls, or returns early often: part it, and lend the value. Measure again, since a function more
+may cost more than it saves. `Proof` has the goals.
 
 A module's file is written once it is checked, so the time between two files is that of the later one. The libraries below the
 crate have to be proved in this checkout, as by `./prove CRATE`; its own proof is made in a temporary folder, and nothing is kept.
