@@ -4,7 +4,7 @@
     python3 -m tools.believe chpw_book Desk::close legal        one or more of its clauses
     python3 -m tools.believe chpw_book RecordedTable            a type with its invariant
     python3 -m tools.believe chpw_book AtDesk as Decider        a type's instance of a trait
-    python3 -m tools.believe chpw_book Desk::close + chpw_serve answer answers
+    python3 -m tools.believe chpw_book Desk::close + chpw_serve answer_message answers
                                                      several of these
 
 Printed are the contracts, then each definition of this repository that they name, then those that these name, and so

@@ -26,7 +26,7 @@ INNER = ("tests/kdc/sssd.sh", "tests/clients/suites/")
 FOLDERS = ("tools", "trials", "harness", "tests", "bench")
 # seconds that an answer may take, on whatever machine
 PATIENCE = 300
-EVERY_CHECK = ("links", "names", "tables", "prose", "counts", "made", "reading", "lines", "replies", "rooted", "tasks", "samples", "dates",
+EVERY_CHECK = ("links", "names", "tables", "prose", "counts", "made", "reading", "lines", "replies", "printed", "rooted", "tasks", "samples", "dates",
                "papers", "versions", "widths", "first")
 
 
@@ -180,6 +180,16 @@ def in_replies(copy):
     yield r"crates/chpw_table/specs/Replies\.antt: docs/PROTOCOL\.md lacks the answer NotNewer: 2 not newer"
 
 
+def in_printed(copy):
+    """A quotation of a manual page, a row of the frame's table, and a text in a sentence."""
+    copy.change("packaging/man/chpw_server.8", r"^\.Dq history full", lambda _: ".Dq history planted")
+    yield r"packaging/man/chpw_server\.8:\d+: no source prints history planted"
+    copy.change("docs/PROTOCOL.md", r"^6  bad version ", lambda _: "6  bad planting ")
+    yield r"docs/PROTOCOL\.md:\d+: no source prints bad planting"
+    copy.change("docs/PROTOCOL.md", r"error 61, `message too long`", lambda _: "error 61, `message planted`")
+    yield r"docs/PROTOCOL\.md:\d+: no source prints message planted"
+
+
 def in_commands(copy):
     for command in ("cp planted.toml /var/lib/boddrelyn/", "runuser -u boddrelyn -- true > /run/boddrelyn/planted"):
         copy.append("docs/ADMIN.md", f"```sh\n{command}\n```")
@@ -203,7 +213,7 @@ def planted(program):
     """Each fault that has to be found, and whether it is."""
     with tempfile.TemporaryDirectory(prefix="documents-") as top:
         copy = Copy(top)
-        kinds = [in_words, in_counts, in_tables, in_made, in_sources, in_first_lines, in_replies, in_commands, in_tasks]
+        kinds = [in_words, in_counts, in_tables, in_made, in_sources, in_first_lines, in_replies, in_printed, in_commands, in_tasks]
         kinds += [in_samples] * (program is not None)
         wanted = [it for kind in kinds for it in kind(copy)]
         command = [sys.executable, "-m", "tools.documents", *(["--program", program] if program else [])]

@@ -14,6 +14,7 @@ checks:
     reading   how many lines there are to read for a contract is what tools.believe prints
     lines     each line that the program prints on standard error stands in docs/ADMIN.md
     replies   the rows of PROTOCOL's decision have the codes and texts of the definition
+    printed   what the manual pages quote, and the texts of PROTOCOL's frames, stand in some source
     commands  the program's commands and options, and those for a running service, are the same wherever they are written
     pages     the manual pages in packaging/man have the options and defaults of each command's help, and no others
     rooted    no command that is printed for root meets a name that the service's user could have made
@@ -31,7 +32,7 @@ A line is printed for each fault, `PLACE: what is wrong`. tools.check shows that
 import sys
 
 from harness.command import Parser
-from tools.doccheck import (commands, counts, dates, first_lines, lines, links, made, names, pages, papers, prose, reading, replies, rooted,
+from tools.doccheck import (commands, counts, dates, first_lines, lines, links, made, names, pages, papers, printed, prose, reading, replies, rooted,
                             samples, tables, tasks, versions, widths)
 from tools.doccheck.tree import Faults, Tree
 
@@ -45,6 +46,7 @@ CHECKS = {
     "reading": reading.check,
     "lines": lines.check,
     "replies": replies.check,
+    "printed": printed.check,
     "commands": commands.check,
     "pages": pages.check,
     "rooted": rooted.check,

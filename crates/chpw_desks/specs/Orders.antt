@@ -42,11 +42,12 @@ BeginsCompaction o in_force copy (Compact compaction) = IsBase in_force compacti
 BeginsCompaction o in_force copy (Answered text) =
     (fault : CompactFault) × IsNotBegun o in_force copy fault × Refuses (compact_words fault) text.items
 
--- the log was reopened, or can't be, or isn't
+-- what others can do to the log, with strict modes; there is one
 abbrev pub IsExposedLog : ServeOptions → Option (Bor (List ℕ)) → List ℕ → Type 0
 IsExposedLog o None text = ⊥
 IsExposedLog o (Some log) text = IsExposed o log.now text
 
+-- the log was reopened, or can't be, or isn't
 abbrev pub ReopensLog : ServeOptions → Carried → Type 0
 ReopensLog o (Reload anew) = ⊥
 ReopensLog o (Compact compaction) = ⊥

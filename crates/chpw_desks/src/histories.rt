@@ -29,9 +29,7 @@ use chpw_reactor::{Engine, EngineCrew, Seat};
 use chpw_serve::WorkerWords;
 use chpw_start::{Rules, ServeFault};
 use chpw_table::{JournalSink, Table};
-use chpw_workers::{
-    AfterDesk, Context, MachineClock, NotStarted, Staff, close_desk, serve_desk as run_desk,
-};
+use chpw_workers::{AfterDesk, Context, MachineClock, NotStarted, Staff, close_desk, serve_desk};
 use std::fs::{File, Files};
 use std::marker::Brand;
 use std::sync::Wait;
@@ -63,7 +61,7 @@ pub fn serve_histories<'a, 'h, 'l, D: DeskName + Send + Sync, R: Machine, T: Clo
     let Attended {
         mut served,
         workers: mut staff,
-    } = serve_desk(context, &rules, workers, first, &mut reported)?;
+    } = attend_desk(context, &rules, workers, first, &mut reported)?;
     for _ in rt.forever() {
         if served.is_over {
             keep_where_asked(context, &served.table, &served.sink);
@@ -160,7 +158,7 @@ struct Reported {
 }
 
 /// What is left of a service's desk.
-type ServedDesk<'h, 'l, D, R, T> = AfterDesk<
+type AfterServiceDesk<'h, 'l, D, R, T> = AfterDesk<
     D,
     FileSink<File>,
     Seat<'h, R>,
@@ -194,12 +192,12 @@ fn serve_history<'a, 'h, 'l, D: DeskName + Send + Sync, R: Machine, T: Clock + S
 {
     match start_desk::<D, R>(context.rt, opening) {
         Err(_) => Err(ServeFault::Memory),
-        Ok(opened) => serve_desk(context, rules, workers, opened, reported),
+        Ok(opened) => attend_desk(context, rules, workers, opened, reported),
     }
 }
 
 // Serves at a desk, closes it and prints what it did.
-fn serve_desk<'a, 'h, 'l, D: DeskName + Send + Sync, R: Machine, T: Clock + Sync>(
+fn attend_desk<'a, 'h, 'l, D: DeskName + Send + Sync, R: Machine, T: Clock + Sync>(
     context: &'h ServiceContext<'l, R, T>,
     rules: &Rules,
     workers: Vec<ServiceWorker<'h, 'l, R, T>>,
@@ -231,12 +229,12 @@ fn serve_desk<'a, 'h, 'l, D: DeskName + Send + Sync, R: Machine, T: Clock + Sync
 fn after_close<'a, 'l, R: Wait + Print + Eprint + AllocGlobal, T>(
     context: &ServiceContext<'l, R, T>,
     left: Left<FileSink<File>>,
-    served: Result<Option<AfterClose>, NotStarted>,
+    done: Result<Option<AfterClose>, NotStarted>,
     reported: &mut Reported,
 ) -> Result<Served, ServeFault<'a>>
     ensures table { IfOk result (λ served. served.table ≡ left.table) }
     ensures sink { IfOk result (λ served. served.sink ≡ left.sink) }
-    ensures due { IfOk result (λ after. served ≡ Ok after.due) }
+    ensures due { IfOk result (λ served. done ≡ Ok served.due) }
     ensures fault { IfErr result IsLate }
 {
     let Left { tally, table, sink } = left;
@@ -247,12 +245,12 @@ fn after_close<'a, 'l, R: Wait + Print + Eprint + AllocGlobal, T>(
         context.engine.expired_count(rt),
         &mut reported.expired,
     );
-    let last = over || served.is_err();
+    let last = over || done.is_err();
     if let Err(fault) = tell_tally(rt, context.log, tally, last, &mut reported.is_lost) {
-        give_up(rt, &context.engine, served);
+        give_up(rt, &context.engine, done);
         return Err(fault);
     }
-    match served {
+    match done {
         Err(NotStarted) => Err(ServeFault::Memory),
         Ok(due) => Ok(Served {
             table,
@@ -271,7 +269,7 @@ fn serve_shift<'h, 'l, D: DeskName + Send + Sync, R: Machine, T: Clock + Sync>(
     workers: Vec<ServiceWorker<'h, 'l, R, T>>,
     opened: Opened<D>,
 ) -> (
-    ServedDesk<'h, 'l, D, R, T>,
+    AfterServiceDesk<'h, 'l, D, R, T>,
     Result<Option<AfterClose>, NotStarted>,
 )
     requires paired { vec_len opened.passes ≡ vec_len workers }
@@ -302,7 +300,7 @@ fn serve_shift<'h, 'l, D: DeskName + Send + Sync, R: Machine, T: Clock + Sync>(
         context,
         in_force: &rules.text,
     };
-    run_desk(rt, &desk_context, desk, Staff { passes, workers }, orders)
+    serve_desk(rt, &desk_context, desk, Staff { passes, workers }, orders)
 }
 
 // Whether the first pass has as many receipts as a history may have entries.

@@ -51,16 +51,15 @@ use std::str;
 use std::sync::{Mutex, Wait};
 use std::time::Clock;
 
-/// Serves so many connections at its addresses, the messages of connection i (from 0) by worker i modulo their number,
-/// one after the other. The configuration is read first, then the seed; with strict modes the start is refused then if
+/// Serves as many connections as asked for at its addresses, the messages of connection i (from 0) by worker i modulo their
+/// number, one after the other. The configuration is read first, then the seed; with strict modes the start is refused then if
 /// others may read, write or replace its files, and where the journal must exist, if it doesn't; then the log is opened if
 /// there is one, its addresses are bound, and the journal is read; then what a clean end left in the resume file is taken
 /// over, if there is one and it fits; then the iteration count of new keys is raised if that is asked for, and the service
-/// listens. A torn tail that
-/// was cut off the journal is reported on standard error. Printed are the result of the raise, `listening on
-/// ADDRESS:PORT` for each address before a connection is accepted, when the service manager is told too, and `entries N changes N` for
-/// each history: when one is full, its desk is closed, and the next one opens with the closed table and its used ids.
-/// With a control socket it carries out the commands that come there, and ends when told to stop.
+/// listens. A torn tail that was cut off the journal is reported on standard error. Printed are the result of the raise,
+/// `listening on ADDRESS:PORT` for each address before a connection is accepted, when the service manager is told too, and
+/// `entries N changes N` for each history: when one is full, its desk is closed, and the next one opens with the closed
+/// table and its used ids. With a control socket it carries out the commands that come there, and ends when told to stop.
 pub fn serve<'a, R: Machine>(rt: &R, options: ServeOptions<'a>) -> Result<(), ServeFault<'a>>
 where
     R::Dir: Send + Sync,

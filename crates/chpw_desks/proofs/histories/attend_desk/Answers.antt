@@ -4,7 +4,7 @@ use Rattle.std.proofs.lemmas.Result.{IfOk-at_ok}
 use Rattle.chpw_changelog.specs.Pens.{opening_table}
 use Rattle.chpw_desks.specs.ServiceRuns.{IsServed}
 use Rattle.chpw_desks.proofs.ServiceRunLemmas.{as_many}
-use Rattle.chpw_desks.proofs.histories.serve_desk.Goals as goal
+use Rattle.chpw_desks.proofs.histories.attend_desk.Goals as goal
 
 -- a desk gives all its workers back
 pub returns-clause-workers : goal.returns-clause-workers
