@@ -7,11 +7,11 @@
 mod census;
 mod change;
 mod fault;
-mod printing;
 mod topics;
+mod words;
 
 pub use census::Census;
 pub use change::Change;
 pub use fault::Fault;
-pub use printing::{Answers, answer_lines, refuse_lines};
-pub use topics::{Topics, print_topics};
+pub use topics::{Topics, no_topic, print_topics};
+pub use words::{bytes, bytes_with_zeros, hex_text, no_case, text_of};
