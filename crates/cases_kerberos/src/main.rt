@@ -3,7 +3,7 @@
 //! Answers cases of the Kerberos crates: keys, keytabs, DER, messages.
 //!
 //! A line on standard input that is a topic's name in brackets begins the topic, and the lines below it are cases of it;
-//! README.md lists their kinds.
+//! README.md lists their kinds. A case that can't be answered prints `refused: ` and the reason.
 #![tactic(auto)]
 
 mod der;
@@ -13,31 +13,28 @@ mod messages;
 mod refusal;
 mod words;
 
+use crate::refusal::Refusal;
 use std::alloc::Global;
-use std::io::{self, Write};
-use support_cases::{Topics, answer_lines, print_topics, refuse_lines};
+use std::io::{self, ErrorKind};
+use support_cases::{Topics, no_topic, print_topics};
 
 #[derive(Drop)]
 struct Cases;
 
 impl Topics for Cases {
-    fn has(&self, topic: &str) -> bool {
-        matches!(topic, "keys" | "keytab" | "der" | "messages")
-    }
-
-    fn print<W: Write>(
-        &mut self,
-        alloc: Global,
-        out: &mut W,
-        topic: &str,
-        lines: &str,
-    ) -> io::Result<()> {
-        match topic {
-            "keys" => answer_lines(alloc, out, &mut keys::Cases, lines),
-            "keytab" => answer_lines(alloc, out, &mut keytab::Cases, lines),
-            "der" => answer_lines(alloc, out, &mut der::Cases, lines),
-            "messages" => answer_lines(alloc, out, &mut messages::Cases, lines),
-            _ => refuse_lines(out, lines),
+    /// Want of memory ends the program.
+    fn answer(&mut self, alloc: Global, topic: &str, case: &str) -> io::Result<String> {
+        let answer = match topic {
+            "keys" => keys::answer(alloc, case),
+            "keytab" => keytab::answer(alloc, case),
+            "der" => der::answer(alloc, case),
+            "messages" => messages::answer(alloc, case),
+            _ => return no_topic(alloc),
+        };
+        match answer {
+            Ok(text) => Ok(text),
+            Err(Refusal::Memory) => Err(io::Error::from(ErrorKind::OutOfMemory)),
+            Err(refusal) => Ok(format!(in alloc; "refused: {refusal}")?),
         }
     }
 }

@@ -11,22 +11,11 @@ mod opening;
 mod showing;
 
 use crate::messages::opening::{opened_ap_req, opened_krb_priv, read_error, read_private};
-use crate::refusal::{Answer, Refusal, told};
+use crate::refusal::{Answer, Refusal};
 use std::alloc::Global;
-use std::io;
-use support_cases::Answers;
-
-#[derive(Drop)]
-pub struct Cases;
-
-impl Answers for Cases {
-    fn answer(&mut self, alloc: Global, case: &str) -> io::Result<String> {
-        told(alloc, answer(alloc, case))
-    }
-}
 
 /// The answer to a case.
-fn answer(alloc: Global, line: &str) -> Answer {
+pub fn answer(alloc: Global, line: &str) -> Answer {
     let words: Vec<&str> = line.split_whitespace().collect(alloc)?;
     let Some((kind, words)) = words.split_first() else {
         return Err(Refusal::NoSuchCase);

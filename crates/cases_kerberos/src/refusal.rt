@@ -2,21 +2,12 @@
 
 use hex::FromHexError;
 use krb_keys::{BadKey, UnsealFault};
-use std::alloc::{AllocError, Global};
-use std::io::{self, ErrorKind};
+use std::alloc::AllocError;
+use std::num::ParseIntError;
 use thiserror::Error;
 
 /// The text of an answer, or why there is none.
 pub type Answer = Result<String, Refusal>;
-
-/// What is printed for a case. Want of memory ends the program.
-pub fn told(alloc: Global, answer: Answer) -> io::Result<String> {
-    match answer {
-        Ok(text) => Ok(text),
-        Err(Refusal::Memory) => Err(io::Error::from(ErrorKind::OutOfMemory)),
-        Err(refusal) => Ok(format!(in alloc; "refused: {refusal}")?),
-    }
-}
 
 /// Why a case has no answer.
 #[derive(Debug, Drop, Error)]
@@ -50,6 +41,12 @@ pub enum Refusal {
 impl From<AllocError> for Refusal {
     fn from(_: AllocError) -> Refusal {
         Refusal::Memory
+    }
+}
+
+impl From<ParseIntError> for Refusal {
+    fn from(_: ParseIntError) -> Refusal {
+        Refusal::BadNumber
     }
 }
 

@@ -1,80 +1,105 @@
 //! Each record: its text is read, and what was read is written.
+ghost use denote.Ref.{Bor};
+ghost use Rattle.std.specs.Prelude.{◌≡◌, true};
+ghost use Rattle.krb_codec.specs.Texts.{fits};
 
-use crate::der::unread::Unread;
-use crate::der::writers::Record;
-use hex::encode;
+use krb_codec::Write;
 use krb_der::{
     ReadError, fits, read_ap_rep, read_ap_req, read_authenticator, read_authorization_data,
     read_change_passwd_data, read_checksum, read_enc_ap_rep_part, read_enc_krb_priv_part,
     read_enc_ticket_part, read_encrypted_data, read_encryption_key, read_host_address,
     read_krb_error, read_krb_priv, read_principal_name, read_ticket, read_transited_encoding,
-    text_len,
+    text_len, write_ap_rep, write_ap_req, write_authenticator, write_authorization_data,
+    write_change_passwd_data, write_checksum, write_enc_ap_rep_part, write_enc_krb_priv_part,
+    write_enc_ticket_part, write_encrypted_data, write_encryption_key, write_host_address,
+    write_krb_error, write_krb_priv, write_principal_name, write_ticket, write_transited_encoding,
 };
 use std::alloc::{AllocError, Global};
 
-/// The text of a record that was read, and the length that was told of it.
+/// The text of a record that was read.
 #[derive(Drop)]
-struct Text {
-    length: Option<usize>,
-    bytes: Vec<u8>,
+pub struct Text {
+    /// Its length, as it is told before it is written; `None` for a record that doesn't fit.
+    pub length: Option<usize>,
+    /// Nothing for a record that doesn't fit.
+    pub bytes: Vec<u8>,
 }
 
-/// The text of the value that a text spells.
-pub fn text_again(alloc: Global, record: &str, text: &[u8]) -> Result<String, Unread> {
-    Ok(encode(alloc, again(alloc, record, text)?.bytes)?)
+/// Reads the text of a record and writes what was read; `None` if there is no such record.
+pub fn again(alloc: Global, record: &str, text: &[u8]) -> Result<Option<Text>, ReadError> {
+    let again = match record {
+        "principal_name" => written(
+            alloc,
+            read_principal_name(alloc, text),
+            write_principal_name,
+        ),
+        "encrypted_data" => written(
+            alloc,
+            read_encrypted_data(alloc, text),
+            write_encrypted_data,
+        ),
+        "encryption_key" => written(
+            alloc,
+            read_encryption_key(alloc, text),
+            write_encryption_key,
+        ),
+        "host_address" => written(alloc, read_host_address(alloc, text), write_host_address),
+        "checksum" => written(alloc, read_checksum(alloc, text), write_checksum),
+        "transited_encoding" => written(
+            alloc,
+            read_transited_encoding(alloc, text),
+            write_transited_encoding,
+        ),
+        "authorization_data" => written(
+            alloc,
+            read_authorization_data(alloc, text),
+            write_authorization_data,
+        ),
+        "change_passwd_data" => written(
+            alloc,
+            read_change_passwd_data(alloc, text),
+            write_change_passwd_data,
+        ),
+        "ticket" => written(alloc, read_ticket(alloc, text), write_ticket),
+        "enc_ticket_part" => written(
+            alloc,
+            read_enc_ticket_part(alloc, text),
+            write_enc_ticket_part,
+        ),
+        "authenticator" => written(alloc, read_authenticator(alloc, text), write_authenticator),
+        "ap_req" => written(alloc, read_ap_req(alloc, text), write_ap_req),
+        "ap_rep" => written(alloc, read_ap_rep(alloc, text), write_ap_rep),
+        "enc_ap_rep_part" => written(
+            alloc,
+            read_enc_ap_rep_part(alloc, text),
+            write_enc_ap_rep_part,
+        ),
+        "krb_priv" => written(alloc, read_krb_priv(alloc, text), write_krb_priv),
+        "enc_krb_priv_part" => written(
+            alloc,
+            read_enc_krb_priv_part(alloc, text),
+            write_enc_krb_priv_part,
+        ),
+        "krb_error" => written(alloc, read_krb_error(alloc, text), write_krb_error),
+        _ => return Ok(None),
+    };
+    Ok(Some(again?))
 }
 
-/// The length of the value that a text spells, if its text is the same.
-pub fn length_again(alloc: Global, record: &str, text: &[u8]) -> Result<String, Unread> {
-    let again = again(alloc, record, text)?;
-    Ok(length_text(alloc, &again, text)?)
-}
-
-fn length_text(alloc: Global, again: &Text, text: &[u8]) -> Result<String, AllocError> {
-    match again.length {
-        Some(length) if again.bytes.as_slice() == text => format!(in alloc; "{length}"),
-        _ => String::from_str(alloc, "another text"),
-    }
-}
-
-fn again(alloc: Global, record: &str, text: &[u8]) -> Result<Text, Unread> {
-    match record {
-        "principal_name" => written(alloc, read_principal_name(alloc, text)),
-        "encrypted_data" => written(alloc, read_encrypted_data(alloc, text)),
-        "encryption_key" => written(alloc, read_encryption_key(alloc, text)),
-        "host_address" => written(alloc, read_host_address(alloc, text)),
-        "checksum" => written(alloc, read_checksum(alloc, text)),
-        "transited_encoding" => written(alloc, read_transited_encoding(alloc, text)),
-        "authorization_data" => written(alloc, read_authorization_data(alloc, text)),
-        "change_passwd_data" => written(alloc, read_change_passwd_data(alloc, text)),
-        _ => message_again(alloc, record, text),
-    }
-}
-
-/// Likewise, for messages and their sealed parts.
-fn message_again(alloc: Global, record: &str, text: &[u8]) -> Result<Text, Unread> {
-    match record {
-        "ticket" => written(alloc, read_ticket(alloc, text)),
-        "enc_ticket_part" => written(alloc, read_enc_ticket_part(alloc, text)),
-        "authenticator" => written(alloc, read_authenticator(alloc, text)),
-        "ap_req" => written(alloc, read_ap_req(alloc, text)),
-        "ap_rep" => written(alloc, read_ap_rep(alloc, text)),
-        "enc_ap_rep_part" => written(alloc, read_enc_ap_rep_part(alloc, text)),
-        "krb_priv" => written(alloc, read_krb_priv(alloc, text)),
-        "enc_krb_priv_part" => written(alloc, read_enc_krb_priv_part(alloc, text)),
-        "krb_error" => written(alloc, read_krb_error(alloc, text)),
-        _ => Err(Unread::Why("no such record")),
-    }
-}
-
-/// A record that was read, written.
-fn written<T: Record>(alloc: Global, found: Result<T, ReadError>) -> Result<Text, Unread> {
+/// A record that was read, written by its own writer.
+fn written<T: Write + Drop, W: FnOnce(Global, &T) -> Result<Vec<u8>, AllocError>>(
+    alloc: Global,
+    found: Result<T, ReadError>,
+    write: W,
+) -> Result<Text, ReadError>
+    requires { (value : Bor T) → fits T.shape (T.value value.now) ≡ true → W.pre write alloc value }
+{
     let value = found?;
-    if !fits(&value) {
-        return Err(Unread::Why("does not fit"));
-    }
-    Ok(Text {
-        length: text_len(&value),
-        bytes: value.text(alloc)?,
-    })
+    let length = text_len(&value);
+    let bytes = if fits(&value) {
+        write(alloc, &value)?
+    } else {
+        Vec::new(alloc)
+    };
+    Ok(Text { length, bytes })
 }

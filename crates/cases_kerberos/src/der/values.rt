@@ -1,8 +1,7 @@
 //! Values of records: each kind of number, and the bits of flags; and whether values can be written.
 
-use crate::der::unread::Unread;
 use krb_der::{
-    EncApRepPart, KerberosFlags, KerberosTime, Microseconds, SeqNumber, read_ap_req,
+    EncApRepPart, KerberosFlags, KerberosTime, Microseconds, ReadError, SeqNumber, read_ap_req,
     read_enc_ap_rep_part, read_encrypted_data, read_host_address, text_len,
 };
 use std::alloc::{AllocError, Global};
@@ -13,7 +12,7 @@ use std::alloc::{AllocError, Global};
 /// - `kvno` of an EncryptedData, a UInt32, or `absent`;
 /// - `ctime`, `cusec` and `seq_number` of an EncAPRepPart, the last one or `absent`;
 /// - `ap_options` of an AP-REQ, the numbers of the bits that are set.
-pub fn value_text(alloc: Global, name: &str, text: &[u8]) -> Result<Option<String>, Unread> {
+pub fn value_text(alloc: Global, name: &str, text: &[u8]) -> Result<Option<String>, ReadError> {
     let number = match name {
         "addr_type" => Some(i64::from(read_host_address(alloc, text)?.addr_type)),
         "kvno" => read_encrypted_data(alloc, text)?.kvno.map(i64::from),

@@ -3,11 +3,12 @@
 ghost use Rattle.std.specs.Prelude.{◌≤◌, ◌↔◌, IsTrue, IfOk};
 
 use crate::refusal::{Answer, Refusal};
-use crate::words::{bytes, cipher, etype, key, number, sixteen, two};
+use crate::words::{bytes, cipher, key};
+use hex::FromHex;
 use krb_aes::{BLOCK_LEN, cts_decrypt, cts_encrypt};
 use krb_keys::{
-    FOLD_MAX_LEN, PBKDF2_MAX_LEN, derive_key, hmac_sha1, nfold, pbkdf2, seal, string_to_key,
-    string_to_keys, unseal,
+    AES128_CTS_HMAC_SHA1_96, AES256_CTS_HMAC_SHA1_96, Etype, FOLD_MAX_LEN, PBKDF2_MAX_LEN,
+    derive_key, hmac_sha1, nfold, pbkdf2, seal, string_to_key, string_to_keys, unseal,
 };
 use std::alloc::Global;
 
@@ -20,7 +21,12 @@ pub fn answer(alloc: Global, line: &str) -> Answer {
     match *name {
         "aes" | "unaes" => block(alloc, *name, words),
         "cts" | "uncts" => text(alloc, *name, words),
-        "hmac" => hmac(alloc, words),
+        "hmac" => {
+            let [key, text] = words else {
+                return Err(Refusal::WordCount);
+            };
+            hexadecimal(alloc, &hmac_sha1(&bytes(alloc, key)?, &bytes(alloc, text)?))
+        }
         "pbkdf2" => stretched_bytes(alloc, words),
         "nfold" => folded_bytes(alloc, words),
         "key" | "show" => shown_key(alloc, *name, words),
@@ -38,7 +44,7 @@ fn block(alloc: Global, name: &str, words: &[&str]) -> Answer {
     let [key, block] = words else {
         return Err(Refusal::WordCount);
     };
-    let mut block = sixteen(block)?;
+    let mut block = <[u8; 16]>::from_hex(block)?;
     let cipher = cipher(alloc, key)?;
     if name == "aes" {
         cipher.encrypt_block(&mut block);
@@ -66,26 +72,17 @@ fn text(alloc: Global, name: &str, words: &[&str]) -> Answer {
     hexadecimal(alloc, &text)
 }
 
-// hmac KEY TEXT
-fn hmac(alloc: Global, words: &[&str]) -> Answer {
-    let [key, text] = words else {
-        return Err(Refusal::WordCount);
-    };
-    let (key, text) = two(alloc, key, text)?;
-    hexadecimal(alloc, &hmac_sha1(&key, &text))
-}
-
 // pbkdf2 PASSWORD SALT COUNT LENGTH
 fn stretched_bytes(alloc: Global, words: &[&str]) -> Answer {
     let [password, salt, count, length] = words else {
         return Err(Refusal::WordCount);
     };
     let count = positive(count)?;
-    let length = number(length)? as usize;
+    let length = length.parse()?;
     if length > PBKDF2_MAX_LEN {
         return Err(Refusal::BadLength);
     }
-    let (password, salt) = two(alloc, password, salt)?;
+    let (password, salt) = (bytes(alloc, password)?, bytes(alloc, salt)?);
     let mut buffer = [0; PBKDF2_MAX_LEN];
     let out = &mut buffer[..length];
     pbkdf2(&password, &salt, count, out);
@@ -97,7 +94,7 @@ fn folded_bytes(alloc: Global, words: &[&str]) -> Answer {
     let [text, bits] = words else {
         return Err(Refusal::WordCount);
     };
-    let bits = number(bits)? as usize;
+    let bits: usize = bits.parse()?;
     let text = bytes(alloc, text)?;
     let length = bits / 8;
     if bits % 8 != 0 || !is_fold_length(length) || !is_fold_length(text.len()) {
@@ -143,11 +140,16 @@ fn derived_key(alloc: Global, words: &[&str]) -> Answer {
 
 // string-to-key ETYPE PASSWORD SALT COUNT
 fn password_key(alloc: Global, words: &[&str]) -> Answer {
-    let [of_type, password, salt, count] = words else {
+    let [etype, password, salt, count] = words else {
         return Err(Refusal::WordCount);
     };
-    let (etype, count) = (etype(of_type)?, positive(count)?);
-    let (password, salt) = two(alloc, password, salt)?;
+    let etype = match etype.parse()? {
+        AES128_CTS_HMAC_SHA1_96 => Etype::Aes128,
+        AES256_CTS_HMAC_SHA1_96 => Etype::Aes256,
+        _ => return Err(Refusal::BadNumber),
+    };
+    let count = positive(count)?;
+    let (password, salt) = (bytes(alloc, password)?, bytes(alloc, salt)?);
     hexadecimal(alloc, string_to_key(etype, &password, &salt, count).bytes())
 }
 
@@ -157,7 +159,7 @@ fn password_keys(alloc: Global, words: &[&str]) -> Answer {
         return Err(Refusal::WordCount);
     };
     let count = positive(count)?;
-    let (password, salt) = two(alloc, password, salt)?;
+    let (password, salt) = (bytes(alloc, password)?, bytes(alloc, salt)?);
     let keys = string_to_keys(&password, &salt, count);
     let aes128 = hexadecimal(alloc, keys.aes128.bytes())?;
     let aes256 = hexadecimal(alloc, keys.aes256.bytes())?;
@@ -170,7 +172,8 @@ fn sealed_text(alloc: Global, words: &[&str]) -> Answer {
         return Err(Refusal::WordCount);
     };
     let key = key(alloc, etype, bytes_of_key)?;
-    let (usage, confounder) = (number(usage)?, sixteen(confounder)?);
+    let usage = usage.parse()?;
+    let confounder = <[u8; 16]>::from_hex(confounder)?;
     let plain = bytes(alloc, plain)?;
     if plain.is_empty() {
         return Err(Refusal::BadLength);
@@ -184,7 +187,7 @@ fn unsealed_text(alloc: Global, words: &[&str]) -> Answer {
         return Err(Refusal::WordCount);
     };
     let key = key(alloc, etype, bytes_of_key)?;
-    let usage = number(usage)?;
+    let usage = usage.parse()?;
     let text = bytes(alloc, text)?;
     hexadecimal(alloc, &unseal(alloc, &key, usage, &text)?)
 }
@@ -193,7 +196,7 @@ fn unsealed_text(alloc: Global, words: &[&str]) -> Answer {
 fn positive(word: &str) -> Result<u32, Refusal>
     ensures { IfOk result (λ n. 1 ≤ n) }
 {
-    match number(word)? {
+    match word.parse()? {
         0 => Err(Refusal::BadNumber),
         n => Ok(n),
     }

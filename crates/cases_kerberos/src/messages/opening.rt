@@ -2,7 +2,7 @@
 
 use crate::messages::showing::{opening_text, private_text, reading_text};
 use crate::refusal::{Answer, Refusal};
-use crate::words::{bytes, key, number};
+use crate::words::{bytes, key};
 use krb_der::{
     Bytes, KerberosFlags, KerberosTime, Microseconds, PrincipalName, SeqNumber, SequenceOf,
 };
@@ -41,14 +41,16 @@ pub fn opened_ap_req(alloc: Global, words: &[&str]) -> Answer {
         service_key(alloc, kvno, etype, key)?,
         service_key(alloc, other_kvno, other_etype, other_key)?,
     ];
-    let peer: IpAddr = peer.parse().map_err(|_| Refusal::BadNumber)?;
+    let Ok(peer) = peer.parse() else {
+        return Err(Refusal::BadNumber);
+    };
     let text = bytes(alloc, text)?;
     opening_text(alloc, open_ap(alloc, REALM, &held, &text, peer))
 }
 
 fn service_key(alloc: Global, kvno: &str, etype: &str, bytes: &str) -> Result<ServiceKey, Refusal> {
     Ok(ServiceKey {
-        kvno: number(kvno)?,
+        kvno: kvno.parse()?,
         key: key(alloc, etype, bytes)?,
     })
 }
@@ -96,8 +98,8 @@ pub fn read_private(alloc: Global, words: &[&str]) -> Answer {
         return Err(Refusal::WordCount);
     };
     let session = key(alloc, "18", session)?;
-    let ctime = KerberosTime(i64::from(number(ctime)?));
-    let cusec = Microseconds(number(cusec)?);
+    let ctime = KerberosTime(ctime.parse()?);
+    let cusec = Microseconds(cusec.parse()?);
     let (head, tail) = (bytes(alloc, head)?, bytes(alloc, tail)?);
     reading_text(
         alloc,
