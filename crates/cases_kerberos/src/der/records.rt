@@ -26,75 +26,56 @@ pub struct Text {
 }
 
 /// Reads the text of a record and writes what was read; `None` if there is no such record.
-pub fn again(alloc: Global, record: &str, text: &[u8]) -> Result<Option<Text>, ReadError> {
+pub fn again(alloc: Global, record: &str, der: &[u8]) -> Result<Option<Text>, ReadError> {
     let again = match record {
-        "principal_name" => written(
-            alloc,
-            read_principal_name(alloc, text),
-            write_principal_name,
-        ),
-        "encrypted_data" => written(
-            alloc,
-            read_encrypted_data(alloc, text),
-            write_encrypted_data,
-        ),
-        "encryption_key" => written(
-            alloc,
-            read_encryption_key(alloc, text),
-            write_encryption_key,
-        ),
-        "host_address" => written(alloc, read_host_address(alloc, text), write_host_address),
-        "checksum" => written(alloc, read_checksum(alloc, text), write_checksum),
+        "principal_name" => written(alloc, der, read_principal_name, write_principal_name),
+        "encrypted_data" => written(alloc, der, read_encrypted_data, write_encrypted_data),
+        "encryption_key" => written(alloc, der, read_encryption_key, write_encryption_key),
+        "host_address" => written(alloc, der, read_host_address, write_host_address),
+        "checksum" => written(alloc, der, read_checksum, write_checksum),
         "transited_encoding" => written(
             alloc,
-            read_transited_encoding(alloc, text),
+            der,
+            read_transited_encoding,
             write_transited_encoding,
         ),
         "authorization_data" => written(
             alloc,
-            read_authorization_data(alloc, text),
+            der,
+            read_authorization_data,
             write_authorization_data,
         ),
         "change_passwd_data" => written(
             alloc,
-            read_change_passwd_data(alloc, text),
+            der,
+            read_change_passwd_data,
             write_change_passwd_data,
         ),
-        "ticket" => written(alloc, read_ticket(alloc, text), write_ticket),
-        "enc_ticket_part" => written(
-            alloc,
-            read_enc_ticket_part(alloc, text),
-            write_enc_ticket_part,
-        ),
-        "authenticator" => written(alloc, read_authenticator(alloc, text), write_authenticator),
-        "ap_req" => written(alloc, read_ap_req(alloc, text), write_ap_req),
-        "ap_rep" => written(alloc, read_ap_rep(alloc, text), write_ap_rep),
-        "enc_ap_rep_part" => written(
-            alloc,
-            read_enc_ap_rep_part(alloc, text),
-            write_enc_ap_rep_part,
-        ),
-        "krb_priv" => written(alloc, read_krb_priv(alloc, text), write_krb_priv),
-        "enc_krb_priv_part" => written(
-            alloc,
-            read_enc_krb_priv_part(alloc, text),
-            write_enc_krb_priv_part,
-        ),
-        "krb_error" => written(alloc, read_krb_error(alloc, text), write_krb_error),
+        "ticket" => written(alloc, der, read_ticket, write_ticket),
+        "enc_ticket_part" => written(alloc, der, read_enc_ticket_part, write_enc_ticket_part),
+        "authenticator" => written(alloc, der, read_authenticator, write_authenticator),
+        "ap_req" => written(alloc, der, read_ap_req, write_ap_req),
+        "ap_rep" => written(alloc, der, read_ap_rep, write_ap_rep),
+        "enc_ap_rep_part" => written(alloc, der, read_enc_ap_rep_part, write_enc_ap_rep_part),
+        "krb_priv" => written(alloc, der, read_krb_priv, write_krb_priv),
+        "enc_krb_priv_part" => written(alloc, der, read_enc_krb_priv_part, write_enc_krb_priv_part),
+        "krb_error" => written(alloc, der, read_krb_error, write_krb_error),
         _ => return Ok(None),
     };
     Ok(Some(again?))
 }
 
-/// A record that was read, written by its own writer.
-fn written<T: Write + Drop, W: FnOnce(Global, &T) -> Result<Vec<u8>, AllocError>>(
-    alloc: Global,
-    found: Result<T, ReadError>,
-    write: W,
-) -> Result<Text, ReadError>
-    requires { (value : Bor T) → fits T.shape (T.value value.now) ≡ true → W.pre write alloc value }
+/// A record, read by its own reader and written by its own writer.
+fn written<T, R, W>(alloc: Global, text: &[u8], read: R, write: W) -> Result<Text, ReadError>
+where
+    T: Write + Drop,
+    R: FnOnce(Global, &[u8]) -> Result<T, ReadError>,
+    W: FnOnce(Global, &T) -> Result<Vec<u8>, AllocError>,
+    requires reads { R.IsAlwaysCallable read }
+    requires writes { (value : Bor T) → fits T.shape (T.value value.now) ≡ true
+        → W.pre write alloc value }
 {
-    let value = found?;
+    let value = read(alloc, text)?;
     let length = text_len(&value);
     let bytes = if fits(&value) {
         write(alloc, &value)?

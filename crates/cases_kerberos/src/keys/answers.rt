@@ -1,7 +1,5 @@
 //! The answers, a function for each kind of case or for two that are opposites. Byte strings are written in hexadecimal.
 
-ghost use Rattle.std.specs.Prelude.{◌≤◌, ◌↔◌, IsTrue, IfOk};
-
 use crate::refusal::{Answer, Refusal};
 use crate::words::{bytes, cipher, key};
 use hex::FromHex;
@@ -11,6 +9,7 @@ use krb_keys::{
     derive_key, hmac_sha1, nfold, pbkdf2, seal, string_to_key, string_to_keys, unseal,
 };
 use std::alloc::Global;
+use std::num::NonZeroU32;
 
 /// The answer to a line of words.
 pub fn answer(alloc: Global, line: &str) -> Answer {
@@ -77,15 +76,15 @@ fn stretched_bytes(alloc: Global, words: &[&str]) -> Answer {
     let [password, salt, count, length] = words else {
         return Err(Refusal::WordCount);
     };
-    let count = positive(count)?;
-    let length = length.parse()?;
+    let count: NonZeroU32 = count.parse()?;
+    let length: usize = length.parse()?;
     if length > PBKDF2_MAX_LEN {
         return Err(Refusal::BadLength);
     }
     let (password, salt) = (bytes(alloc, password)?, bytes(alloc, salt)?);
     let mut buffer = [0; PBKDF2_MAX_LEN];
     let out = &mut buffer[..length];
-    pbkdf2(&password, &salt, count, out);
+    pbkdf2(&password, &salt, count.get(), out);
     hexadecimal(alloc, out)
 }
 
@@ -97,19 +96,13 @@ fn folded_bytes(alloc: Global, words: &[&str]) -> Answer {
     let bits: usize = bits.parse()?;
     let text = bytes(alloc, text)?;
     let length = bits / 8;
-    if bits % 8 != 0 || !is_fold_length(length) || !is_fold_length(text.len()) {
+    let (0, 1..=FOLD_MAX_LEN, 1..=FOLD_MAX_LEN) = (bits % 8, length, text.len()) else {
         return Err(Refusal::BadLength);
-    }
+    };
     let mut buffer = [0; FOLD_MAX_LEN];
     let out = &mut buffer[..length];
     nfold(&text, out);
     hexadecimal(alloc, out)
-}
-
-fn is_fold_length(length: usize) -> bool
-    ensures { IsTrue result ↔ (1 ≤ length × length ≤ FOLD_MAX_LEN) }
-{
-    1 <= length && length <= FOLD_MAX_LEN
 }
 
 // key ETYPE BYTES; show ETYPE BYTES, as it is printed for debugging
@@ -148,9 +141,12 @@ fn password_key(alloc: Global, words: &[&str]) -> Answer {
         AES256_CTS_HMAC_SHA1_96 => Etype::Aes256,
         _ => return Err(Refusal::BadNumber),
     };
-    let count = positive(count)?;
+    let count: NonZeroU32 = count.parse()?;
     let (password, salt) = (bytes(alloc, password)?, bytes(alloc, salt)?);
-    hexadecimal(alloc, string_to_key(etype, &password, &salt, count).bytes())
+    hexadecimal(
+        alloc,
+        string_to_key(etype, &password, &salt, count.get()).bytes(),
+    )
 }
 
 // string-to-keys PASSWORD SALT COUNT
@@ -158,9 +154,9 @@ fn password_keys(alloc: Global, words: &[&str]) -> Answer {
     let [password, salt, count] = words else {
         return Err(Refusal::WordCount);
     };
-    let count = positive(count)?;
+    let count: NonZeroU32 = count.parse()?;
     let (password, salt) = (bytes(alloc, password)?, bytes(alloc, salt)?);
-    let keys = string_to_keys(&password, &salt, count);
+    let keys = string_to_keys(&password, &salt, count.get());
     let aes128 = hexadecimal(alloc, keys.aes128.bytes())?;
     let aes256 = hexadecimal(alloc, keys.aes256.bytes())?;
     Ok(format!(in alloc; "{aes128} {aes256}")?)
@@ -190,16 +186,6 @@ fn unsealed_text(alloc: Global, words: &[&str]) -> Answer {
     let usage = usage.parse()?;
     let text = bytes(alloc, text)?;
     hexadecimal(alloc, &unseal(alloc, &key, usage, &text)?)
-}
-
-// A number of at least 1.
-fn positive(word: &str) -> Result<u32, Refusal>
-    ensures { IfOk result (λ n. 1 ≤ n) }
-{
-    match word.parse()? {
-        0 => Err(Refusal::BadNumber),
-        n => Ok(n),
-    }
 }
 
 fn hexadecimal(alloc: Global, bytes: &[u8]) -> Answer {
