@@ -72,34 +72,6 @@ def moment(seconds, micros):
     return time.isoformat(timespec="microseconds") + "Z"
 
 
-# what is said of those without a line of their own, in the order of their summaries
-KINDS = {"unopened": "did not open", "skewed": "had too great a clock skew", "replayed": "were replayed"}
-
-
-def held(kind, seconds, micros, loopback, other):
-    return (f"{moment(seconds, micros)} worker - peer - client - target - code - error - kvno - "
-            f"text {int(loopback) + int(other)} more {KINDS[kind]}: {loopback} from 127.0.0.0/8 or ::1, {other} from elsewhere")
-
-
-def limited(words):
-    """Ten lines of a kind in any second; its others are told once the first of them is a second away, or at the end."""
-    shown, lines, others = "", {kind: [] for kind in KINDS}, {kind: [] for kind in KINDS}
-    for word in words:
-        came, time, peer = word.split("@")
-        time = int(time)
-        for kind, held_back in others.items():
-            if held_back and (abs(time - held_back[0][0]) >= 10**6 or len(held_back) == 10**6):
-                shown += told(kind, held_back)
-                held_back.clear()
-        if len(lines[came]) < 10 or abs(time - lines[came][-10]) >= 10**6:
-            lines[came].append(time)
-            shown += "+"
-        else:
-            others[came].append((time, ipaddress.ip_address(bytes.fromhex(peer))))
-            shown += "-"
-    return shown + "".join(told(kind, held_back) for kind, held_back in others.items() if held_back)
-
-
 # what happens to the service (docs/PROTOCOL.md), and the names of its numbers
 EVENTS = {
     "started": ["principals", "iterations", "quiet-until"],
@@ -134,17 +106,8 @@ def update(seconds, micros, verdict, kind, whose, *kvno):
     return f"{moment(seconds, micros)} service {what}{text}"
 
 
-def told(kind, others):
-    here = sum(peer.is_loopback for _, peer in others)
-    return f"({kind} {here} {len(others) - here})"
-
-
 def answer(case):
     first, *words = case.split(" ")
-    if first == "held":
-        return held(*words)
-    if first == "limit":
-        return limited(words)
     if first == "event":
         return event(*words)
     if first == "update":

@@ -6,19 +6,10 @@ mod statuses;
 mod words;
 
 use std::alloc::Global;
-use std::io;
-use support_cases::{Answers, Fault};
+use support_cases::Fault;
 
-#[derive(Drop)]
-pub struct Cases;
-
-impl Answers for Cases {
-    fn answer(&mut self, alloc: Global, case: &str) -> io::Result<String> {
-        Ok(answer(alloc, case)?)
-    }
-}
-
-fn answer(alloc: Global, case: &str) -> Result<String, Fault> {
+/// The answer to a case.
+pub fn answer(alloc: Global, case: &str) -> Result<String, Fault> {
     let words: Vec<&str> = case.split(' ').collect(alloc)?;
     match words.as_slice() {
         ["hear", events @ ..] => dialogs::dialog_text(alloc, events),

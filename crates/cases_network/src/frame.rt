@@ -18,24 +18,15 @@ mod framing;
 mod streams;
 
 use std::alloc::Global;
-use std::io;
-use support_cases::Answers;
+use support_cases::Fault;
 
-#[derive(Drop)]
-pub struct Cases;
-
-impl Answers for Cases {
-    fn answer(&mut self, alloc: Global, case: &str) -> io::Result<String> {
-        let (kind, text) = case.split_once(' ').unwrap_or((case, ""));
-        let answer = match kind {
-            "request" => framing::request(alloc, text),
-            "reply" => framing::reply(alloc, text),
-            "join-request" | "join-old-request" | "join-reply" => {
-                framing::joined(alloc, kind, text)
-            }
-            "change" => change::answer(alloc, text),
-            _ => streams::answer(alloc, kind, text),
-        };
-        Ok(answer?)
+/// The answer to a case.
+pub fn answer(alloc: Global, case: &str) -> Result<String, Fault> {
+    let (kind, text) = case.split_once(' ').unwrap_or((case, ""));
+    match kind {
+        "request" | "reply" => framing::split(alloc, kind, text),
+        "join-request" | "join-old-request" | "join-reply" => framing::joined(alloc, kind, text),
+        "change" => change::answer(alloc, text),
+        _ => streams::answer(alloc, kind, text),
     }
 }

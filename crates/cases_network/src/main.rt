@@ -12,35 +12,30 @@ mod frame;
 mod log;
 mod words;
 
+use crate::connections::script::Script;
 use std::alloc::Global;
-use std::io::{self, Write};
-use support_cases::{Topics, answer_lines, print_topics, refuse_lines};
+use std::io;
+use support_cases::{Topics, no_topic, print_topics};
 
 #[derive(Drop)]
-struct Cases;
+struct Cases {
+    /// What the lines of connections are about, once one of them has started it.
+    script: Option<Script>,
+}
 
 impl Topics for Cases {
-    fn has(&self, topic: &str) -> bool {
-        matches!(topic, "frame" | "connections" | "control" | "log")
-    }
-
-    fn print<W: Write>(
-        &mut self,
-        alloc: Global,
-        out: &mut W,
-        topic: &str,
-        lines: &str,
-    ) -> io::Result<()> {
-        match topic {
-            "frame" => answer_lines(alloc, out, &mut frame::Cases, lines),
-            "connections" => connections::answer(alloc, out, lines),
-            "control" => answer_lines(alloc, out, &mut control::Cases, lines),
-            "log" => answer_lines(alloc, out, &mut log::Cases, lines),
-            _ => refuse_lines(out, lines),
-        }
+    fn answer(&mut self, alloc: Global, topic: &str, case: &str) -> io::Result<String> {
+        let answer = match topic {
+            "frame" => frame::answer(alloc, case),
+            "connections" => connections::answer(alloc, &mut self.script, case),
+            "control" => control::answer(alloc, case),
+            "log" => log::answer(alloc, case),
+            _ => return no_topic(alloc),
+        };
+        Ok(answer?)
     }
 }
 
 fn main(rt: HostRuntime) -> io::Result<()> {
-    print_topics(&rt, &mut Cases)
+    print_topics(&rt, &mut Cases { script: None })
 }

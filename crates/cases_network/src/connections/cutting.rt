@@ -29,18 +29,6 @@ pub fn each(alloc: Global, bytes: &[u8], is_ended: bool) -> Result<String, Fault
 
 fn cut_at(alloc: Global, bytes: &[u8], place: usize, is_ended: bool) -> Result<String, Fault> {
     let mut script = Script::new(alloc, BOUNDS, 1)?;
-    let told = cut_told(&mut script, bytes, place, is_ended);
-    script.end();
-    told
-}
-
-fn cut_told(
-    script: &mut Script,
-    bytes: &[u8],
-    place: usize,
-    is_ended: bool,
-) -> Result<String, Fault> {
-    let alloc = script.alloc;
     let Some(slot) = script.connections.accept(Endpoints::LOOPBACK, None, 0) else {
         return Ok(String::from_str(alloc, "no room")?);
     };

@@ -1,11 +1,10 @@
 //! What happens to the connection in a slot.
 
 use crate::connections::script::Script;
-use crate::connections::words::filler_bytes;
-use crate::words::{bytes, parsed};
+use crate::words::parsed;
 use chpw_connections::TakenMessage;
-use std::alloc::AllocError;
-use support_cases::Fault;
+use std::alloc::{AllocError, Global};
+use support_cases::{Fault, bytes};
 
 impl Script {
     /// What an event does: the stage of the connection afterwards.
@@ -19,13 +18,29 @@ impl Script {
         match kind {
             "bytes" => return self.read_told(slot, &bytes(self.alloc, rest)?, now),
             "fill" => return self.read_told(slot, &filler_bytes(self.alloc, rest)?, now),
-            "push" => return self.push(slot, &bytes(self.alloc, rest)?, now),
-            "has" => return self.room(slot, now),
+            "push" => {
+                let bytes = bytes(self.alloc, rest)?;
+                let worker = self.connections.receive(slot, &bytes, now);
+                return Ok(self.received_text(slot, worker)?);
+            }
+            "has" => {
+                let has_room = self.connections.has_room_to_read(slot, now);
+                let word = if has_room { "has room" } else { "no room" };
+                return Ok(String::from_str(self.alloc, word)?);
+            }
+            "remove" => {
+                let removed = self.connections.remove(slot);
+                let word = if removed { "removed" } else { "not removed" };
+                return Ok(String::from_str(self.alloc, word)?);
+            }
             "rounds" => return self.rounds(slot, parsed(rest)?, now),
-            "remove" => return self.remove(slot),
             "answer" => self.give_reply(slot, rest, now)?,
             "defer" => self.defer_reply(slot, rest, now)?,
-            "unanswered" => self.leave_unanswered(slot, now),
+            "unanswered" => {
+                if let Some(taken) = self.taken_from(slot) {
+                    self.connections.leave_unanswered(taken, now);
+                }
+            }
             "wrote" => self.connections.wrote(slot, parsed(rest)?, now),
             "end" => self.connections.input_ended(slot),
             "fail" => self.connections.fail(slot),
@@ -59,25 +74,11 @@ impl Script {
         Ok(format!(in self.alloc; "{count} of {} read, {received}", bytes.len())?)
     }
 
-    fn push(&mut self, slot: usize, bytes: &[u8], now: u64) -> Result<String, Fault> {
-        let worker = self.connections.receive(slot, bytes, now);
-        Ok(self.received_text(slot, worker)?)
-    }
-
     fn received_text(&self, slot: usize, worker: Option<usize>) -> Result<String, AllocError> {
         match worker {
             None => self.state(slot),
             Some(worker) => format!(in self.alloc; "message for worker {worker}"),
         }
-    }
-
-    fn room(&self, slot: usize, now: u64) -> Result<String, Fault> {
-        let word = if self.connections.has_room_to_read(slot, now) {
-            "has room"
-        } else {
-            "no room"
-        };
-        Ok(String::from_str(self.alloc, word)?)
     }
 
     // `HEX`, or `HEX last`
@@ -103,12 +104,6 @@ impl Script {
         Ok(())
     }
 
-    fn leave_unanswered(&mut self, slot: usize, now: u64) {
-        if let Some(taken) = self.taken_from(slot) {
-            self.connections.leave_unanswered(taken, now);
-        }
-    }
-
     /// Keeps what a worker took until the line that says what it did about it.
     pub fn keep(&mut self, taken: TakenMessage, now: u64) -> Result<(), Fault> {
         match self.taken.push(taken) {
@@ -126,32 +121,32 @@ impl Script {
         Some(self.taken.remove(place))
     }
 
-    fn remove(&mut self, slot: usize) -> Result<String, Fault> {
-        let word = if self.connections.remove(slot) {
-            "removed"
-        } else {
-            "not removed"
-        };
-        Ok(String::from_str(self.alloc, word)?)
-    }
-
     /// `count` empty messages, each answered with one byte, which is written; or until none is read.
     fn rounds(&mut self, slot: usize, count: u32, now: u64) -> Result<String, Fault> {
-        for done in 0..count {
+        let mut done = 0_u32;
+        for _ in 0..count {
             let (_, Some(worker)) = self.read(slot, &[0; 4], now) else {
-                return self.rounds_told(slot, done);
+                break;
             };
             let reply = Vec::from_slice(self.alloc, b"*")?;
             if let Some(taken) = self.connections.take(worker, now) {
                 self.connections.answer(taken, reply, false, now);
             }
             self.connections.wrote(slot, 1, now);
+            done = done.saturating_add(1);
         }
-        self.rounds_told(slot, count)
-    }
-
-    fn rounds_told(&self, slot: usize, count: u32) -> Result<String, Fault> {
         let state = self.state(slot)?;
-        Ok(format!(in self.alloc; "{count} rounds, {state}")?)
+        Ok(format!(in self.alloc; "{done} rounds, {state}")?)
     }
+}
+
+/// This many bytes, 00 01 .. fa 00 ..
+fn filler_bytes(alloc: Global, count: &str) -> Result<Vec<u8>, Fault> {
+    let mut bytes = Vec::new(alloc);
+    let mut next = 0_u8;
+    for _ in 0..parsed::<u32>(count)? {
+        bytes.push(next)?;
+        next = if next < 250 { next + 1 } else { 0 };
+    }
+    Ok(bytes)
 }

@@ -23,8 +23,29 @@ impl Script {
     /// `CONNECTIONS BYTES IDLE GRACE WAIT LINGER WORKERS`, with ` PER_PEER` after it unless one peer may have all.
     pub fn of(alloc: Global, words: &str) -> Result<Script, Fault> {
         let words: Vec<&str> = words.split(' ').collect(alloc)?;
-        let (bounds, workers) = bounds_of(&words)?;
-        Script::new(alloc, bounds, workers)
+        let [
+            connections,
+            bytes,
+            idle,
+            grace,
+            wait,
+            linger,
+            workers,
+            rest @ ..,
+        ] = words.as_slice()
+        else {
+            return Err(Fault::NoSuchCase);
+        };
+        let bounds = ConnectionLimits {
+            connections: parsed(connections)?,
+            per_peer: parsed(rest.first().unwrap_or(connections))?,
+            bytes: parsed(bytes)?,
+            idle: parsed(idle)?,
+            grace: parsed(grace)?,
+            wait: parsed(wait)?,
+            linger: parsed(linger)?,
+        };
+        Script::new(alloc, bounds, parsed(workers)?)
     }
 
     pub fn new(alloc: Global, bounds: ConnectionLimits, workers: usize) -> Result<Script, Fault> {
@@ -40,24 +61,9 @@ impl Script {
         })
     }
 
-    /// Ends it: the workers have no reply to what they took.
-    pub fn end(self) {
-        let Script {
-            alloc: _,
-            mut connections,
-            slots: _,
-            workers: _,
-            mut taken,
-        } = self;
-        while let Some(message) = taken.pop() {
-            connections.leave_unanswered(message, 0);
-        }
-        taken.destroy_empty();
-    }
-
     /// What a line does, and which other connections it ended.
     pub fn answer(&mut self, kind: &str, words: &str, now: u64) -> Result<String, Fault> {
-        let before = self.ended_slots()?;
+        let before = self.ended_besides(&[], None)?;
         let (own, text) = self.told(kind, words, now)?;
         let others = self.ended_besides(&before, own)?;
         if others.is_empty() {
@@ -74,28 +80,12 @@ impl Script {
         words: &str,
         now: u64,
     ) -> Result<(Option<usize>, String), Fault> {
-        match kind {
-            "accept"
-            | "datagram"
-            | "share"
-            | "pass"
-            | "room"
-            | "show"
-            | "look"
-            | "confirm"
-            | "overdue" => Ok((None, self.whole(kind, words, now)?)),
-            "take" => Ok((None, self.take(parsed(words)?, now)?)),
-            _ => {
-                let (slot, rest) = words.split_once(' ').unwrap_or((words, ""));
-                let slot = parsed(slot)?;
-                Ok((Some(slot), self.event(kind, slot, rest, now)?))
-            }
+        if let Some(text) = self.whole(kind, words, now)? {
+            return Ok((None, text));
         }
-    }
-
-    /// The slots whose connections have ended.
-    fn ended_slots(&self) -> Result<Vec<usize>, AllocError> {
-        self.ended_besides(&[], None)
+        let (slot, rest) = words.split_once(' ').unwrap_or((words, ""));
+        let slot = parsed(slot)?;
+        Ok((Some(slot), self.event(kind, slot, rest, now)?))
     }
 
     /// The slots whose connections have ended, without these and without this one.
@@ -114,29 +104,19 @@ impl Script {
     }
 }
 
-/// The limits that these words give, and the count of workers.
-fn bounds_of(words: &[&str]) -> Result<(ConnectionLimits, usize), Fault> {
-    let [
-        connections,
-        bytes,
-        idle,
-        grace,
-        wait,
-        linger,
-        workers,
-        rest @ ..,
-    ] = words
-    else {
-        return Err(Fault::NoSuchCase);
-    };
-    let bounds = ConnectionLimits {
-        connections: parsed(connections)?,
-        per_peer: parsed(rest.first().unwrap_or(connections))?,
-        bytes: parsed(bytes)?,
-        idle: parsed(idle)?,
-        grace: parsed(grace)?,
-        wait: parsed(wait)?,
-        linger: parsed(linger)?,
-    };
-    Ok((bounds, parsed(workers)?))
+impl Drop for Script {
+    /// The workers have no reply to what they took.
+    fn drop(self) {
+        let Script {
+            alloc: _,
+            mut connections,
+            slots: _,
+            workers: _,
+            mut taken,
+        } = self;
+        while let Some(message) = taken.pop() {
+            connections.leave_unanswered(message, 0);
+        }
+        taken.destroy_empty();
+    }
 }

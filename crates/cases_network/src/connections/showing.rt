@@ -4,14 +4,12 @@ use crate::connections::script::Script;
 use chpw_connections::Todo;
 use hex::encode;
 use std::alloc::{AllocError, Global};
+use support_cases::{Fault, hex_text};
 
 /// Bytes in hexadecimal, `-` for none; of many the first and the last.
 pub fn bytes_text(alloc: Global, bytes: &[u8]) -> Result<String, AllocError> {
-    if bytes.is_empty() {
-        return String::from_str(alloc, "-");
-    }
     if bytes.len() <= 32 {
-        return encode(alloc, bytes);
+        return hex_text(alloc, bytes);
     }
     let (front, _) = bytes.split_at(8);
     let (_, back) = bytes.split_at(bytes.len() - 4);
@@ -70,20 +68,15 @@ impl Script {
     }
 
     /// Each slot, and then the totals.
-    pub fn overview(&self) -> Result<String, AllocError> {
+    pub fn overview(&self) -> Result<String, Fault> {
+        let connections = &self.connections;
         let mut text = String::new(self.alloc);
         for slot in 0..self.slots {
             let todo = self.todo(slot)?;
-            let wanted = self.connections.bytes_to_read(slot);
-            let left = self.connections.pending_output(slot).len();
+            let wanted = connections.bytes_to_read(slot);
+            let left = connections.pending_output(slot).len();
             write!(text, "{slot} {todo}, wanted {wanted}, left {left} | ")?;
         }
-        text.push_str(self.counts()?.as_str())?;
-        Ok(text)
-    }
-
-    fn counts(&self) -> Result<String, AllocError> {
-        let connections = &self.connections;
         let count = connections.len();
         let word = if connections.is_empty() {
             " (none)"
@@ -94,9 +87,11 @@ impl Script {
         };
         let (held, accepted) = (connections.bytes_held(), connections.accepted_count());
         let (expired, workers) = (connections.expired_count(), self.waited_for()?);
-        format!(in self.alloc;
+        write!(
+            text,
             "connections {count}{word}, held {held}, accepted {accepted}, expired {expired}, messages for {workers}"
-        )
+        )?;
+        Ok(text)
     }
 
     /// The workers for whom a message waits.

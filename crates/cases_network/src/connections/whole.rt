@@ -3,67 +3,52 @@
 use crate::connections::script::Script;
 use crate::connections::showing::{bytes_text, slots_text};
 use crate::words::parsed;
-use chpw_connections::{TakenMessage, Todo};
+use chpw_connections::Todo;
 use chpw_endpoints::{Endpoints, Peer};
-use std::alloc::AllocError;
 use support_cases::Fault;
 
 /// More than any case here notes.
 const LOOKS: usize = 10_000;
 
 impl Script {
-    /// `accept PEER`, `accept PEER to LOCAL`, `datagram PEER`, `share PEER`, `pass`, `room`, `room PEER`, `look`, `show`,
-    /// `confirm TICKET` or `overdue WAIT`.
-    pub fn whole(&mut self, kind: &str, words: &str, now: u64) -> Result<String, Fault> {
+    /// What is done by `accept PEER`, `accept PEER to LOCAL`, `datagram PEER`, `share PEER`, `pass`, `room`, `room PEER`,
+    /// `take WORKER`, `look`, `show`, `confirm TICKET` or `overdue WAIT`; nothing by another line.
+    pub fn whole(&mut self, kind: &str, words: &str, now: u64) -> Result<Option<String>, Fault> {
         let text = match kind {
-            "accept" => return self.accept(words, now),
-            "datagram" => return self.accept_datagram(words, now),
-            "share" => return self.share(words),
-            "room" => return self.make_room(words),
+            "accept" => self.accept(words, false, now),
+            "datagram" => self.accept(words, true, now),
+            "share" => self.share(words),
+            "room" => self.make_room(words),
+            "take" => self.take(parsed(words)?, now),
             "look" => self.look(),
             "show" => self.overview(),
             "overdue" => self.overdue(parsed(words)?, now),
             "pass" => {
                 self.connections.pass(now);
-                String::from_str(self.alloc, "passed")
+                Ok(String::from_str(self.alloc, "passed")?)
             }
             "confirm" => {
                 self.connections.confirm(parsed(words)?, now);
-                String::from_str(self.alloc, "confirmed")
+                Ok(String::from_str(self.alloc, "confirmed")?)
             }
-            _ => return Err(Fault::NoSuchCase),
+            _ => return Ok(None),
         };
-        Ok(text?)
+        Ok(Some(text?))
     }
 
-    fn accept(&mut self, words: &str, now: u64) -> Result<String, Fault> {
+    /// A datagram counts in no share.
+    fn accept(&mut self, words: &str, is_datagram: bool, now: u64) -> Result<String, Fault> {
         let (peer, local) = words.split_once(" to ").unwrap_or((words, "127.0.0.1"));
         let ends = Endpoints {
             peer: parsed(peer)?,
             local: parsed(local)?,
         };
-        Ok(self.accept_between(ends, ends.share(), now)?)
-    }
-
-    // A datagram counts in no share.
-    fn accept_datagram(&mut self, words: &str, now: u64) -> Result<String, Fault> {
-        let ends = Endpoints {
-            peer: parsed(words)?,
-            ..Endpoints::LOOPBACK
-        };
-        Ok(self.accept_between(ends, None, now)?)
-    }
-
-    fn accept_between(
-        &mut self,
-        ends: Endpoints,
-        share: Option<Peer>,
-        now: u64,
-    ) -> Result<String, AllocError> {
-        match self.connections.accept(ends, share, now) {
+        let share = if is_datagram { None } else { ends.share() };
+        let text = match self.connections.accept(ends, share, now) {
             None => String::from_str(self.alloc, "no room"),
             Some(slot) => format!(in self.alloc; "slot {slot}"),
-        }
+        };
+        Ok(text?)
     }
 
     /// How many connections a peer has in its share, and whether that is full.
@@ -96,36 +81,30 @@ impl Script {
     /// The message that a worker takes, with its slot and peer.
     pub fn take(&mut self, worker: usize, now: u64) -> Result<String, Fault> {
         let waits = self.connections.has_message(worker);
-        match self.connections.take(worker, now) {
-            Some(taken) => {
-                let told = self.taken_told(&taken);
-                self.keep(taken, now)?;
-                Ok(told?)
-            }
-            None if waits => Ok(String::from_str(self.alloc, "dropped")?),
-            None => Ok(String::from_str(self.alloc, "none")?),
-        }
-    }
-
-    fn taken_told(&self, taken: &TakenMessage) -> Result<String, AllocError> {
+        let Some(taken) = self.connections.take(worker, now) else {
+            let word = if waits { "dropped" } else { "none" };
+            return Ok(String::from_str(self.alloc, word)?);
+        };
         let (slot, peer) = (taken.slot(), taken.ends().peer);
-        let message = bytes_text(self.alloc, taken.message())?;
-        format!(in self.alloc; "slot {slot} from {peer}: {message}")
+        let message = bytes_text(self.alloc, taken.message());
+        self.keep(taken, now)?;
+        Ok(format!(in self.alloc; "slot {slot} from {peer}: {}", message?)?)
     }
 
     /// The slot whose reply has waited for its confirmation for `wait`, and its ticket.
-    fn overdue(&mut self, wait: u64, now: u64) -> Result<String, AllocError> {
-        match self.connections.overdue(wait, now) {
+    fn overdue(&mut self, wait: u64, now: u64) -> Result<String, Fault> {
+        let text = match self.connections.overdue(wait, now) {
             None => String::from_str(self.alloc, "none"),
             Some(unconfirmed) => {
                 let (peer, ticket) = (unconfirmed.peer, unconfirmed.ticket);
                 format!(in self.alloc; "{peer} waited for {ticket}")
             }
-        }
+        };
+        Ok(text?)
     }
 
     /// The slots that were noted, each once, if something is to be done that the socket doesn't report.
-    fn look(&mut self) -> Result<String, AllocError> {
+    fn look(&mut self) -> Result<String, Fault> {
         let mut slots = Vec::new(self.alloc);
         for _ in 0..LOOKS {
             let Some(slot) = self.connections.take_changed() else {
@@ -142,6 +121,6 @@ impl Script {
             ""
         };
         let slots = slots_text(self.alloc, &slots)?;
-        format!(in self.alloc; "look at {slots}{more}")
+        Ok(format!(in self.alloc; "look at {slots}{more}")?)
     }
 }

@@ -1,7 +1,7 @@
 //! Connections: what they give at each event, with a space between any two.
 
-use crate::words::bytes;
-use chpw_control::{Command, ControlFault, Dialog};
+use crate::control::words::repeated_bytes;
+use chpw_control::{Command, Dialog};
 use std::alloc::{AllocError, Global};
 use support_cases::Fault;
 
@@ -23,20 +23,14 @@ fn event_text(alloc: Global, dialog: &mut Dialog, event: &str) -> Result<String,
     let told = match event {
         "end" => dialog.end().map(Err),
         "late" => dialog.expire().map(Err),
-        piece => dialog.hear(alloc, &bytes(alloc, piece)?),
+        piece => dialog.hear(alloc, &repeated_bytes(alloc, piece)?),
     };
-    Ok(told_text(alloc, told)?)
-}
-
-fn told_text(
-    alloc: Global,
-    told: Option<Result<Command, ControlFault>>,
-) -> Result<String, AllocError> {
-    match told {
+    let text = match told {
         None => String::from_str(alloc, "-"),
         Some(Ok(command)) => command_text(alloc, &command),
         Some(Err(fault)) => format!(in alloc; "error: {}", fault.text()),
-    }
+    };
+    Ok(text?)
 }
 
 fn command_text(alloc: Global, command: &Command) -> Result<String, AllocError> {

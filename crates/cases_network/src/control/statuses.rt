@@ -4,11 +4,11 @@ ghost use Rattle.std.specs.Prelude.{◌≡◌, ◌<◌, true, IfOk};
 ghost use Rattle.std.specs.Option.{ForSome};
 ghost use Rattle.chpw_control.specs.Statuses.{AreTold, IsTold};
 
-use crate::control::words::escaped_text;
-use crate::words::{bytes, parsed, text_of};
+use crate::control::words::{escaped_text, repeated_bytes};
+use crate::words::parsed;
 use chpw_control::{JournalState, KdcState, NameState, Status, Time, status_answer};
 use std::alloc::Global;
-use support_cases::Fault;
+use support_cases::{Fault, text_of};
 
 /// The first second and the last that can be printed.
 const FIRST: i64 = -62_167_219_200;
@@ -57,9 +57,9 @@ fn with_texts(
 ) -> Result<String, Fault>
     requires times { AreTold status.now }
 {
-    let version = bytes(alloc, version)?;
-    let why = bytes(alloc, failure)?;
-    let name = bytes(alloc, refused)?;
+    let version = repeated_bytes(alloc, version)?;
+    let why = repeated_bytes(alloc, failure)?;
+    let name = repeated_bytes(alloc, refused)?;
     let journal = match failure {
         "-" => JournalState::Good,
         _ => JournalState::Failed(text_of(&why)),
@@ -70,13 +70,7 @@ fn with_texts(
         kdc_refused: (refused != "-").then_some(name.as_slice()),
         ..*status
     };
-    answer_text(alloc, &status)
-}
-
-fn answer_text(alloc: Global, status: &Status<'_>) -> Result<String, Fault>
-    requires times { AreTold status.now }
-{
-    let answer = status_answer(alloc, status)?;
+    let answer = status_answer(alloc, &status)?;
     Ok(escaped_text(alloc, &answer)?)
 }
 
@@ -133,12 +127,7 @@ fn time(word: &str) -> Result<Time, Fault>
     ensures told { IfOk result IsTold }
 {
     let (seconds, micros) = word.split_once('.').unwrap_or((word, ""));
-    time_of(parsed(seconds)?, parsed(micros)?)
-}
-
-fn time_of(seconds: i64, micros: u32) -> Result<Time, Fault>
-    ensures told { IfOk result IsTold }
-{
+    let (seconds, micros) = (parsed(seconds)?, parsed(micros)?);
     if seconds < FIRST || seconds > LAST || micros >= 1_000_000 {
         return Err(Fault::NoSuchCase);
     }

@@ -1,26 +1,18 @@
 //! What user-data asks for.
 
-use crate::frame::framing::hex_text;
-use crate::words::{bytes, text_of};
 use chpw_frame::{ChangeData, ChangeFault, ChangeTarget, read_change_data};
 use std::alloc::{AllocError, Global};
-use support_cases::Fault;
+use support_cases::{Fault, bytes, hex_text, text_of};
 
 /// The change that user-data asks for, or why it asks for none.
 pub fn answer(alloc: Global, text: &str) -> Result<String, Fault> {
     let data = bytes(alloc, text)?;
-    Ok(shown_answer(alloc, read_change_data(alloc, &data))?)
-}
-
-fn shown_answer(
-    alloc: Global,
-    answer: Result<ChangeData, ChangeFault>,
-) -> Result<String, AllocError> {
-    match answer {
+    let shown = match read_change_data(alloc, &data) {
         Ok(change) => shown_change(alloc, &change),
         Err(ChangeFault::Memory) => Err(AllocError),
         Err(fault) => format!(in alloc; "{fault:?}"),
-    }
+    };
+    Ok(shown?)
 }
 
 fn shown_change(alloc: Global, change: &ChangeData) -> Result<String, AllocError> {

@@ -1,35 +1,21 @@
 //! Messages over TCP.
 
-use crate::frame::framing::hex_text;
-use crate::words::{bytes, parsed};
 use chpw_frame::{LONGEST_MESSAGE, TcpOutcome, read_tcp, write_tcp};
 use std::alloc::{AllocError, Global};
-use support_cases::Fault;
+use support_cases::{Fault, bytes_with_zeros, hex_text};
 use support_streams::{Course, Giver, Taker, Way};
 
 /// The answer to a case of a stream.
 pub fn answer(alloc: Global, kind: &str, text: &str) -> Result<String, Fault> {
     let (how, hex) = text.split_once(": ").unwrap_or((text, ""));
-    let bytes = bytes_with_zeros(alloc, hex)?;
-    Ok(way_answer(alloc, kind, Way::of(how), &bytes)?)
-}
-
-fn way_answer(alloc: Global, kind: &str, way: Way, bytes: &[u8]) -> Result<String, AllocError> {
-    match kind {
-        "read" | "reads" => read(alloc, way, bytes, kind == "reads"),
-        "write" | "writes" => written(alloc, way, bytes, kind == "writes"),
-        "fail" => failing(alloc, way, bytes),
-        _ => String::from_str(alloc, "no such case"),
-    }
-}
-
-/// The bytes of a text in hexadecimal, or of one with this many zeros after it, as in `00 zeros 4`.
-fn bytes_with_zeros(alloc: Global, text: &str) -> Result<Vec<u8>, Fault> {
-    let (front, count) = text.split_once(" zeros ").unwrap_or((text, "0"));
-    let mut bytes = bytes(alloc, front)?;
-    let length = bytes.len().saturating_add(parsed(count)?);
-    bytes.resize(length, 0)?;
-    Ok(bytes)
+    let (way, bytes) = (Way::of(how), bytes_with_zeros(alloc, hex)?);
+    let answer = match kind {
+        "read" | "reads" => read(alloc, way, &bytes, kind == "reads"),
+        "write" | "writes" => written(alloc, way, &bytes, kind == "writes"),
+        "fail" => failing(alloc, way, &bytes),
+        _ => return Err(Fault::NoSuchCase),
+    };
+    Ok(answer?)
 }
 
 /// What is read of a stream, what is left of it, and in how many reads if that is asked.

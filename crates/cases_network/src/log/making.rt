@@ -1,10 +1,9 @@
 //! Requests from words.
 
-use crate::words::bytes;
 use chpw_rules::{Items, Name};
 use chpw_table::{Body, Digest, Opened, Target};
 use std::alloc::Global;
-use support_cases::Fault;
+use support_cases::{Fault, bytes};
 
 /// A request of this client for this target.
 pub fn opened_request(alloc: Global, client: &str, target: &str) -> Result<Opened, Fault> {

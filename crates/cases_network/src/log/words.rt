@@ -1,18 +1,24 @@
 //! Words of a case.
 
-use crate::words::{bytes, parsed};
-use chpw_log::HeldKind;
-use chpw_table::Verdict;
+ghost use Rattle.std.specs.Prelude.{IfOk};
+ghost use Rattle.chpw_log.specs.Events.{IsWholeMoment};
+
+use crate::words::parsed;
+use chpw_table::{LAST_SECOND, Moment, Verdict};
+use krb_protocol::Refusal;
 use std::alloc::Global;
 use std::net::{IpAddr, Ipv6Addr};
-use support_cases::Fault;
+use support_cases::{Fault, bytes};
 
-/// A number, or `-` for none.
-pub fn maybe_number(word: &str) -> Result<Option<u32>, Fault> {
-    if word == "-" {
-        return Ok(None);
+/// A moment by its seconds and microseconds.
+pub fn moment(seconds: &str, micros: &str) -> Result<Moment, Fault>
+    ensures told { IfOk result IsWholeMoment }
+{
+    let (seconds, micros) = (parsed(seconds)?, parsed(micros)?);
+    if seconds < 0 || seconds > LAST_SECOND || micros >= 1_000_000 {
+        return Err(Fault::NoSuchCase);
     }
-    Ok(Some(parsed(word)?))
+    Ok(Moment { seconds, micros })
 }
 
 /// An address: four bytes or sixteen in hexadecimal.
@@ -27,28 +33,23 @@ pub fn address(alloc: Global, word: &str) -> Result<IpAddr, Fault> {
     }
 }
 
-/// The texts that a refusal may have in these cases.
-pub fn text_of(word: &str) -> Result<&'static str, Fault> {
-    match word {
-        "malformed" => Ok("malformed"),
-        "failed" => Ok("authentication failed"),
-        "version" => Ok("bad version"),
-        "long" => Ok("message too long"),
-        "full" => Ok("history full"),
-        "none" => Ok(""),
-        "strange" => Ok(" a\tb\\c\u{e9}d\ne~\u{7f}/@ "),
-        _ => Err(Fault::NoSuchCase),
-    }
-}
-
-/// A kind of messages whose lines are limited.
-pub fn kind_of(word: &str) -> Result<HeldKind, Fault> {
-    match word {
-        "unopened" => Ok(HeldKind::Unopened),
-        "skewed" => Ok(HeldKind::Skewed),
-        "replayed" => Ok(HeldKind::Replayed),
-        _ => Err(Fault::NoSuchCase),
-    }
+/// What a KRB-ERROR has, with one of the texts of these cases.
+pub fn refusal(code: &str, error: &str, text: &str) -> Result<Refusal, Fault> {
+    let text = match text {
+        "malformed" => "malformed",
+        "failed" => "authentication failed",
+        "version" => "bad version",
+        "long" => "message too long",
+        "full" => "history full",
+        "none" => "",
+        "strange" => " a\tb\\c\u{e9}d\ne~\u{7f}/@ ",
+        _ => return Err(Fault::NoSuchCase),
+    };
+    Ok(Refusal {
+        code: parsed(code)?,
+        error: parsed(error)?,
+        text,
+    })
 }
 
 /// A verdict by its name.
