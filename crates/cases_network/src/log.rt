@@ -13,10 +13,10 @@ use support_cases::{Fault, text_of};
 pub fn answer(alloc: Global, case: &str) -> Result<String, Fault> {
     let words: Vec<&str> = case.split(' ').collect(alloc)?;
     let line = match words.as_slice() {
-        ["event", rest @ ..] => events::event_line(alloc, rest)?,
-        ["update", rest @ ..] => updates::update_line(alloc, rest)?,
-        words => messages::message_line(alloc, words)?,
-    };
+        ["event", rest @ ..] => events::event_line(alloc, rest),
+        ["update", rest @ ..] => updates::update_line(alloc, rest),
+        words => messages::message_line(alloc, words),
+    }?;
     let text = match line.split_last() {
         Some((b'\n', text)) => text_of(text),
         _ => "(no newline)",

@@ -104,17 +104,6 @@ impl Script {
         Ok(())
     }
 
-    /// Keeps what a worker took until the line that says what it did about it.
-    pub fn keep(&mut self, taken: TakenMessage, now: u64) -> Result<(), Fault> {
-        match self.taken.push(taken) {
-            Ok(()) => Ok(()),
-            Err(failed) => {
-                self.connections.leave_unanswered(failed.value, now);
-                Err(Fault::Memory)
-            }
-        }
-    }
-
     // What a worker took from the connection in a slot, if it did nothing about it yet.
     fn taken_from(&mut self, slot: usize) -> Option<TakenMessage> {
         let place = self.taken.iter().position(|taken| taken.slot() == slot)?;

@@ -64,28 +64,20 @@ impl Script {
     /// What a line does, and which other connections it ended.
     pub fn answer(&mut self, kind: &str, words: &str, now: u64) -> Result<String, Fault> {
         let before = self.ended_besides(&[], None)?;
-        let (own, text) = self.told(kind, words, now)?;
+        let (own, text) = match self.whole(kind, words, now)? {
+            Some(text) => (None, text),
+            None => {
+                let (slot, rest) = words.split_once(' ').unwrap_or((words, ""));
+                let slot = parsed(slot)?;
+                (Some(slot), self.event(kind, slot, rest, now)?)
+            }
+        };
         let others = self.ended_besides(&before, own)?;
         if others.is_empty() {
             return Ok(text);
         }
         let others = slots_text(self.alloc, &others)?;
         Ok(format!(in self.alloc; "{text}; ended {others}")?)
-    }
-
-    /// What a line does, and the slot that it names, if it names one.
-    fn told(
-        &mut self,
-        kind: &str,
-        words: &str,
-        now: u64,
-    ) -> Result<(Option<usize>, String), Fault> {
-        if let Some(text) = self.whole(kind, words, now)? {
-            return Ok((None, text));
-        }
-        let (slot, rest) = words.split_once(' ').unwrap_or((words, ""));
-        let slot = parsed(slot)?;
-        Ok((Some(slot), self.event(kind, slot, rest, now)?))
     }
 
     /// The slots whose connections have ended, without these and without this one.

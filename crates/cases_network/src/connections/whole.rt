@@ -78,7 +78,8 @@ impl Script {
         Ok(String::from_str(self.alloc, text)?)
     }
 
-    /// The message that a worker takes, with its slot and peer.
+    /// The message that a worker takes, with its slot and peer. It is kept until the line that says what the worker did
+    /// about it.
     pub fn take(&mut self, worker: usize, now: u64) -> Result<String, Fault> {
         let waits = self.connections.has_message(worker);
         let Some(taken) = self.connections.take(worker, now) else {
@@ -87,7 +88,10 @@ impl Script {
         };
         let (slot, peer) = (taken.slot(), taken.ends().peer);
         let message = bytes_text(self.alloc, taken.message());
-        self.keep(taken, now)?;
+        if let Err(failed) = self.taken.push(taken) {
+            self.connections.leave_unanswered(failed.value, now);
+            return Err(Fault::Memory);
+        }
         Ok(format!(in self.alloc; "slot {slot} from {peer}: {}", message?)?)
     }
 

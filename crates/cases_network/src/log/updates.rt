@@ -10,38 +10,30 @@ use support_cases::Fault;
 
 /// SECONDS MICROS VERDICT KIND :NAME [KVNO]
 pub fn update_line(alloc: Global, words: &[&str]) -> Result<Vec<u8>, Fault> {
-    let [seconds, micros, verdict, what @ ..] = words else {
+    let [seconds, micros, verdict, kind, name, kvno @ ..] = words else {
         return Err(Fault::NoSuchCase);
     };
     let moment = moment(seconds, micros)?;
     let verdict = verdict_of(verdict)?;
-    let update = update(alloc, what)?;
-    Ok(write_update(alloc, moment, &update, verdict)?)
-}
-
-fn update(alloc: Global, words: &[&str]) -> Result<KdcUpdate, Fault> {
-    match words {
-        ["adopt", name, kvno] => {
+    let name = principal(alloc, name)?.name;
+    let update = match (*kind, kvno) {
+        ("adopt", [kvno]) => {
             let key = KeyRow {
                 kvno: parsed(kvno)?,
                 count: 4096,
                 aes128: [0xa1; 16],
                 aes256: [0xa1; 32],
             };
-            let name = principal(alloc, name)?.name;
-            Ok(KdcUpdate::Adopt { name, key })
+            KdcUpdate::Adopt { name, key }
         }
-        ["lift", name, kvno] => {
+        ("lift", [kvno]) => {
             let kvno = parsed(kvno)?;
-            let name = principal(alloc, name)?.name;
-            Ok(KdcUpdate::Lift { name, kvno })
+            KdcUpdate::Lift { name, kvno }
         }
-        ["remove", name] => {
-            let name = principal(alloc, name)?.name;
-            Ok(KdcUpdate::Remove { name })
-        }
-        _ => Err(Fault::NoSuchCase),
-    }
+        ("remove", []) => KdcUpdate::Remove { name },
+        _ => return Err(Fault::NoSuchCase),
+    };
+    Ok(write_update(alloc, moment, &update, verdict)?)
 }
 
 fn verdict_of(word: &str) -> Result<UpdateVerdict, Fault> {
