@@ -31,22 +31,19 @@ impl Way {
             nothing_after: None,
         };
         for word in text.split(',') {
-            way.add(word.trim());
-        }
-        way
-    }
-
-    fn add(&mut self, word: &str) {
-        let (what, number) = word.rsplit_once(' ').unwrap_or((word, ""));
-        match (what, number.parse()) {
-            ("by", Ok(most)) => self.most = most,
-            ("fails after", Ok(count)) => self.fails_after = Some(count),
-            ("takes nothing after", Ok(count)) => self.nothing_after = Some(count),
-            _ => {
-                self.interrupted |= word == "interrupted";
-                self.never_ready |= word == "never ready";
+            let word = word.trim();
+            let (what, number) = word.rsplit_once(' ').unwrap_or((word, ""));
+            match (what, number.parse()) {
+                ("by", Ok(most)) => way.most = most,
+                ("fails after", Ok(count)) => way.fails_after = Some(count),
+                ("takes nothing after", Ok(count)) => way.nothing_after = Some(count),
+                _ => {
+                    way.interrupted |= word == "interrupted";
+                    way.never_ready |= word == "never ready";
+                }
             }
         }
+        way
     }
 
     /// This way, but that it fails after `count` bytes.
@@ -94,24 +91,15 @@ impl Course {
         if self.way.nothing_after == Some(self.through) {
             return Ok(0);
         }
-        let count = count.min(self.way.most).min(self.room()?);
-        self.through = self.through.saturating_add(count);
-        Ok(count)
-    }
-
-    /// How many bytes go through before a fault.
-    fn room(&self) -> io::Result<usize> {
-        let end = [self.way.fails_after, self.way.nothing_after];
-        let mut room = usize::MAX;
-        for end in end {
-            if let Some(end) = end {
-                room = room.min(end.saturating_sub(self.through));
-            }
-        }
-        if room == 0 {
+        if self.way.fails_after == Some(self.through) {
             return Err(Error::from(ErrorKind::Other));
         }
-        Ok(room)
+        let failing = self.way.fails_after.unwrap_or(usize::MAX);
+        let end = failing.min(self.way.nothing_after.unwrap_or(usize::MAX));
+        let room = end.saturating_sub(self.through);
+        let count = count.min(self.way.most).min(room);
+        self.through = self.through.saturating_add(count);
+        Ok(count)
     }
 }
 
