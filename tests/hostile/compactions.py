@@ -15,7 +15,8 @@ from harness.cases import main, named
 from harness.asking import request_now
 from harness.controlling import OK, Caller, ask, entries_of, rewrite, start, status, tell_end, tell_stop, told, written
 from harness.false_agent import Agent, hexed
-from harness.journal import Base, Raise, Realm, read_journal, realm_record
+from harness.journal import ADOPT, BASE, CHANGE, LIFT, REMOVE
+from harness.journal import Base, Raise, Realm, keys_record, raise_record, read_journal, realm_record
 from harness.kept import keys_of
 from harness.killing import QUIET, killed_amid
 from harness.orders import CHANGES, Orders, changed_amid
@@ -42,6 +43,11 @@ def table(case, *words):
     """What `table` prints of the files."""
     command = [case.server.program, "table", "--config", case.server.configuration, "--journal", case.server.journal, *words]
     return subprocess.run(command, capture_output=True, text=True, timeout=60).stdout
+
+
+def plain(kind, name, kvno):
+    """A record of such a kind, whose keys' bytes are all the version's number."""
+    return keys_record(kind, name, kvno, ITERATIONS, (bytes([kvno] * 16), bytes([kvno] * 32)))
 
 
 def records_of(case):
@@ -161,6 +167,22 @@ def wrong_in_table(changers, before, after):
 class Compactions(ServiceCase):
     def test_made(self):
         made(self)
+
+    def test_each_kind_of_record(self):
+        """The greatest count of two; of alice the keys that are held, of which one has a lifted version; that bob is removed;
+        and carol, who joined, with a gap between her versions."""
+        removed = keys_record(REMOVE, "bob", 1, 1, (bytes(16), bytes(32)))
+        joined = [plain(ADOPT, "carol", 7), plain(CHANGE, "carol", 8), plain(ADOPT, "carol", 10)]
+        changes = [plain(CHANGE, "alice", kvno) for kvno in (2, 3, 4)]
+        former = [raise_record(6), *changes, plain(LIFT, "alice", 9), removed, *joined, raise_record(8)]
+        wanted = [raise_record(8), plain(BASE, "alice", 2), plain(CHANGE, "alice", 3), plain(ADOPT, "alice", 9), removed, *joined]
+        private(self.server.journal).write_bytes(b"".join(former))
+        start(self)
+        held = table(self, "--as", "keys")
+        self.tell("compact", told(self, "compact", "copy"), (OK, 0))
+        self.tell("the journal", self.server.journal.read_bytes().hex(), b"".join(wanted).hex())
+        self.tell("what is held", table(self, "--as", "keys"), held)
+        tell_stop(self)
 
     def test_refused(self):
         """Where there is no copy, or no journal, all stays as it was, and no file is left."""
