@@ -175,22 +175,28 @@ class ClientEndings(ProgramCase):
         self.tell_ended("client: the password on standard input", unconnected, *words, script="New-pass2")
 
     def test_passwords_of_files(self):
-        """The end of its line is no part of a password: it would be of one class more, of which the service wants two."""
+        """The end of its line is no part of a password: it would be of one class more, of which the service wants two. What
+        stands at the ends of a class is of that class."""
         server = self.new_server("alice")
         write_configuration(server.configuration, ["alice"], iterations=4)
-        server.start(connections=4)
+        server.start(connections=9)
         client = Client(self, server)
         del client.options["--password"]
-        changed = ("code 0 password changed", "", 0)
+        changed, refused = ("code 0 password changed", "", 0), ("code 4 too few character classes", "", 1)
         for what, text, wanted in [
             ("a newline", b"newpass1\n", changed),
             ("a carriage return, too", b"newpass2\r\n", changed),
             ("no newline", b"newpass3", changed),
-            ("one class", b"newpass\r\n", ("code 4 too few character classes", "", 1)),
+            ("one class", b"newpass\r\n", refused),
+            ("a to z", b"azazaz", refused),
+            ("A to Z", b"AZAZAZ", refused),
+            ("0 to 9", b"090909", refused),
+            ("punctuation", b"!/:@[`{~", refused),
+            ("others", b" \x7f\x80\xff \x7f", refused),
         ]:
             (self.folder / "password").write_bytes(text)
             client.tell(f"a password of a file, {what}", wanted, **{"password-file": "password"})
-        self.tell("serve: its last line", server.last_words(), "entries 4 changes 3")
+        self.tell("serve: its last line", server.last_words(), "entries 9 changes 3")
         records = [(it.kvno, it.aes128, it.aes256) for it in read_journal(server.journal.read_bytes())[0]]
         self.tell("the keys", records, [(it + 1, *keys_of("alice", f"newpass{it}", 4)) for it in (1, 2, 3)])
 
