@@ -119,11 +119,15 @@ def ran(case, *words, stdin=None):
     return done.stdout, done.stderr.splitlines(), done.returncode
 
 
+# journals that are there before such a start
+BEFORE = {"a torn tail": plain_record("alice", 2) + b"\1", "the folder of a journal that is there": plain_record("alice", 2)}
 # what fails in the machine, by machine.c; and what the start says, after what it has printed
 FAILURES = [
     ("the configuration's bytes", {"FAILS": "read 1 5"}, [], "cannot read {configuration}"),
     ("the lock of a new journal", {"FAILS": "flock 1 37"}, [], "cannot write {journal}"),
     ("a new journal's folder", {"FOLDERS": 1}, [], "cannot write {journal}"),
+    ("the folder of a journal that is there", {"FOLDERS": 1, "FAILS": "epoll_wait 1 9"}, ["listening", "entries 0 changes 0"],
+     "cannot listen"),
     ("a torn tail", {"FAILS": "ftruncate 1 5"}, [], "cannot write {journal}"),
     ("a port that can't listen", {"FAILS": "listen 1 98"}, [], "cannot listen"),
     ("a port that has no datagrams", {"FAILS": "bind 2 98"}, [], "cannot listen"),
@@ -372,8 +376,8 @@ class Starts(ServiceCase):
         """Each ends the service with a line and status 1, also one that is to go on for ever."""
         for what, machine_does, printed, line in FAILURES:
             self.server.journal.unlink(missing_ok=True)
-            if what == "a torn tail":
-                private(self.server.journal).write_bytes(plain_record("alice", 2) + b"\1")
+            if what in BEFORE:
+                private(self.server.journal).write_bytes(BEFORE[what])
             self.launch("unlimited", options=["--control", "control", "--udp"], **machine_does)
             lines, status = self.last_lines()
             wanted = line.format(configuration=self.server.configuration, journal=self.server.journal)
