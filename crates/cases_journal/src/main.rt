@@ -1,6 +1,6 @@
 //! Layer: tests. Touches: standard input and output. Called by: nobody, it is run.
 //!
-//! Answers cases of what a service holds: journals and reloads, passwords and names.
+//! Answers cases of what a service holds: journals and reloads.
 //!
 //! A line on standard input that is a topic's name in brackets begins the topic, and the lines below it are cases of it;
 //! README.md lists their kinds.
@@ -9,13 +9,14 @@
 mod journal;
 mod pieces;
 mod reload;
-mod rules;
 mod telling;
 
+use crate::journal::show_journal_case;
+use crate::reload::show_reload;
 use std::alloc::Global;
 use std::fs::{File, Files};
-use std::io::{self, Write};
-use support_cases::{Topics, answer_lines, print_topics, refuse_lines};
+use std::io;
+use support_cases::{Topics, no_topic, print_topics, text_of};
 
 #[derive(Drop)]
 struct Cases<'a, R: Files<File = File>> {
@@ -23,23 +24,14 @@ struct Cases<'a, R: Files<File = File>> {
 }
 
 impl<R: Files<File = File>> Topics for Cases<'_, R> {
-    fn has(&self, topic: &str) -> bool {
-        matches!(topic, "journal" | "reload" | "rules")
-    }
-
-    fn print<W: Write>(
-        &mut self,
-        alloc: Global,
-        out: &mut W,
-        topic: &str,
-        lines: &str,
-    ) -> io::Result<()> {
+    fn answer(&mut self, alloc: Global, topic: &str, case: &str) -> io::Result<String> {
+        let mut text = Vec::new(alloc);
         match topic {
-            "journal" => answer_lines(alloc, out, &mut journal::Cases { rt: self.rt }, lines),
-            "reload" => answer_lines(alloc, out, &mut reload::Cases, lines),
-            "rules" => answer_lines(alloc, out, &mut rules::Cases, lines),
-            _ => refuse_lines(out, lines),
+            "journal" => show_journal_case(self.rt, alloc, &mut text, case)?,
+            "reload" => show_reload(alloc, &mut text, case)?,
+            _ => return no_topic(alloc),
         }
+        Ok(String::from_str(alloc, text_of(&text))?)
     }
 }
 

@@ -2,117 +2,61 @@
 
 use chpw_journal::heading_bytes;
 use chpw_record::{KeyKind, KeyRow, key_bytes, raise_bytes};
-use chpw_rules::Name;
+use chpw_rules::REALM_LENGTHS;
 use std::alloc::Global;
-use std::io::{self, Error, ErrorKind};
-
-/// The most bytes of a realm.
-const LONGEST_REALM: usize = 255;
-
-/// The error that ends the program where a line is no case.
-pub fn no_case() -> Error {
-    Error::from(ErrorKind::InvalidInput)
-}
+use std::io;
+use support_cases::{bytes, no_case};
+use support_realm::name;
 
 /// The number that a word spells.
 pub fn number(word: &str) -> io::Result<u32> {
-    word.parse().map_err(|_| no_case())
+    let Ok(number) = word.parse() else {
+        return Err(no_case());
+    };
+    Ok(number)
 }
 
-/// The journal with these pieces: `nothing`; `NAME KVNO`, the record of a change, its keys' bytes of that number, and `NAME KVNO
-/// to KVNO`, one for each version; `base NAME KVNO`, `adopt NAME KVNO`, `lift NAME KVNO` and `remove NAME KVNO`, of another kind;
-/// `raise COUNT`; `realm NAME`; `bytes DIGITS`; `first N of` before another piece, of which only N bytes are there.
+/// The journal with these pieces: `nothing`; `NAME KVNO`, the record of a change, its keys' bytes of that number;
+/// `base NAME KVNO`, `adopt NAME KVNO`, `lift NAME KVNO` and `remove NAME KVNO`, of another kind; `raise COUNT`;
+/// `realm NAME`; `bytes DIGITS`; `first N of` before another piece, of which only N bytes are there.
 pub fn journal_of(alloc: Global, pieces: &str) -> io::Result<Vec<u8>> {
     let mut journal = Vec::new(alloc);
-    if pieces == "nothing" {
-        return Ok(journal);
-    }
-    match add_pieces(alloc, &mut journal, pieces) {
-        Ok(()) => Ok(journal),
-        Err(error) => Err(error),
-    }
-}
-
-fn add_pieces(alloc: Global, journal: &mut Vec<u8>, pieces: &str) -> io::Result<()> {
     for piece in pieces.split(", ") {
-        match piece.split_once(" to ") {
-            Some((first, last)) => add_versions(alloc, journal, first, number(last)?)?,
-            None => add_piece(alloc, journal, piece)?,
-        }
+        journal.extend_from_slice(&piece_of(alloc, piece)?)?;
     }
-    Ok(())
+    Ok(journal)
 }
 
-/// Adds a change to each version from `NAME KVNO` to this one.
-fn add_versions(alloc: Global, journal: &mut Vec<u8>, first: &str, last: u32) -> io::Result<()> {
-    let (name, first) = first.split_once(' ').unwrap_or((first, ""));
-    for kvno in number(first)?..=last {
-        add_key(alloc, journal, KeyKind::Change, name, kvno)?;
-    }
-    Ok(())
-}
-
-/// Adds a piece, or the first bytes of one.
-fn add_piece(alloc: Global, journal: &mut Vec<u8>, piece: &str) -> io::Result<()> {
+fn piece_of(alloc: Global, piece: &str) -> io::Result<Vec<u8>> {
     let Some(words) = piece.strip_prefix("first ") else {
-        return add_whole(alloc, journal, piece);
+        return whole_of(alloc, piece);
     };
     let (count, piece) = words.split_once(" of ").unwrap_or((words, ""));
-    let end = journal.len().saturating_add(number(count)? as usize);
-    add_whole(alloc, journal, piece)?;
-    journal.truncate(end);
-    Ok(())
+    let mut front = whole_of(alloc, piece)?;
+    front.truncate(number(count)? as usize);
+    Ok(front)
 }
 
-fn add_whole(alloc: Global, journal: &mut Vec<u8>, piece: &str) -> io::Result<()> {
+fn whole_of(alloc: Global, piece: &str) -> io::Result<Vec<u8>> {
     let (what, word) = piece.rsplit_once(' ').unwrap_or((piece, ""));
     match what {
-        "bytes" => {
-            let bytes = hex::decode(alloc, word).map_err(|_| no_case())?;
-            journal.extend_from_slice(&bytes).map_err(Error::from)
-        }
-        "raise" => journal
-            .extend_from_slice(&raise_bytes(number(word)?))
-            .map_err(Error::from),
-        "realm" => add_realm(alloc, journal, word),
-        _ => {
-            let (kind, name) = kind_of(what);
-            add_key(alloc, journal, kind, name, number(word)?)
-        }
+        "nothing" => Ok(Vec::new(alloc)),
+        "bytes" => Ok(bytes(alloc, word)?),
+        "raise" => Ok(Vec::from_slice(alloc, &raise_bytes(number(word)?))?),
+        "realm" if REALM_LENGTHS.allow(word.len()) => Ok(heading_bytes(alloc, word.as_bytes())?),
+        _ => key_record(alloc, what, number(word)?),
     }
 }
 
-fn add_realm(alloc: Global, journal: &mut Vec<u8>, realm: &str) -> io::Result<()> {
-    if realm.is_empty() || realm.len() > LONGEST_REALM {
-        return Err(no_case());
-    }
-    let record = heading_bytes(alloc, realm.as_bytes())?;
-    journal.extend_from_slice(&record).map_err(Error::from)
-}
-
-/// The kind of a record, and its name; that of a change has no word for its kind.
-fn kind_of(words: &str) -> (KeyKind, &str) {
-    let Some((kind, name)) = words.split_once(' ') else {
-        return (KeyKind::Change, words);
-    };
-    let kind = match kind {
-        "base" => KeyKind::Base,
-        "adopt" => KeyKind::Adopt,
-        "lift" => KeyKind::Lift,
-        _ => KeyKind::Remove,
-    };
-    (kind, name)
-}
-
-fn add_key(
-    alloc: Global,
-    journal: &mut Vec<u8>,
-    kind: KeyKind,
-    name: &str,
-    kvno: u32,
-) -> io::Result<()> {
-    let Some(name) = Name::parse(alloc, name)? else {
-        return Err(no_case());
+/// The record of a key: that of a change, where the name has no word for another kind before it.
+fn key_record(alloc: Global, what: &str, kvno: u32) -> io::Result<Vec<u8>> {
+    let (kind, client) = match what.split_once(' ') {
+        None => (KeyKind::Change, what),
+        Some(("base", client)) => (KeyKind::Base, client),
+        Some(("adopt", client)) => (KeyKind::Adopt, client),
+        Some(("lift", client)) => (KeyKind::Lift, client),
+        Some(("remove", client)) => (KeyKind::Remove, client),
+        Some(_) => return Err(no_case()),
     };
     let byte = (kvno % 256) as u8;
     let key = KeyRow {
@@ -121,6 +65,5 @@ fn add_key(
         aes128: [byte; 16],
         aes256: [byte; 32],
     };
-    let record = key_bytes(alloc, kind, &name, &key)?;
-    journal.extend_from_slice(&record).map_err(Error::from)
+    Ok(key_bytes(alloc, kind, &name(alloc, client)?, &key)?)
 }

@@ -2,7 +2,7 @@
 
 use chpw_printing::{put_after_space, put_name};
 use chpw_rules::Name;
-use chpw_table::{KeyRow, Table};
+use chpw_table::Table;
 use std::alloc::AllocError;
 
 /// Adds a table's principals, each with the versions of its keys, newest first, and its count.
@@ -20,15 +20,8 @@ pub fn show_table(text: &mut Vec<u8>, table: &Table) -> Result<(), AllocError> {
 fn show_principal(text: &mut Vec<u8>, table: &Table, name: &Name) -> Result<(), AllocError> {
     text.push(b' ')?;
     put_name(text, name)?;
-    if let Some(keys) = table.keys_of(name) {
-        show_keys(text, keys)?;
-    }
-    Ok(text.push(b',')?)
-}
-
-fn show_keys(text: &mut Vec<u8>, keys: &[KeyRow]) -> Result<(), AllocError> {
-    for key in keys {
+    for key in table.keys_of(name).unwrap_or(&[]) {
         put_after_space(text, key.kvno)?;
     }
-    Ok(())
+    Ok(text.push(b',')?)
 }

@@ -1,8 +1,7 @@
 //! Journals in a file.
 
 use crate::journal::restoring::table;
-use crate::journal::unsynced::Unsynced;
-use crate::pieces::{journal_of, no_case};
+use crate::pieces::journal_of;
 use crate::telling::show_table;
 use chpw_journal::{Journal, JournalFile, OpenFault, open_journal};
 use chpw_table::JournalSink;
@@ -10,17 +9,18 @@ use std::alloc::Global;
 use std::fs::{self, File, Files};
 use std::io::{self, Write};
 use std::os::unix::fs::PermissionsExt;
+use support_cases::no_case;
 
 /// The journal's file.
 const SCRATCH: &str = "scratch-journal";
 
-/// Adds the result for a journal with these pieces as a file, of which there is none with `no file`: `open`, `twice`,
-/// `unsynced`, or `append PIECES`.
+/// Adds the result for a journal with these pieces as a file, of which there is none with `no file`: `open`, `twice`, or
+/// `append`, with the pieces of what is appended before it is opened.
 pub fn show_filed<R: Files<File = File>>(
     rt: &R,
     alloc: Global,
     text: &mut Vec<u8>,
-    what: &str,
+    kind: &str,
     more: &str,
     pieces: &str,
 ) -> io::Result<()> {
@@ -28,61 +28,25 @@ pub fn show_filed<R: Files<File = File>>(
     if pieces != "no file" {
         fs::write(rt, SCRATCH, &journal_of(alloc, pieces)?)?;
     }
-    let shown = show_case(rt, alloc, text, what, more);
-    let _ = fs::remove_file(rt, SCRATCH);
-    shown
-}
-
-fn show_case<R: Files<File = File>>(
-    rt: &R,
-    alloc: Global,
-    text: &mut Vec<u8>,
-    what: &str,
-    more: &str,
-) -> io::Result<()> {
-    match what {
+    match kind {
         "append" => append(rt, alloc, &journal_of(alloc, more)?)?,
         "twice" => show_locked(rt, alloc, text)?,
-        "unsynced" => {
-            let unsynced = Unsynced {
-                inner: rt,
-                folder: ".",
-            };
-            return show_opened(&unsynced, alloc, text);
-        }
         _ => {}
     }
-    show_opened(rt, alloc, text)
+    show_opened(rt, alloc, text)?;
+    fs::remove_file(rt, SCRATCH)
 }
 
 /// Adds what opening the file gives, and how many bytes are in it then.
 fn show_opened<R: Files<File = File>>(rt: &R, alloc: Global, text: &mut Vec<u8>) -> io::Result<()> {
-    show_opening(rt, alloc, text)?;
+    match open_journal(rt, alloc, SCRATCH, table(alloc)?) {
+        Ok(journal) => show_journal(rt, text, &journal)?,
+        Err(OpenFault::CannotRead) => text.extend_from_slice(b"cannot read")?,
+        Err(OpenFault::CannotWrite) => text.extend_from_slice(b"cannot write")?,
+        Err(OpenFault::Restore(fault)) => write!(text, "{fault}")?,
+    }
     let left = fs::metadata(rt, SCRATCH)?.len();
     write!(text, ", {left} bytes")
-}
-
-fn show_opening<R: Files<File = File>>(
-    rt: &R,
-    alloc: Global,
-    text: &mut Vec<u8>,
-) -> io::Result<()> {
-    match open_journal(rt, alloc, SCRATCH, table(alloc)?) {
-        Ok(journal) => {
-            let shown = show_journal(rt, text, &journal);
-            drop(journal);
-            shown
-        }
-        Err(fault) => show_fault(text, fault),
-    }
-}
-
-fn show_fault(text: &mut Vec<u8>, fault: OpenFault) -> io::Result<()> {
-    match fault {
-        OpenFault::CannotRead => write!(text, "cannot read"),
-        OpenFault::CannotWrite => write!(text, "cannot write"),
-        OpenFault::Restore(fault) => write!(text, "{fault}"),
-    }
 }
 
 /// Adds whether the file existed, the mode of a new one, what is in the table, and where a torn tail was cut off.
@@ -109,42 +73,25 @@ fn append<R: Files<File = File>>(rt: &R, alloc: Global, more: &[u8]) -> io::Resu
     let Ok(mut journal) = open_journal(rt, alloc, SCRATCH, table(alloc)?) else {
         return Err(no_case());
     };
-    let appended = journal.sink.append(more);
-    drop(journal);
-    appended.map_err(|_| no_case())
+    let Ok(()) = journal.sink.append(more) else {
+        return Err(no_case());
+    };
+    Ok(())
 }
 
 /// Adds whether the file existed when it was locked, and what opening it gives beside the locked file and beside the
 /// journal restored from it.
 fn show_locked<R: Files<File = File>>(rt: &R, alloc: Global, text: &mut Vec<u8>) -> io::Result<()> {
-    let journal = shown_locked(rt, alloc, text)?;
-    let shown = show_beside(rt, alloc, text, "");
-    drop(journal);
-    shown
-}
-
-fn shown_locked<R: Files<File = File>>(
-    rt: &R,
-    alloc: Global,
-    text: &mut Vec<u8>,
-) -> io::Result<Journal<File>> {
     let Ok(locked) = JournalFile::lock(rt, SCRATCH) else {
         return Err(no_case());
     };
-    let found = if locked.found { "found; " } else { "new; " };
-    match show_beside(rt, alloc, text, found) {
-        Ok(()) => locked.restore(alloc, table(alloc)?).map_err(|_| no_case()),
-        Err(error) => Err(error),
-    }
-}
-
-fn show_beside<R: Files<File = File>>(
-    rt: &R,
-    alloc: Global,
-    text: &mut Vec<u8>,
-    found: &str,
-) -> io::Result<()> {
-    text.extend_from_slice(found.as_bytes())?;
+    write!(text, "{}; ", if locked.found { "found" } else { "new" })?;
     show_opened(rt, alloc, text)?;
+    let Ok(journal) = locked.restore(alloc, table(alloc)?) else {
+        return Err(no_case());
+    };
+    text.extend_from_slice(b"; ")?;
+    show_opened(rt, alloc, text)?;
+    drop(journal);
     Ok(text.extend_from_slice(b"; ")?)
 }

@@ -1,12 +1,10 @@
 //! What restoring a journal gives.
 
-use crate::pieces::no_case;
 use crate::telling::show_table;
-use chpw_journal::{Restored, compact_journal, restore_file};
+use chpw_journal::restore_file;
 use chpw_table::Table;
 use std::alloc::Global;
 use std::io::{self, Write};
-use support_cases::Census;
 use support_realm::name;
 use support_streams::{Course, Giver, Way};
 
@@ -30,52 +28,11 @@ pub fn show_restored(
     };
     match restore_file(alloc, table(alloc)?, giver) {
         Ok((restored, _)) => {
-            let shown = show_told(text, &restored);
-            drop(restored);
-            shown
+            let tail = if restored.torn { "torn" } else { "whole" };
+            let (records, kept) = (restored.records, restored.kept);
+            write!(text, "records {records} kept {kept} {tail},")?;
+            Ok(show_table(text, &restored.table)?)
         }
         Err(fault) => write!(text, "{fault}"),
     }
-}
-
-fn show_told(text: &mut Vec<u8>, r: &Restored) -> io::Result<()> {
-    let tail = if r.torn { "torn" } else { "whole" };
-    write!(text, "records {} kept {} {tail},", r.records, r.kept)?;
-    Ok(show_table(text, &r.table)?)
-}
-
-/// Adds what restoring it gives if a read fails before each of its bytes in turn, and at its end.
-pub fn show_failing(alloc: Global, text: &mut Vec<u8>, way: Way, journal: &[u8]) -> io::Result<()> {
-    let mut census = Census::new(alloc);
-    for place in 0..=journal.len() {
-        let mut told = Vec::new(alloc);
-        show_restored(alloc, &mut told, way.failing_after(place), journal)?;
-        census.add(alloc, place, str::from_utf8(&told).unwrap_or(""))?;
-    }
-    text.extend_from_slice(census.text(alloc)?.as_bytes())?;
-    Ok(())
-}
-
-/// Adds the bytes of the compact journal for the table that this one leads to, and what restoring it gives.
-pub fn show_compact(alloc: Global, text: &mut Vec<u8>, journal: &[u8]) -> io::Result<()> {
-    let compact = compacted(alloc, journal)?;
-    let digits = hex::encode(alloc, &compact)?;
-    write!(text, "[{digits}] ")?;
-    show_restored(alloc, text, Way::of(""), &compact)
-}
-
-fn compacted(alloc: Global, journal: &[u8]) -> io::Result<Vec<u8>> {
-    let Ok((restored, _)) = restore_file(alloc, table(alloc)?, journal) else {
-        return Err(no_case());
-    };
-    let compact = compact_from_start(alloc, &restored.table);
-    drop(restored);
-    compact
-}
-
-fn compact_from_start(alloc: Global, held: &Table) -> io::Result<Vec<u8>> {
-    let base = table(alloc)?;
-    let compact = compact_journal(alloc, &base, held);
-    drop(base);
-    Ok(compact?)
 }

@@ -2,11 +2,12 @@
 ghost use Rattle.std.specs.Prelude.{◌≡◌, true, IfOk};
 ghost use Rattle.chpw_rules.specs.Fitting.{config_fits};
 
-use crate::pieces::{no_case, number};
-use chpw_rules::{Config, Items, KeyBytes, Name, PrincipalRow};
+use crate::pieces::number;
+use chpw_rules::{Config, Items, KeyBytes, PrincipalRow};
 use std::alloc::Global;
 use std::io;
-use support_realm::config;
+use support_cases::no_case;
+use support_realm::{config, name};
 
 /// The configuration with these words, with `; ` between: `NAME KVNO KVNO ..`, a principal with these keys, newest
 /// first, whose bytes are of that number, or, with `!` after it, of another; `depth N`, default 2; `count N`, default
@@ -15,20 +16,16 @@ pub fn config_of(alloc: Global, words: &str) -> io::Result<Config>
     ensures fits { IfOk result (λ config. config_fits config ≡ true) }
 {
     let mut config = config(alloc, Vec::new(alloc), 4096, 100)?;
-    match put_words(alloc, &mut config, words) {
-        Ok(()) if config.fits() => Ok(config),
-        Ok(()) => Err(no_case()),
-        Err(error) => Err(error),
-    }
-}
-
-fn put_words(alloc: Global, config: &mut Config, words: &str) -> io::Result<()> {
     let mut rows = Vec::new(alloc);
     for word in words.split("; ") {
-        put_word(alloc, config, &mut rows, word)?;
+        put_word(alloc, &mut config, &mut rows, word)?;
     }
     config.principals = Items::of(rows);
-    Ok(())
+    if config.fits() {
+        Ok(config)
+    } else {
+        Err(no_case())
+    }
 }
 
 fn put_word(
@@ -45,35 +42,29 @@ fn put_word(
         "count" => config.policy.iterations = number(rest)?,
         "entries" => config.max_entries = number(rest)?,
         "realm" => config.realm = Items::of(Vec::from_slice(alloc, rest.as_bytes())?),
-        name => rows.push(row(alloc, name, rest)?)?,
+        _ => rows.push(row(alloc, what, rest)?)?,
     }
     Ok(())
 }
 
-fn row(alloc: Global, name: &str, kvnos: &str) -> io::Result<PrincipalRow> {
+fn row(alloc: Global, principal: &str, kvnos: &str) -> io::Result<PrincipalRow> {
     let mut keys = Vec::new(alloc);
     for word in kvnos.split(' ') {
-        keys.push(key(word)?)?;
+        let kvno = number(word.strip_suffix("!").unwrap_or(word))?;
+        let byte = if word.ends_with('!') {
+            0xff
+        } else {
+            (kvno % 256) as u8
+        };
+        keys.push(KeyBytes {
+            kvno,
+            iterations: 4096,
+            aes128: [byte; 16],
+            aes256: [byte; 32],
+        })?;
     }
-    match Name::parse(alloc, name)? {
-        Some(name) => Ok(PrincipalRow {
-            name,
-            keys: Items::of(keys),
-        }),
-        None => Err(no_case()),
-    }
-}
-
-fn key(word: &str) -> io::Result<KeyBytes> {
-    let (kvno, is_other) = match word.strip_suffix("!") {
-        Some(kvno) => (number(kvno)?, true),
-        None => (number(word)?, false),
-    };
-    let byte = if is_other { 0xff } else { (kvno % 256) as u8 };
-    Ok(KeyBytes {
-        kvno,
-        iterations: 4096,
-        aes128: [byte; 16],
-        aes256: [byte; 32],
+    Ok(PrincipalRow {
+        name: name(alloc, principal)?,
+        keys: Items::of(keys),
     })
 }
