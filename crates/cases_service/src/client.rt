@@ -14,25 +14,11 @@
 //! - `reply HEX`: what the client prints for this reply to the last request. `reply`: for the last reply again; `cut`
 //!   and `changed`: how many are read if it is cut before each byte, or has each byte changed; `mistaken`: as the reply
 //!   to the request before.
-//! - A line that begins with `#`, or is empty, is copied.
 //!
 //! Words count from 1: those of the client from its first request in a world on, those of the service for each message.
 //! The microseconds of a request count from 0 in a world.
 
 mod asking;
-mod cases;
+pub mod cases;
 mod reading;
 mod replying;
-
-use crate::client::cases::Cases;
-use std::alloc::Global;
-use std::io::{self, Write};
-use support_cases::answer_lines;
-
-/// Prints the answers to the lines of this topic.
-pub fn answer<W: Write>(alloc: Global, out: &mut W, lines: &str) -> io::Result<()> {
-    let mut cases = Cases::new(alloc);
-    let printed = answer_lines(alloc, out, &mut cases, lines);
-    drop(cases);
-    printed
-}

@@ -1,7 +1,7 @@
 //! Cases of the command line, a line each: its words, the program's name first, with a space between two of them.
 //!
 //! The answer is what they ask for; or the first lines of the text that says why they ask for no command, as a text in
-//! quotes. A line that begins with `#`, or is empty, is copied.
+//! quotes.
 
 mod showing;
 
@@ -9,22 +9,24 @@ use crate::invocation::showing::invocation_text;
 use chpw_invocation::command_of;
 use std::alloc::{AllocError, Global};
 use std::io;
-use support_cases::Answers;
 
-#[derive(Drop)]
-pub struct Cases;
-
-impl Answers for Cases {
-    fn answer(&mut self, alloc: Global, case: &str) -> io::Result<String> {
-        let words = words_of(alloc, case)?;
-        let asked = command_of(alloc, &words);
-        let text = match &asked {
-            Ok(invocation) => invocation_text(alloc, invocation),
-            Err(error) => first_lines(alloc, error.to_string(alloc)?.as_str()),
-        };
-        drop(asked);
-        Ok(text?)
-    }
+/// The answer to a case.
+pub fn answer(alloc: Global, case: &str) -> io::Result<String> {
+    let words = words_of(alloc, case)?;
+    let asked = command_of(alloc, &words);
+    let text = match &asked {
+        Ok(invocation) => invocation_text(alloc, invocation),
+        Err(error) => {
+            let said = error.to_string(alloc)?;
+            let (lines, _) = said
+                .as_str()
+                .split_once("\n\n")
+                .unwrap_or((said.as_str(), ""));
+            format!(in alloc; "{:?}", lines.trim_end())
+        }
+    };
+    drop(asked);
+    Ok(text?)
 }
 
 fn words_of(alloc: Global, line: &str) -> Result<Vec<String>, AllocError> {
@@ -33,10 +35,4 @@ fn words_of(alloc: Global, line: &str) -> Result<Vec<String>, AllocError> {
         words.push(String::from_str(alloc, word)?)?;
     }
     Ok(words)
-}
-
-// A text up to its first empty line.
-fn first_lines(alloc: Global, text: &str) -> Result<String, AllocError> {
-    let (lines, _) = text.split_once("\n\n").unwrap_or((text, ""));
-    format!(in alloc; "{:?}", lines.trim_end())
 }

@@ -13,34 +13,35 @@ mod stream;
 mod words;
 
 use std::alloc::Global;
-use std::io::{self, Write};
-use support_cases::{Topics, answer_lines, print_topics, refuse_lines};
+use std::io;
+use support_cases::{Topics, no_topic, print_topics};
 
+/// What the lines before have set.
 #[derive(Drop)]
-struct Cases;
+struct Cases {
+    stream: stream::Cases,
+    client: client::cases::Cases,
+}
 
 impl Topics for Cases {
-    fn has(&self, topic: &str) -> bool {
-        matches!(topic, "stream" | "client" | "commands" | "invocation")
-    }
-
-    fn print<W: Write>(
-        &mut self,
-        alloc: Global,
-        out: &mut W,
-        topic: &str,
-        lines: &str,
-    ) -> io::Result<()> {
+    fn answer(&mut self, alloc: Global, topic: &str, case: &str) -> io::Result<String> {
         match topic {
-            "stream" => stream::answer(alloc, out, lines),
-            "client" => client::answer(alloc, out, lines),
-            "invocation" => answer_lines(alloc, out, &mut invocation::Cases, lines),
-            "commands" => answer_lines(alloc, out, &mut commands::Cases, lines),
-            _ => refuse_lines(out, lines),
+            "stream" => self.stream.answer(alloc, case),
+            "client" => self.client.answer(alloc, case),
+            "commands" => commands::answer(alloc, case),
+            "invocation" => invocation::answer(alloc, case),
+            _ => no_topic(alloc),
         }
     }
 }
 
 fn main(rt: HostRuntime) -> io::Result<()> {
-    print_topics(&rt, &mut Cases)
+    let alloc = rt.alloc();
+    let mut cases = Cases {
+        stream: stream::Cases::new(alloc),
+        client: client::cases::Cases::new(alloc),
+    };
+    let printed = print_topics(&rt, &mut cases);
+    drop(cases);
+    printed
 }

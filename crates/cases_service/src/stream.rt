@@ -9,52 +9,129 @@
 //!   each reply, how the stream ended, how many events there were, and the kvno of each principal.
 //! - `written HOW: HEX`: a stream with these bytes is served, `-` for none, and ` zeros N` after them for N more; the
 //!   answer has what was written. `replied HOW: NAME ..` does so with messages.
-//! - `repeated N HOW: HEX`: those bytes N times are served as one stream. The answer has the first reply and how often
-//!   it was written, if nothing else was, how the stream ended and what was left unread.
-//! - `wanting WHAT: NAME ..`: these messages are served as one stream without memory, WHAT being `to decide` or `to
-//!   reply`.
-//! - `broken HOW: NAME ..`: they are served with a write that fails after each byte of the replies in turn.
 //! - `CHANGE, HOW: NAME`: that message is served with a change at each of its places in turn, each time in a world of
 //!   its own; CHANGE is `prefixes` (it ends before that byte), `prefixes with their length` (its length field says so
 //!   too), `changed by 01` (these bits of that byte are flipped) or `changed to 00`. The answer has each of the answers
 //!   that `served` gives, after how often and at which places it came. A change that changes nothing, and a prefix
 //!   without its length field, are left out.
-//! - `ending HOW: NAME ..` and `failing HOW: NAME ..`: these messages are served as one stream that ends, or whose
-//!   reads fail, before each of its bytes in turn, in a world of its own. The answer is likewise.
-//! - `taking HOW: NAME ..`: likewise, with writes that take at most N bytes, N from 1 to as many as the replies have.
-//! - `gated HOW: NAME ..`: they are served past a gate, and the answer is where the worker passed it; HOW says how the
-//!   writer behaves.
 //! - `answered WHO: NAME ..`: these messages are answered one by one by a decider that records its calls.
 //! - `looks: NAME ..`: likewise; the answer has the names that were looked up.
 //! - `words N STREAM PLACE`: the sixteen words of a worker from that place on, as bytes; the seed is of zeros except
 //!   its last byte, which is N.
-//! - A line that begins with `#`, or is empty, is copied.
 //!
 //! HOW has words with commas between: the moment, as `at 1000100`, and how the reader behaves, see support_streams.
 
-mod cases;
 mod deciding;
-mod gated;
 mod messages;
-mod repeating;
 mod serving;
 mod setting;
-mod sparing;
 mod varied;
-mod wanting;
 mod watched;
 mod words;
-mod writing;
 
-use crate::stream::cases::Cases;
+use crate::stream::deciding::answers_text;
+use crate::stream::messages::{Message, read_message, stream_of};
+use crate::stream::serving::{How, served_text, written_text};
+use crate::stream::setting::Setting;
+use crate::stream::varied::varied_message;
+use crate::words::apply_edits;
 use std::alloc::Global;
-use std::io::{self, Write};
-use support_cases::answer_lines;
+use std::io;
+use support_cases::{Change, bytes_with_zeros, no_case};
 
-/// Prints the answers to the lines of this topic.
-pub fn answer<W: Write>(alloc: Global, out: &mut W, lines: &str) -> io::Result<()> {
-    let mut cases = Cases::new(alloc);
-    let printed = answer_lines(alloc, out, &mut cases, lines);
-    drop(cases);
-    printed
+/// What the lines before have set.
+#[derive(Drop)]
+pub struct Cases {
+    base: String,
+    setting: Setting,
+    messages: Vec<Message>,
+}
+
+impl Cases {
+    pub fn new(alloc: Global) -> Cases {
+        Cases {
+            base: String::new(alloc),
+            setting: Setting {
+                config: String::new(alloc),
+                quiet_until: -1,
+                rfc3244_only: false,
+            },
+            messages: Vec::new(alloc),
+        }
+    }
+
+    /// The answer to a case.
+    pub fn answer(&mut self, alloc: Global, case: &str) -> io::Result<String> {
+        let (kind, text) = case.split_once(' ').unwrap_or((case, ""));
+        match kind {
+            "|" => {
+                self.base.push_str(text)?;
+                self.base.push_str("\n")?;
+            }
+            "world" => self.set_world(alloc, text)?,
+            "message" => {
+                self.messages.push(read_message(alloc, text)?)?;
+                return Ok(String::from_str(alloc, "a message")?);
+            }
+            "words" => return words::answer(alloc, text),
+            _ => return self.of_stream(alloc, case),
+        }
+        Ok(String::from_str(alloc, case)?)
+    }
+
+    /// `quiet N`, `of RFC 3244 alone`, and `OLD -> NEW`.
+    fn set_world(&mut self, alloc: Global, text: &str) -> io::Result<()> {
+        self.setting.quiet_until = match text.strip_prefix("quiet ") {
+            Some(second) => second.parse().unwrap_or(-1),
+            None => -1,
+        };
+        self.setting.rfc3244_only = text == "of RFC 3244 alone";
+        self.setting.config = apply_edits(alloc, self.base.as_str(), text)?;
+        Ok(())
+    }
+
+    /// The answer to a case of streams.
+    fn of_stream(&self, alloc: Global, case: &str) -> io::Result<String> {
+        let Some((head, text)) = case.split_once(": ") else {
+            return Err(no_case());
+        };
+        match head.split_once(' ') {
+            Some(("written", how)) => {
+                let stream = bytes_with_zeros(alloc, text)?;
+                written_text(alloc, &self.setting, &How::of(how), &stream)
+            }
+            _ => self.of_messages(alloc, head, &self.messages_named(alloc, text)?),
+        }
+    }
+
+    /// The answer to a case of messages.
+    fn of_messages(&self, alloc: Global, head: &str, messages: &[&Message]) -> io::Result<String> {
+        let setting = &self.setting;
+        let (change, how) = head.split_once(", ").unwrap_or((head, ""));
+        if let Some(change) = Change::of(change) {
+            return varied_message(alloc, setting, change, &How::of(how), messages);
+        }
+        let (kind, how) = head.split_once(' ').unwrap_or((head, ""));
+        if kind == "answered" || kind == "looks" {
+            return answers_text(alloc, setting, how, messages, kind == "looks");
+        }
+        let stream = stream_of(alloc, messages)?;
+        match kind {
+            "served" => served_text(alloc, setting, &How::of(how), messages, &stream),
+            "replied" => written_text(alloc, setting, &How::of(how), &stream),
+            _ => Err(no_case()),
+        }
+    }
+
+    /// The messages with these names.
+    fn messages_named(&self, alloc: Global, text: &str) -> io::Result<Vec<&Message>> {
+        let mut messages = Vec::new(alloc);
+        for name in text.split(' ') {
+            let Some(found) = self.messages.iter().find(|m| m.name.as_str() == name) else {
+                return Err(no_case());
+            };
+            messages.push(found)?;
+        }
+        Ok(messages)
+    }
 }

@@ -6,20 +6,10 @@ use crate::no_such;
 use chpw_decider::Decider;
 use chpw_endpoints::Endpoints;
 use chpw_frame::{LONGEST_MESSAGE, write_tcp};
-use chpw_journal::MemorySink;
 use chpw_serve::serve_alone;
 use std::alloc::Global;
 use std::io;
 use support_realm::{Counting, Standing, World};
-
-// The bytes of the journal in these measurements.
-const JOURNAL: usize = 10_000_000;
-
-// A configuration's service, and its table with no event yet.
-fn start(alloc: Global, text: &str) -> io::Result<World<MemorySink>> {
-    let sink = MemorySink::new(alloc, JOURNAL)?;
-    World::start(alloc, text, -1, sink)
-}
 
 // Each message after its length.
 fn stream_of(alloc: Global, messages: &[Vec<u8>]) -> io::Result<Vec<u8>> {
@@ -33,7 +23,7 @@ fn stream_of(alloc: Global, messages: &[Vec<u8>]) -> io::Result<Vec<u8>> {
 }
 
 // Serves the stream; the bytes written.
-fn serve(alloc: Global, world: &mut World<MemorySink>, stream: &[u8]) -> usize {
+fn serve(alloc: Global, world: &mut World, stream: &[u8]) -> usize {
     let mut reader = stream;
     let mut written = Vec::new(alloc);
     serve_alone(
@@ -50,7 +40,7 @@ fn serve(alloc: Global, world: &mut World<MemorySink>, stream: &[u8]) -> usize {
 }
 
 // How many passwords were changed.
-fn changes(world: &World<MemorySink>) -> usize {
+fn changes(world: &World) -> usize {
     let receipts = world.alone.receipts().iter();
     receipts.filter(|r| r.entry.event.is_accepted()).count()
 }
@@ -63,7 +53,7 @@ pub fn measure(
     messages: &[Vec<u8>],
 ) -> io::Result<()> {
     let stream = stream_of(rt.alloc(), messages)?;
-    let mut world = start(rt.alloc(), config)?;
+    let mut world = World::start(rt.alloc(), config, -1)?;
     let measured = measure_of(rt, what, &mut world, &stream);
     drop(world);
     measured
@@ -72,7 +62,7 @@ pub fn measure(
 fn measure_of(
     rt: &(impl Print + AllocGlobal),
     what: &str,
-    world: &mut World<MemorySink>,
+    world: &mut World,
     stream: &[u8],
 ) -> io::Result<()> {
     let written = match what {

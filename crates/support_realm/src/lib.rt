@@ -7,11 +7,9 @@
 mod clock;
 mod realm;
 mod request;
-mod tally;
 mod world;
 
 pub use clock::{Counting, Standing};
 pub use realm::{config, name, table};
 pub use request::{NOW, PASSWORD, change};
-pub use tally::Tally;
 pub use world::{World, newest_kvno};

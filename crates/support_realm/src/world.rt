@@ -1,32 +1,33 @@
 //! The service and its table, started from a configuration.
-ghost use Rattle.std.specs.Prelude.{◌≡◌, ◌-◌, ◌^◌, ◌<◌, [], IfSome};
 
 use chpw_config::read_config;
 use chpw_decider::Alone;
+use chpw_journal::MemorySink;
 use chpw_messages::Service;
 use chpw_rules::Name;
-use chpw_table::{JournalSink, Table};
+use chpw_table::Table;
 use std::alloc::{AllocError, Global};
 use std::io::{self, Error, ErrorKind};
 
-/// The service and its table.
+/// The most bytes of a world's journal.
+const JOURNAL: usize = 10_000_000;
+
+/// The service and its table, whose journal is in memory.
 ///
 /// A world is freed by `drop`, which takes the prover one step in place of one for each part of a table.
 #[derive(Drop)]
-pub struct World<S: JournalSink> {
+pub struct World {
     pub service: Service,
-    pub alone: Alone<S>,
+    pub alone: Alone<MemorySink>,
 }
 
-impl<S: JournalSink + Drop> World<S> {
+impl World {
     /// A configuration's service, which refuses requests up to this second, and its table with no event yet.
-    pub fn start(alloc: Global, config: &str, quiet_until: i64, sink: S) -> io::Result<World<S>>
-        requires told { IfSome (S.told sink) (λ bytes. bytes ≡ []) }
-        requires room { S.failed sink < 2 ^ 64 - 1 }
-    {
+    pub fn start(alloc: Global, config: &str, quiet_until: i64) -> io::Result<World> {
         let Ok(config) = read_config(alloc, config) else {
             return Err(Error::from(ErrorKind::InvalidInput));
         };
+        let sink = MemorySink::new(alloc, JOURNAL)?;
         let service = Service::of(alloc, &config)?;
         let table = Table::start(alloc, config, quiet_until)?;
         Ok(World {

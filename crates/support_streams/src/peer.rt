@@ -53,11 +53,6 @@ impl Way {
             ..self
         }
     }
-
-    /// This way, but that a call gives or takes at most `most` bytes.
-    pub fn by(self, most: usize) -> Way {
-        Way { most, ..self }
-    }
 }
 
 /// The progress of a reader or writer.

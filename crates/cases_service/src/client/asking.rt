@@ -3,12 +3,12 @@ ghost use Rattle.std.specs.Prelude.{◌≡◌, ◌<◌, ◌≤ℤ◌, pos, true,
 ghost use Rattle.chpw_client.specs.Questions.{latest_second};
 ghost use Rattle.chpw_rules.specs.Names.{is_name};
 
-use crate::words::no_case;
 use chpw_client::{LAST_START, LONGEST_PASSWORD, SentRequest, client_request};
 use chpw_rules::{Config, Name};
 use chpw_table::Moment;
 use std::alloc::Global;
 use std::io::{self, Error};
+use support_cases::no_case;
 use support_realm::{Counting, name};
 
 /// What a client asks.

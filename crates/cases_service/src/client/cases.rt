@@ -3,14 +3,14 @@
 use crate::client::asking::Question;
 use crate::client::reading::{read_of_changed, reply_line};
 use crate::client::replying::{read_configuration, reply_of};
-use crate::words::{apply_edits, no_case};
+use crate::words::apply_edits;
 use chpw_client::SentRequest;
 use hex::{decode, encode};
 use std::alloc::{AllocError, Global};
 use std::io::{self, Error};
 use std::mem;
-use support_cases::{Answers, Change};
-use support_realm::{Counting, Tally, World, newest_kvno};
+use support_cases::{Change, no_case};
+use support_realm::{Counting, World, newest_kvno};
 
 /// What the lines before have set.
 #[derive(Drop)]
@@ -18,7 +18,7 @@ pub struct Cases {
     base: String,
     /// The client's configuration.
     client: String,
-    world: Option<World<Tally>>,
+    world: Option<World>,
     /// The seconds of client and service.
     asked: i64,
     answered: i64,
@@ -27,22 +27,6 @@ pub struct Cases {
     sent: Vec<SentRequest>,
     /// The last reply.
     reply: Vec<u8>,
-}
-
-impl Answers for Cases {
-    fn answer(&mut self, alloc: Global, case: &str) -> io::Result<String> {
-        let (kind, text) = case.split_once(' ').unwrap_or((case, ""));
-        match kind {
-            "|" | "world" | "client" | "clocks" => {
-                self.set(alloc, kind, text)?;
-                String::from_str(alloc, case).map_err(Error::from)
-            }
-            "ask" => self.ask(alloc, text),
-            "again" => self.again(alloc),
-            "kvno" => self.kvno(alloc, text),
-            _ => self.of_reply(alloc, kind, text),
-        }
-    }
 }
 
 impl Cases {
@@ -56,6 +40,21 @@ impl Cases {
             words: Counting::new(),
             sent: Vec::new(alloc),
             reply: Vec::new(alloc),
+        }
+    }
+
+    /// The answer to a case.
+    pub fn answer(&mut self, alloc: Global, case: &str) -> io::Result<String> {
+        let (kind, text) = case.split_once(' ').unwrap_or((case, ""));
+        match kind {
+            "|" | "world" | "client" | "clocks" => {
+                self.set(alloc, kind, text)?;
+                String::from_str(alloc, case).map_err(Error::from)
+            }
+            "ask" => self.ask(alloc, text),
+            "again" => self.again(alloc),
+            "kvno" => self.kvno(alloc, text),
+            _ => self.of_reply(alloc, kind, text),
         }
     }
 
@@ -77,7 +76,7 @@ impl Cases {
         self.set_client(alloc, text)?;
         drop(mem::replace(&mut self.sent, Vec::new(alloc)));
         self.words = Counting::new();
-        let world = World::start(alloc, self.client.as_str(), -1, Tally::new())?;
+        let world = World::start(alloc, self.client.as_str(), -1)?;
         drop(self.world.replace(world));
         Ok(())
     }

@@ -2,7 +2,7 @@
 ghost use Rattle.std.specs.Prelude.{◌≡◌, true, IfOk};
 ghost use Rattle.chpw_rules.specs.Fitting.{config_fits};
 
-use crate::words::{no_case, put_framed};
+use crate::words::put_framed;
 use chpw_config::read_config;
 use chpw_endpoints::Endpoints;
 use chpw_frame::{TcpOutcome, read_tcp};
@@ -10,7 +10,8 @@ use chpw_rules::Config;
 use chpw_serve::serve_alone;
 use std::alloc::Global;
 use std::io;
-use support_realm::{Counting, Standing, Tally, World};
+use support_cases::no_case;
+use support_realm::{Counting, Standing, World};
 
 /// A configuration.
 pub fn read_configuration(alloc: Global, text: &str) -> io::Result<Config>
@@ -25,7 +26,7 @@ pub fn read_configuration(alloc: Global, text: &str) -> io::Result<Config>
 /// The reply of a world to a message at this second.
 pub fn reply_of(
     alloc: Global,
-    world: &mut World<Tally>,
+    world: &mut World,
     second: i64,
     message: &[u8],
 ) -> io::Result<Vec<u8>> {

@@ -67,11 +67,6 @@ fn serve_text(alloc: Global, it: &ServeOptions<'_>) -> Result<String, AllocError
     let mut text = format!(in alloc;
         "serve {files:?} log, resume, control {others:?} port, workers, connections {work:?}"
     )?;
-    put_limits(&mut text, it)?;
-    Ok(text)
-}
-
-fn put_limits(text: &mut String, it: &ServeOptions<'_>) -> Result<(), AllocError> {
     let limits = (it.idle, it.clients, it.clients_per_peer, it.buffers);
     let kdc = (it.kdc, it.kdc_wait, it.require_kdc);
     let strict = (
@@ -84,5 +79,6 @@ fn put_limits(text: &mut String, it: &ServeOptions<'_>) -> Result<(), AllocError
     write!(
         text,
         " limits {limits:?} kdc {kdc:?} strict {strict:?} raise, udp, addresses {more:?}"
-    )
+    )?;
+    Ok(text)
 }

@@ -1,12 +1,13 @@
 //! Messages and replies.
 
-use crate::words::{bytes, no_case};
-use chpw_frame::split_reply;
+use crate::words::put_framed;
+use chpw_frame::{TcpOutcome, read_tcp, split_reply};
 use krb_der::{KerberosTime, Microseconds};
 use krb_keys::Key;
-use krb_msgs::{OpenError, Reply, read_reply};
-use std::alloc::{AllocError, Global};
+use krb_msgs::{OpenError, read_reply};
+use std::alloc::Global;
 use std::io::{self, Error, ErrorKind};
+use support_cases::{bytes, no_case, text_of};
 
 /// The session key and the subkey of every message here.
 const SESSION: Key = Key::Aes256([0x33; 32]);
@@ -20,16 +21,6 @@ pub struct Message {
     pub ctime: i64,
     pub cusec: u32,
     pub bytes: Vec<u8>,
-}
-
-/// The bytes of a text in hexadecimal, `-` for none, followed by this many zeros as in `00 zeros 4`.
-pub fn bytes_of(alloc: Global, text: &str) -> io::Result<Vec<u8>> {
-    let (text, zeros) = text.split_once(" zeros ").unwrap_or((text, "0"));
-    let mut bytes = bytes(alloc, text)?;
-    for _ in 0..zeros.parse().unwrap_or(0) {
-        bytes.push(0)?;
-    }
-    Ok(bytes)
 }
 
 /// `NAME CTIME.CUSEC HEX`.
@@ -47,8 +38,30 @@ pub fn read_message(alloc: Global, text: &str) -> io::Result<Message> {
         name: String::from_str(alloc, name)?,
         ctime: ctime.parse().unwrap_or(0),
         cusec: cusec.parse().unwrap_or(0),
-        bytes: bytes_of(alloc, hex)?,
+        bytes: bytes(alloc, hex)?,
     })
+}
+
+/// The stream of these messages.
+pub fn stream_of(alloc: Global, messages: &[&Message]) -> io::Result<Vec<u8>> {
+    let mut stream = Vec::new(alloc);
+    for message in messages {
+        put_framed(&mut stream, &message.bytes)?;
+    }
+    Ok(stream)
+}
+
+/// What the replies written to a stream say, in their order, each to its message and each followed by a separator.
+pub fn shown_replies(alloc: Global, messages: &[&Message], written: &[u8]) -> io::Result<String> {
+    let mut left = written;
+    let mut shown = String::new(alloc);
+    for message in messages {
+        let TcpOutcome::Message(reply) = read_tcp(alloc, &mut left)? else {
+            break;
+        };
+        show_reply(alloc, &mut shown, message, &reply)?;
+    }
+    Ok(shown)
 }
 
 /// Adds what a reply to a message says, and a separator.
@@ -62,22 +75,14 @@ pub fn show_reply(
         return Ok(text.push_str("no reply; ")?);
     };
     let (ctime, cusec) = (KerberosTime(message.ctime), Microseconds(message.cusec));
-    match read_reply(alloc, &SESSION, &SUBKEY, ctime, cusec, parts.ap, parts.tail) {
-        Ok(reply) => Ok(show(text, &reply)?),
-        Err(OpenError::Fault(fault)) => Ok(write!(text, "{fault:?}; ")?),
-        Err(OpenError::Memory) => Err(Error::from(ErrorKind::OutOfMemory)),
-    }
-}
-
-fn show(text: &mut String, reply: &Reply) -> Result<(), AllocError> {
+    let reply = match read_reply(alloc, &SESSION, &SUBKEY, ctime, cusec, parts.ap, parts.tail) {
+        Ok(reply) => reply,
+        Err(OpenError::Fault(fault)) => return Ok(write!(text, "{fault:?}; ")?),
+        Err(OpenError::Memory) => return Err(Error::from(ErrorKind::OutOfMemory)),
+    };
     let (code, said) = (reply.code, text_of(reply.text.as_slice()));
     match reply.error {
-        Some(error) => write!(text, "code {code} error {error} {said}; "),
-        None => write!(text, "code {code} {said}; "),
+        Some(error) => Ok(write!(text, "code {code} error {error} {said}; ")?),
+        None => Ok(write!(text, "code {code} {said}; ")?),
     }
-}
-
-/// Bytes as they are printed.
-pub fn text_of(bytes: &[u8]) -> &str {
-    str::from_utf8(bytes).unwrap_or("no UTF-8")
 }

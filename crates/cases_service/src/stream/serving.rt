@@ -1,24 +1,21 @@
 //! Serving streams.
 
-use crate::stream::messages::{Message, show_reply};
-use crate::stream::setting::{Holding, Setting};
-use crate::words::put_framed;
-use chpw_decider::{Alone, Decider};
+use crate::stream::messages::{Message, shown_replies};
+use crate::stream::setting::Setting;
+use chpw_decider::Decider;
 use chpw_endpoints::Endpoints;
-use chpw_frame::{TcpOutcome, read_tcp};
-use chpw_journal::MemorySink;
-use chpw_serve::{Ended, Gate, Messages, NoGate, Observer, serve_stream};
+use chpw_serve::{Ended, serve_alone};
+use hex::encode;
 use std::alloc::Global;
 use std::io;
-use support_realm::{Counting, Standing, World};
-use support_streams::{Course, Giver, Taker, Way};
+use support_realm::{Counting, Standing, World, newest_kvno};
+use support_streams::{Course, Giver, Way};
 
-/// How a stream is served: at which second, and how reader and writer behave.
+/// How a stream is served: at which second, and how its reader behaves.
 #[derive(Clone, Copy, Drop)]
 pub struct How {
-    pub clock: Standing,
-    pub reader: Way,
-    pub writer: Way,
+    clock: Standing,
+    reader: Way,
 }
 
 impl How {
@@ -33,139 +30,80 @@ impl How {
         How {
             clock: Standing::at(second),
             reader: Way::of(text),
-            writer: Way::of(""),
         }
     }
 }
 
 /// The result of a stream.
 #[derive(Drop)]
-pub struct Outcome {
-    pub written: Vec<u8>,
-    pub ended: Ended,
-    /// Bytes of the stream that were not read.
-    pub unread: usize,
+struct Outcome {
+    written: Vec<u8>,
+    /// How it ended, how many events the table then has, and the kvno of alice and of bob in it.
+    end: String,
 }
 
-/// Serves a stream by any decider and past any gate, with any maker of messages.
-pub fn serve_by<M: Messages, D: Decider, G: Gate + Observer>(
-    alloc: Global,
-    messages: &M,
-    decider: &mut D,
-    gate: &mut G,
-    how: &How,
-    stream: &[u8],
-) -> Outcome {
-    let mut reader = Giver {
-        left: stream,
-        course: Course::start(how.reader),
-    };
-    let mut writer = Taker {
-        taken: Vec::new(alloc),
-        course: Course::start(how.writer),
-    };
-    let mut clock = how.clock;
-    let ended = serve_stream(
-        alloc,
-        messages,
-        Endpoints::LOOPBACK,
-        &mut reader,
-        &mut writer,
-        decider,
-        gate,
-        &mut clock,
-        &mut Counting::new(),
-    );
-    Outcome {
-        written: writer.taken,
-        ended,
-        unread: reader.left.len(),
-    }
-}
-
-/// The stream of these messages.
-pub fn stream_of(alloc: Global, messages: &[&Message]) -> io::Result<Vec<u8>> {
-    let mut stream = Vec::new(alloc);
-    for message in messages {
-        put_framed(&mut stream, &message.bytes)?;
-    }
-    Ok(stream)
-}
-
-/// Serves a stream in a world of its own: the result, and what its table then holds.
-pub fn serve_anew(
-    alloc: Global,
-    setting: &Setting,
-    how: &How,
-    stream: &[u8],
-) -> io::Result<(Outcome, Holding)> {
-    let mut world = setting.start(alloc)?;
-    let served = serve_in(alloc, &mut world, how, stream);
-    drop(world);
-    served
-}
-
-/// Serves a stream in this world.
-fn serve_in(
-    alloc: Global,
-    world: &mut World<MemorySink>,
-    how: &How,
-    stream: &[u8],
-) -> io::Result<(Outcome, Holding)> {
-    let World { service, alone } = world;
-    let outcome = serve_by(alloc, service, alone, &mut NoGate, how, stream);
-    with_holding(alloc, outcome, alone)
-}
-
-/// The result of a stream, with what a table holds.
-pub fn with_holding(
-    alloc: Global,
-    outcome: Outcome,
-    table: &Alone<MemorySink>,
-) -> io::Result<(Outcome, Holding)> {
-    let holding = Holding::of(alloc, table)?;
-    Ok((outcome, holding))
-}
-
-/// Each reply, how the stream ended, and what the table then holds.
+/// What the replies to a stream say, each to one of these messages, and its end.
 pub fn served_text(
     alloc: Global,
     setting: &Setting,
     how: &How,
     messages: &[&Message],
+    stream: &[u8],
 ) -> io::Result<String> {
-    served_as(alloc, setting, how, messages, &stream_of(alloc, messages)?)
+    let outcome = serve(alloc, setting, how, stream)?;
+    let mut shown = shown_replies(alloc, messages, &outcome.written)?;
+    shown.push_str(outcome.end.as_str())?;
+    Ok(shown)
 }
 
-/// Likewise, with these bytes as the stream.
-pub fn served_as(
+/// What is written to a stream, and its end.
+pub fn written_text(
     alloc: Global,
     setting: &Setting,
     how: &How,
-    messages: &[&Message],
     stream: &[u8],
 ) -> io::Result<String> {
-    let (outcome, holding) = serve_anew(alloc, setting, how, stream)?;
-    let mut shown = shown_replies(alloc, messages, &outcome.written)?;
-    write!(shown, "{}, {holding}", ended_text(outcome.ended))?;
-    Ok(shown)
+    let Outcome { written, end } = serve(alloc, setting, how, stream)?;
+    let written = encode(alloc, &written)?;
+    Ok(format!(in alloc; "[{written}] {end}")?)
 }
 
-/// The replies in their order, each to its message, each followed by a separator.
-pub fn shown_replies(alloc: Global, messages: &[&Message], written: &[u8]) -> io::Result<String> {
-    let mut left = written;
-    let mut shown = String::new(alloc);
-    for message in messages {
-        let TcpOutcome::Message(reply) = read_tcp(alloc, &mut left)? else {
-            break;
-        };
-        show_reply(alloc, &mut shown, message, &reply)?;
-    }
-    Ok(shown)
+/// Serves a stream in a world of its own.
+fn serve(alloc: Global, setting: &Setting, how: &How, stream: &[u8]) -> io::Result<Outcome> {
+    let mut world = setting.start(alloc)?;
+    let outcome = serve_in(alloc, &mut world, how, stream);
+    drop(world);
+    outcome
+}
+
+/// Serves a stream in this world.
+fn serve_in(alloc: Global, world: &mut World, how: &How, stream: &[u8]) -> io::Result<Outcome> {
+    let World { service, alone } = world;
+    let mut reader = Giver {
+        left: stream,
+        course: Course::start(how.reader),
+    };
+    let mut clock = how.clock;
+    let mut written = Vec::new(alloc);
+    let ended = serve_alone(
+        alloc,
+        service,
+        Endpoints::LOOPBACK,
+        &mut reader,
+        &mut written,
+        alone,
+        &mut clock,
+        &mut Counting::new(),
+    );
+    let (ended, events) = (ended_text(ended), alone.receipts().len());
+    let alice = newest_kvno(alloc, alone.table(), "alice")?;
+    let bob = newest_kvno(alloc, alone.table(), "bob")?;
+    let end = format!(in alloc; "{ended}, {events} events, alice {alice}, bob {bob}")?;
+    Ok(Outcome { written, end })
 }
 
 /// How a stream ended.
-pub fn ended_text(ended: Ended) -> &'static str {
+fn ended_text(ended: Ended) -> &'static str {
     match ended {
         Ended::Input => "input ended",
         Ended::CutOff => "cut off",

@@ -1,15 +1,14 @@
 //! A decider that records what a table is asked, and may refuse.
-ghost use Rattle.std.specs.Prelude.{◌≡◌, ◌≤◌, All};
+ghost use Rattle.std.specs.Prelude.{◌≤◌, All};
 
 use chpw_decider::{Alone, Decider};
+use chpw_journal::MemorySink;
 use chpw_rules::Name;
-use chpw_table::{
-    Body, Counts, DecideFault, JournalSink, Lookup, Moment, Opened, Receipt, Refused, Verdict,
-};
+use chpw_table::{Body, Counts, DecideFault, Lookup, Moment, Opened, Receipt, Refused, Verdict};
 use std::alloc::Global;
 
 /// What it does when it is asked to decide.
-#[derive(Clone, Copy, PartialEq, Eq, Drop)]
+#[derive(Clone, Copy, Drop)]
 pub enum Mood {
     /// What the table does.
     Plain,
@@ -17,14 +16,25 @@ pub enum Mood {
     Needs(u32),
     /// It answers that it is full.
     Full,
-    /// It has no memory.
-    NoMemory,
+}
+
+impl Mood {
+    /// What a decider does, by its name.
+    pub fn of(who: &str) -> Mood {
+        match who {
+            "needing once" => Mood::Needs(1),
+            "needing three times" => Mood::Needs(3),
+            "needing always" => Mood::Needs(u32::MAX),
+            "full" => Mood::Full,
+            _ => Mood::Plain,
+        }
+    }
 }
 
 /// A table, and what it was asked.
 #[derive(Drop)]
-pub struct Watched<S: JournalSink> {
-    pub alone: Alone<S>,
+pub struct Watched {
+    alone: Alone<MemorySink>,
     mood: Mood,
     /// Calls of `decide`, and of `decide_deriving`.
     pub decides: u32,
@@ -35,8 +45,8 @@ pub struct Watched<S: JournalSink> {
     pub names: Vec<u8>,
 }
 
-impl<S: JournalSink> Watched<S> {
-    pub fn of(alloc: Global, alone: Alone<S>, mood: Mood) -> Watched<S> {
+impl Watched {
+    pub fn of(alloc: Global, alone: Alone<MemorySink>, mood: Mood) -> Watched {
         Watched {
             alone,
             mood,
@@ -45,14 +55,6 @@ impl<S: JournalSink> Watched<S> {
             counts: Counts::new(),
             names: Vec::new(alloc),
         }
-    }
-
-    /// Notes a call of `decide`.
-    fn note(&mut self, opened: &Opened)
-        ensures alone { self.new.alone ≡ self.old.alone }
-    {
-        self.decides = self.decides.saturating_add(1);
-        self.counts = counts_of(opened);
     }
 }
 
@@ -84,7 +86,7 @@ fn four() -> Counts
     counts
 }
 
-impl<S: JournalSink> Decider for Watched<S> {
+impl Decider for Watched {
     ghost gathered = { λ w. w.alone.receipts };
 
     ghost may_be_full = { λ _ _. Unit {0} };
@@ -103,14 +105,11 @@ impl<S: JournalSink> Decider for Watched<S> {
     }
 
     fn decide(&mut self, now: Moment, opened: Opened) -> Result<Verdict, Refused> {
-        self.note(&opened);
+        self.decides = self.decides.saturating_add(1);
+        self.counts = counts_of(&opened);
         match self.mood {
             Mood::Full => Err(Refused {
                 fault: DecideFault::Full,
-                opened,
-            }),
-            Mood::NoMemory => Err(Refused {
-                fault: DecideFault::Memory,
                 opened,
             }),
             Mood::Needs(times) if self.decides <= times => Err(Refused {

@@ -8,12 +8,12 @@ use std::io;
 /// The words of a block, as bytes.
 const BLOCK: usize = 64;
 
-/// `N STREAM PLACE`: the bytes of the sixteen words from that place on; N is the seed's last byte.
+/// `N STREAM PLACE`: the bytes of the sixteen words from that place on; the seed is of zeros but for its last byte, N.
 pub fn answer(alloc: Global, text: &str) -> io::Result<String> {
     let mut parts = text.split(' ');
-    let seed = seed_of(parts.next().unwrap_or(""));
-    let stream = number(parts.next());
-    let mut words = WorkerWords::new(seed, stream);
+    let mut seed = [0; 32];
+    seed[31] = parts.next().unwrap_or("").parse().unwrap_or(0);
+    let mut words = WorkerWords::new(seed, number(parts.next()));
     for _ in 0..number(parts.next()) {
         words.next();
     }
@@ -21,14 +21,7 @@ pub fn answer(alloc: Global, text: &str) -> io::Result<String> {
 }
 
 fn number(text: Option<&str>) -> u64 {
-    text.and_then(|text| text.parse().ok()).unwrap_or(0)
-}
-
-/// The seed of zeros but for its last byte.
-fn seed_of(last: &str) -> [u8; 32] {
-    let mut seed = [0; 32];
-    seed[31] = last.parse().unwrap_or(0);
-    seed
+    text.unwrap_or("").parse().unwrap_or(0)
 }
 
 fn block(words: &mut WorkerWords) -> [u8; BLOCK] {
