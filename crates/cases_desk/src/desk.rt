@@ -34,10 +34,11 @@ mod words;
 use crate::desk::alone::alone_text;
 use crate::desk::opening::Opening;
 use crate::desk::running::{Block, End, run};
-use crate::desk::words::{first_word, no_case};
+use crate::desk::words::first_word;
 use crate::machine::Machine;
 use std::alloc::Global;
 use std::io;
+use support_cases::no_case;
 
 /// The answer to a block with this title, whose first word is the kind.
 pub fn answer<R: Machine>(rt: &R, alloc: Global, title: &str, body: &str) -> io::Result<String> {

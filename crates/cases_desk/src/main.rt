@@ -8,8 +8,6 @@ mod desk;
 mod machine;
 
 use desk::answer;
-use machine::Machine;
-use std::alloc::Global;
 use std::io;
 use std::net::{Net, TcpListener, TcpStream};
 use std::sync::Wait;
@@ -40,13 +38,9 @@ where
     let head = blocks.next().unwrap_or("");
     println!(rt; "{head}")?;
     for block in blocks {
-        print_block(rt, alloc, block)?;
+        let (title, body) = block.split_once('\n').unwrap_or((block, ""));
+        let said = answer(rt, alloc, title, body)?;
+        print!(rt; "== {title}\n{said}")?;
     }
     Ok(())
-}
-
-fn print_block<R: Machine + Print>(rt: &R, alloc: Global, block: &str) -> io::Result<()> {
-    let (title, body) = block.split_once('\n').unwrap_or((block, ""));
-    let said = answer(rt, alloc, title, body)?;
-    print!(rt; "== {title}\n{said}")
 }

@@ -1,2 +1,1 @@
 pub mod SendLemmas
-pub mod WorkerLemmas

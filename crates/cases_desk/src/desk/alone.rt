@@ -2,17 +2,21 @@
 
 use crate::desk::asking::NOW;
 use crate::desk::opening::Opening;
+use crate::desk::running::ROOM;
 use crate::desk::updates::{update_of, verdict_text};
-use crate::desk::words::{first_word, no_case};
+use crate::desk::words::first_word;
 use chpw_decider::{Alone, Decider};
+use chpw_journal::MemorySink;
 use chpw_table::UpdateFault;
 use std::alloc::Global;
 use std::io;
-use support_realm::{Tally, name};
+use support_cases::no_case;
+use support_realm::name;
 
 /// The answer to each of these lines, which are updates.
 pub fn alone_text(alloc: Global, opening: Opening<'_>, lines: &str) -> io::Result<String> {
-    let mut alone = Alone::new(alloc, opening.table(alloc)?, Tally::new());
+    let sink = MemorySink::new(alloc, ROOM)?;
+    let mut alone = Alone::new(alloc, opening.table(alloc)?, sink);
     let mut text = String::new(alloc);
     let shown = show_updates(alloc, &mut text, &mut alone, lines);
     drop(alone);
@@ -23,7 +27,7 @@ pub fn alone_text(alloc: Global, opening: Opening<'_>, lines: &str) -> io::Resul
 fn show_updates(
     alloc: Global,
     text: &mut String,
-    alone: &mut Alone<Tally>,
+    alone: &mut Alone<MemorySink>,
     lines: &str,
 ) -> io::Result<()> {
     for line in lines.lines() {
@@ -39,7 +43,7 @@ fn show_updates(
 }
 
 /// The verdict on an update.
-fn update(alloc: Global, alone: &mut Alone<Tally>, line: &str) -> io::Result<&'static str> {
+fn update(alloc: Global, alone: &mut Alone<MemorySink>, line: &str) -> io::Result<&'static str> {
     let (word, text) = first_word(line);
     let update = update_of(alloc, word, text)?;
     let fits = update.fits();
@@ -56,7 +60,10 @@ fn update(alloc: Global, alone: &mut Alone<Tally>, line: &str) -> io::Result<&'s
 }
 
 /// The newest version of the name that a line is about, 0 if it isn't held.
-fn kvno_of(alloc: Global, alone: &mut Alone<Tally>, line: &str) -> io::Result<u32> {
+fn kvno_of(alloc: Global, alone: &mut Alone<MemorySink>, line: &str) -> io::Result<u32> {
     let name = name(alloc, line.split(' ').nth(1).unwrap_or(""))?;
-    Ok(alone.lookup(&name).map_or(0, |found| found.kvno))
+    let Some(found) = alone.lookup(&name) else {
+        return Ok(0);
+    };
+    Ok(found.kvno)
 }

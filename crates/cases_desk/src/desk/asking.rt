@@ -2,7 +2,7 @@
 ghost use Rattle.std.specs.Prelude.{◌≡◌, true};
 ghost use Rattle.chpw_rules.specs.Fitting.{config_fits};
 
-use crate::desk::words::{first_word, no_case, number};
+use crate::desk::words::{first_word, number};
 use chpw_client::{LAST_START, LONGEST_PASSWORD, SentRequest, client_line, client_request};
 use chpw_decider::Decider;
 use chpw_endpoints::Endpoints;
@@ -12,6 +12,7 @@ use chpw_serve::{Gate, Observer, WorkerWords, answer};
 use chpw_table::Moment;
 use std::alloc::Global;
 use std::io;
+use support_cases::{no_case, text_of};
 use support_realm::{config, name};
 
 /// When everything is decided.
@@ -28,7 +29,11 @@ const WORDS: [u32; 9] = [1, 2, 3, 4, 5, 6, 7, 8, 9];
 pub fn request(alloc: Global, text: &str) -> io::Result<SentRequest> {
     let (client, text) = first_word(text);
     let (micros, password) = first_word(text);
-    request_at(alloc, sent_at(number(Some(micros))), client, password)
+    let now = Moment {
+        seconds: NOW.seconds,
+        micros: number(Some(micros)),
+    };
+    request_at(alloc, now, client, password)
 }
 
 /// The request of a client that asks at this moment for a new password of its own.
@@ -74,13 +79,6 @@ fn request_under(
     Ok(sent?)
 }
 
-fn sent_at(micros: u32) -> Moment {
-    Moment {
-        seconds: NOW.seconds,
-        micros,
-    }
-}
-
 /// What the client prints for a worker's answer to its request.
 pub fn printed_answer<P: Decider, G: Gate + Observer>(
     alloc: Global,
@@ -95,10 +93,7 @@ pub fn printed_answer<P: Decider, G: Gate + Observer>(
         return Ok(String::from_str(alloc, "no reply")?);
     };
     match client_line(alloc, sent, &reply)? {
-        Some((line, _)) => {
-            let line = str::from_utf8(&line).unwrap_or("no UTF-8");
-            Ok(String::from_str(alloc, line)?)
-        }
+        Some((line, _)) => Ok(String::from_str(alloc, text_of(&line))?),
         None => Err(no_case()),
     }
 }

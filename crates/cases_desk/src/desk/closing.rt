@@ -3,13 +3,13 @@
 use crate::desk::opening::Opening;
 use crate::desk::running::{Block, End};
 use crate::desk::updates::verdict_text;
-use crate::desk::words::no_case;
 use chpw_book::{CloseFault, CloseRefused, Closed, Desk, DeskName, Pass};
-use chpw_journal::{MemorySink, Restored, restore};
+use chpw_journal::{MemorySink, restore};
 use chpw_table::{Entry, Event};
 use std::alloc::{AllocError, Global};
 use std::io;
 use std::sync::Wait;
+use support_cases::no_case;
 
 /// Closes a desk, once the close without the last worker's pass was refused for that.
 pub fn finish<D: DeskName, R: Wait>(
@@ -98,17 +98,15 @@ fn show_journal(
 ) -> io::Result<()> {
     let size = journal.len();
     let table = opening.table(alloc)?;
-    match restore(alloc, table, &mut journal) {
-        Ok(restored) => Ok(show_restored(text, size, &restored)?),
-        Err(_) => Err(no_case()),
-    }
-}
-
-fn show_restored(text: &mut String, size: usize, restored: &Restored) -> Result<(), AllocError> {
+    let Ok(restored) = restore(alloc, table, &mut journal) else {
+        return Err(no_case());
+    };
     let (records, kept, torn) = (restored.records, restored.kept, restored.torn);
     let count = restored.table.count();
+    drop(restored);
     write!(text, "journal: {size} bytes; restored: {records} records, ")?;
-    writeln!(text, "{kept} bytes, count {count}, torn {torn}")
+    writeln!(text, "{kept} bytes, count {count}, torn {torn}")?;
+    Ok(())
 }
 
 /// Adds the history, in one line, as copies of its entries show it.

@@ -1,11 +1,12 @@
 //! Requests without keys, and digests.
 ghost use Rattle.std.specs.Prelude.{◌≡◌, ◌∷◌, []};
 
-use crate::desk::words::{no_case, number};
+use crate::desk::words::number;
 use chpw_rules::Items;
 use chpw_table::{Body, Counts, Digest, Opened, Target};
 use std::alloc::Global;
 use std::io;
+use support_cases::no_case;
 use support_realm::{change, name};
 
 const REALM: &[u8] = b"EXAMPLE.COM";

@@ -2,7 +2,7 @@
 
 use crate::desk::asking::request_at;
 use crate::desk::scene::Scene;
-use crate::desk::words::{first_word, no_case};
+use crate::desk::words::first_word;
 use crate::machine::Machine;
 use chpw_book::{Desk, DeskName, Pass};
 use chpw_client::{SentRequest, client_line};
@@ -15,6 +15,7 @@ use std::io::{self, Read, Write};
 use std::net::{Shutdown, TcpListener, TcpStream};
 use std::thread::join;
 use std::time::Duration;
+use support_cases::no_case;
 
 /// How many connections the pool serves.
 const CONNECTIONS: u32 = 2;

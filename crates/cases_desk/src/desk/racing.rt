@@ -1,7 +1,7 @@
 //! What all workers do side by side, each in a thread of its own.
 
 use crate::desk::scene::Scene;
-use crate::desk::words::{first_word, no_case};
+use crate::desk::words::first_word;
 use chpw_book::{Desk, DeskName, Pass};
 use chpw_journal::MemorySink;
 use chpw_messages::Service;
@@ -14,6 +14,7 @@ use std::sync::atomic::{AtomicU32, Ordering};
 use std::sync::{Barrier, Wait};
 use std::thread::Threads;
 use std::{io, thread};
+use support_cases::no_case;
 
 /// What a client prints for a change, and for a replay.
 const CHANGED: &str = "code 0 password changed";
@@ -40,9 +41,13 @@ pub fn together<D: DeskName + Send + Sync, R: Threads + Wait + Sync>(
     passes: &mut [Pass<D>],
     task: &str,
 ) -> io::Result<String> {
-    let told = Told::new(String::from_str(scene.alloc, task)?);
-    let workers = passes.len();
-    let barrier = Barrier::new(workers);
+    let told = Told {
+        task: String::from_str(scene.alloc, task)?,
+        changed: AtomicU32::new(0),
+        replayed: AtomicU32::new(0),
+        seen: AtomicU32::new(0),
+    };
+    let barrier = Barrier::new(passes.len());
     race(
         scene.rt,
         &barrier,
@@ -162,15 +167,6 @@ struct Told {
 }
 
 impl Told {
-    fn new(task: String) -> Told {
-        Told {
-            task,
-            changed: AtomicU32::new(0),
-            replayed: AtomicU32::new(0),
-            seen: AtomicU32::new(0),
-        }
-    }
-
     fn note(&self, said: io::Result<String>) {
         let Ok(said) = said else {
             return;

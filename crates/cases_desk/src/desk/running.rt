@@ -6,7 +6,6 @@ use crate::desk::closing::{closed_text, finish};
 use crate::desk::opening::Opening;
 use crate::desk::scene::Scene;
 use crate::desk::several::answers_text;
-use crate::desk::words::no_case;
 use crate::machine::Machine;
 use chpw_book::{Desk, DeskName, Pass, UnnamedDesk};
 use chpw_journal::MemorySink;
@@ -15,9 +14,10 @@ use std::alloc::Global;
 use std::io::{self, Error, ErrorKind};
 use std::marker::Brand;
 use std::sync::Wait;
+use support_cases::no_case;
 
 /// How many bytes the journal has room for.
-const ROOM: usize = 4000;
+pub const ROOM: usize = 4000;
 
 /// How a desk ends.
 #[derive(Clone, Copy, Drop)]

@@ -3,16 +3,17 @@
 use crate::desk::asking::{NOW, printed_answer, request};
 use crate::desk::lacking::{asking, digest_of};
 use crate::desk::updates::{fault_text, update_of, verdict_text};
-use crate::desk::words::{first_word, no_case, number};
+use crate::desk::words::{first_word, number};
 use chpw_book::{AtDesk, Desk, DeskName, Pass, RaiseFault};
 use chpw_decider::Decider;
 use chpw_journal::MemorySink;
 use chpw_messages::Service;
 use chpw_serve::{Gate, NoGate, Observer};
 use chpw_table::{Durability, KeyRow, Lookup};
-use std::alloc::{AllocError, Global};
+use std::alloc::Global;
 use std::io;
 use std::sync::Wait;
+use support_cases::no_case;
 use support_realm::name;
 
 /// A desk, and what its workers need.
@@ -57,10 +58,15 @@ impl<D: DeskName, R: Wait> Scene<'_, D, R> {
 
     /// What is shown of a name.
     fn look(&self, pass: &mut Pass<D>, text: &str) -> io::Result<String> {
-        match self.found(pass, text)? {
-            Some(found) => shown(self.alloc, &found),
-            None => Ok(String::from_str(self.alloc, "no such principal")?),
+        let Some(found) = self.found(pass, text)? else {
+            return Ok(String::from_str(self.alloc, "no such principal")?);
+        };
+        let (kvno, policy, seen) = (found.kvno, found.policy, found.seen);
+        let mut text = format!(in self.alloc; "kvno {kvno}, seen {seen}, count {policy}, held")?;
+        for count in found.held.as_slice() {
+            write!(text, " {count}")?;
         }
+        Ok(text)
     }
 
     /// What a lookup finds.
@@ -137,16 +143,13 @@ impl<D: DeskName, R: Wait> Scene<'_, D, R> {
         let now = support_realm::NOW;
         let refused = self.desk.refuses_anyway(now, &opened);
         let counts = self.desk.missing(self.rt, now, &opened);
-        Ok(lacks_text(self.alloc, refused, counts.as_slice())?)
+        drop(opened);
+        let mut text = format!(in self.alloc; "refused {refused}, lacks")?;
+        for count in counts.as_slice() {
+            write!(text, " {count}")?;
+        }
+        Ok(text)
     }
-}
-
-fn lacks_text(alloc: Global, refused: bool, counts: &[u32]) -> Result<String, AllocError> {
-    let mut text = format!(in alloc; "refused {refused}, lacks")?;
-    for count in counts {
-        write!(text, " {count}")?;
-    }
-    Ok(text)
 }
 
 fn version(key: Option<KeyRow>) -> u32 {
@@ -154,13 +157,4 @@ fn version(key: Option<KeyRow>) -> u32 {
         Some(key) => key.kvno,
         None => 0,
     }
-}
-
-fn shown(alloc: Global, found: &Lookup) -> io::Result<String> {
-    let (kvno, policy, seen) = (found.kvno, found.policy, found.seen);
-    let mut text = format!(in alloc; "kvno {kvno}, seen {seen}, count {policy}, held")?;
-    for count in found.held.as_slice() {
-        write!(text, " {count}")?;
-    }
-    Ok(text)
 }

@@ -5,7 +5,7 @@ use crate::desk::overtaken::Overtaken;
 use crate::desk::pool::pool;
 use crate::desk::racing::together;
 use crate::desk::scene::Scene;
-use crate::desk::words::{first_word, no_case, number};
+use crate::desk::words::{first_word, number};
 use crate::machine::Machine;
 use chpw_book::{AtDesk, DeskName, Pass};
 use chpw_client::SentRequest;
@@ -14,6 +14,7 @@ use std::alloc::Global;
 use std::io;
 use std::sync::Wait;
 use std::thread::Threads;
+use support_cases::no_case;
 
 /// The answer to each of these lines.
 pub fn answers_text<D: DeskName + Send + Sync, R: Machine>(

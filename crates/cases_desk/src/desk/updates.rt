@@ -1,11 +1,11 @@
 //! What the KDC says of principals.
 
-use crate::desk::words::{first_word, no_case, number};
+use crate::desk::words::{first_word, number};
 use chpw_book::DeskUpdateFault;
 use chpw_table::{KdcUpdate, KeyRow, UpdateVerdict};
-use hex::decode;
 use std::alloc::Global;
 use std::io;
+use support_cases::{bytes, no_case};
 use support_realm::name;
 
 /// `adopt NAME KVNO` has a key of no password, under 8 iterations; `adopt NAME KVNO KEYS` the keys with these 48 bytes, under
@@ -33,22 +33,18 @@ fn key_of(alloc: Global, kvno: u32, digits: &str) -> io::Result<KeyRow> {
         aes128: [0xb2; 16],
         aes256: [0xb3; 32],
     };
-    if !digits.is_empty() {
-        let keys = decode(alloc, digits).map_err(|_| no_case())?;
-        set_keys(&mut key, &keys)?;
+    if digits.is_empty() {
+        return Ok(key);
     }
-    Ok(key)
-}
-
-fn set_keys(key: &mut KeyRow, keys: &[u8]) -> io::Result<()> {
+    let keys = bytes(alloc, digits)?;
     if keys.len() != 48 {
         return Err(no_case());
     }
-    let (aes128, aes256) = keys.split_at(16);
+    let (aes128, aes256) = keys.as_slice().split_at(16);
     key.count = 4;
     key.aes128.copy_from_slice(aes128);
     key.aes256.copy_from_slice(aes256);
-    Ok(())
+    Ok(key)
 }
 
 /// A verdict's text, whatever the update was.
