@@ -2,10 +2,11 @@
 Python's own library.
 
 Realm EXAMPLE.COM; the service's key of etype 18 and kvno 3 is 32 bytes 5a, the session key 32 bytes 33,
-the subkey 32 bytes 44, each confounder of a request 16 bytes 01, both addresses 127.0.0.1. Encryption is that of
-RFC 3962, the messages are those of RFC 4120 section 5.
+the subkey 32 bytes 44, each confounder of a request 16 bytes 01 (where a caller has no others), both addresses 127.0.0.1.
+Encryption is that of RFC 3962, the messages are those of RFC 4120 section 5.
 """
 
+import dataclasses
 import hashlib
 import hmac
 import time
@@ -192,12 +193,28 @@ def sealed(key, usage, plain, kvno=None, confounder=CONFOUNDER):
 CHANGEPW = name(2, b"kadmin", b"changepw")
 
 
-def ticket(client, initial, service, kvno, starts, addresses=()):
+@dataclasses.dataclass(frozen=True)
+class Drawn:
+    """What a client draws for a request: its keys, the confounders of ticket, authenticator and KRB-PRIV, and the sequence
+    number."""
+
+    session: bytes = SESSION
+    subkey: bytes = SUBKEY
+    ticket: bytes = CONFOUNDER
+    authenticator: bytes = CONFOUNDER
+    private: bytes = CONFOUNDER
+    number: int = 5
+
+
+FIXED = Drawn()
+
+
+def ticket(client, initial, service, kvno, starts, addresses=(), drawn=FIXED):
     """The addresses, if there are any, are those that it may come from: the last byte of each, of 127.0.0.0/24, or
     all sixteen, of IPv6."""
     part = sequence(
         (0, flags(INITIAL if initial else 0)),
-        (1, key_of(SESSION)),
+        (1, key_of(drawn.session)),
         (2, string(REALM)),
         (3, name(1, client)),
         (4, sequence((0, integer(0)), (1, octets(b"")))),
@@ -205,21 +222,21 @@ def ticket(client, initial, service, kvno, starts, addresses=()):
         (7, moment(starts + 3_600)),
         (9, tlv(0x30, b"".join(map(address, addresses))) if addresses else None),
     )
-    enc_part = sealed(service, 2, application(3, part), kvno)
+    enc_part = sealed(service, 2, application(3, part), kvno, drawn.ticket)
     return application(
         1, sequence((0, integer(5)), (1, string(REALM)), (2, CHANGEPW), (3, enc_part))
     )
 
 
-def ap_req(client, ctime, cusec, initial, service, kvno, subkey, starts, addresses=()):
+def ap_req(client, ctime, cusec, initial, service, kvno, subkey, starts, addresses=(), drawn=FIXED):
     authenticator = sequence(
         (0, integer(5)),
         (1, string(REALM)),
         (2, name(1, client)),
         (4, integer(cusec)),
         (5, moment(ctime)),
-        (6, key_of(SUBKEY) if subkey else None),
-        (7, integer(5)),
+        (6, key_of(drawn.subkey) if subkey else None),
+        (7, integer(drawn.number)),
     )
     return application(
         14,
@@ -227,8 +244,8 @@ def ap_req(client, ctime, cusec, initial, service, kvno, subkey, starts, address
             (0, integer(5)),
             (1, integer(14)),
             (2, flags(MUTUAL_REQUIRED)),
-            (3, ticket(client, initial, service, kvno, starts, addresses)),
-            (4, sealed(SESSION, 11, application(2, authenticator))),
+            (3, ticket(client, initial, service, kvno, starts, addresses, drawn)),
+            (4, sealed(drawn.session, 11, application(2, authenticator), None, drawn.authenticator)),
         ),
     )
 
@@ -245,9 +262,9 @@ def change_data(password, target, realm="own", further=None):
     )
 
 
-def krb_priv(data, forged):
-    part = sequence((0, octets(data)), (3, integer(5)), (4, address(1)))
-    enc_part = sealed(SUBKEY, 13, application(28, part))
+def krb_priv(data, forged, drawn=FIXED):
+    part = sequence((0, octets(data)), (3, integer(drawn.number)), (4, address(1)))
+    enc_part = sealed(drawn.subkey, 13, application(28, part), None, drawn.private)
     if forged:
         enc_part = enc_part[:-1] + bytes([enc_part[-1] ^ 1])
     return application(21, sequence((0, integer(5)), (1, integer(21)), (3, enc_part)))
@@ -273,25 +290,26 @@ def request(
     starts=1_000_000,
     addresses=(),
     old=False,
+    drawn=FIXED,
 ):
     """A request: length, version, the AP-REQ's length, the AP-REQ, the KRB-PRIV. In the earlier
     protocol, version 0x0001, the user-data is the password itself."""
-    ap = ap_req(client, ctime, cusec, initial, service, kvno, subkey, starts, addresses)
+    ap = ap_req(client, ctime, cusec, initial, service, kvno, subkey, starts, addresses, drawn)
     ap = bytes([ap_first]) + ap[1:]
-    tail = krb_priv(password if old else change_data(password, target), forged)
+    tail = krb_priv(password if old else change_data(password, target), forged, drawn)
     return framed(1 if old else 0xFF80, ap, tail)
 
 
-def reply(code, text, ctime, cusec, words):
-    """A reply of AP-REP and KRB-PRIV, by the nine words that were drawn for it."""
+def reply(code, text, ctime, cusec, words, drawn=FIXED):
+    """A reply of AP-REP and KRB-PRIV, by the nine words that were drawn for it, to a client that drew these."""
     confounders = [b"".join(w.to_bytes(4, "little") for w in words[i : i + 4]) for i in (0, 5)]
     number = integer(words[4] % 2**31)
     part = sequence((0, moment(ctime)), (1, integer(cusec)), (3, number))
-    enc_part = sealed(SESSION, 12, application(27, part), None, confounders[0])
+    enc_part = sealed(drawn.session, 12, application(27, part), None, confounders[0])
     ap_rep = application(15, sequence((0, integer(5)), (1, integer(15)), (2, enc_part)))
     said = code.to_bytes(2, "big") + text
     part = sequence((0, octets(said)), (3, number), (4, address(1)))
-    enc_part = sealed(SUBKEY, 13, application(28, part), None, confounders[1])
+    enc_part = sealed(drawn.subkey, 13, application(28, part), None, confounders[1])
     tail = application(21, sequence((0, integer(5)), (1, integer(21)), (3, enc_part)))
     return framed(1, ap_rep, tail)
 

@@ -56,6 +56,21 @@ def blocks_of(name):
         yield Block(title.split(" ")[0], title, body, answer)
 
 
+def expanded(text):
+    """`N * TEXT` is that text N times; `;` is a newline."""
+    count, star, rest = text.partition(" * ")
+    return (rest * int(count) if star and count.isdigit() else text).replace(";", "\n")
+
+
+def edited(base, edits):
+    """A text with edits, `OLD -> NEW` with ` | ` between."""
+    for edit in edits.split(" | "):
+        old, arrow, new = edit.partition(" -> ")
+        if arrow:
+            base = base.replace(old.replace(";", "\n"), expanded(new))
+    return base
+
+
 class FileCase(Case):
     """A case that runs the program once for each of many cases of a file."""
 
@@ -63,13 +78,13 @@ class FileCase(Case):
         super().setUp()
         self.numbers = itertools.count()
 
-    def ran(self, words, files, script=b""):
+    def ran(self, words, files, script=b"", env=None):
         """The program in a folder with these files: standard output, the lines on standard error, and its status."""
         folder = pathlib.Path(self.folder, str(next(self.numbers)))
         folder.mkdir()
         for name, octets in files.items():
             (folder / name).write_bytes(octets)
-        done = subprocess.run([self.program, *words], input=script, capture_output=True, timeout=120, cwd=folder)
+        done = subprocess.run([self.program, *words], input=script, capture_output=True, timeout=120, cwd=folder, env=env)
         shutil.rmtree(folder)
         return done.stdout.decode(), done.stderr.decode().splitlines(), done.returncode
 

@@ -16,20 +16,7 @@ In lines and edits `;` is a newline; `N * TEXT` repeats.
 """
 
 from harness.cases import main
-from tests.case_files import FileCase, blocks_of
-
-
-def expanded(text):
-    count, star, rest = text.partition(" * ")
-    return (rest * int(count) if star and count.isdigit() else text).replace(";", "\n")
-
-
-def edited(base, edits):
-    for edit in edits.split(" | "):
-        old, arrow, new = edit.partition(" -> ")
-        if arrow:
-            base = base.replace(old.replace(";", "\n"), expanded(new))
-    return base
+from tests.case_files import FileCase, blocks_of, edited, expanded
 
 
 class Commands(FileCase):
