@@ -104,8 +104,8 @@ def in_counts(copy):
     yield r"docs/TESTS\.md:\d+: \d+ stands there, and there are \d+: \| `\w+`: \w+ \| \d+ \|"
     copy.one_more("trials/README.md", r"has (?P<n>\d+) more")
     yield r"trials/README\.md:\d+: \d+ stands there, and there are \d+: `must-fail/CRATE/` has \d+"
-    copy.change("docs/TESTS.md", r"^\| `cases_service`: client ", lambda it: "| planted ")
-    yield r"docs/TESTS\.md: no row `cases_service`: client"
+    copy.change("docs/TESTS.md", r"^\| `cases_service`: invocation ", lambda it: "| planted ")
+    yield r"docs/TESTS\.md: no row `cases_service`: invocation"
     command = re.search(r"tools\.believe [a-z]\w* [\w:]+", (copy.top / "docs/PROOFS.md").read_text())[0]
     copy.append("docs/PROOFS.md", f"`python3 -m {command}` prints 1 lines in 1 definitions")
     yield r"docs/PROOFS\.md:\d+: 1 lines in 1 definitions stands there, and it prints \d+ lines in \d+ definitions"
