@@ -82,13 +82,14 @@ REPLIES = {"reply": sealed_reply(SEED), "reply to another": sealed_reply(bytes(3
 
 
 class Asked:
-    """A service, and the client's configuration and clock as the lines of a block have set them."""
+    """A service, and the client's configuration and next second as the lines of a block have set them."""
 
     def __init__(self, case, lines):
         self.case = case
         self.lines = lines
-        self.realm = case.realm
+        self.configuration = case.realm
         self.second = START
+        # the options of the last request, and its seed
         self.request = None
         folder = case.folder / f"service {next(case.numbers)}"
         folder.mkdir()
@@ -101,10 +102,10 @@ class Asked:
         if what == "clocks":
             self.second, second = map(int, text.split(" "))
             self.case.clocks["service"].set(second)
-            return
-        self.realm = edited(self.case.realm, text)
+        else:
+            self.configuration = edited(self.case.realm, text)
         if what == "realm":
-            self.server.configuration.write_text(self.realm)
+            self.server.configuration.write_text(self.configuration)
 
     def start(self):
         """For as many connections as there are requests."""
@@ -119,7 +120,7 @@ class Asked:
             self.case.clocks["client"].set(self.second)
             self.second += 1
         options, seed = self.request
-        return self.case.told(options, self.server.port, seed, self.realm)
+        return self.case.told(options, self.server.port, seed, self.configuration)
 
     def journal(self):
         names = {name: word for word, name in LONGEST.items()}
@@ -149,13 +150,13 @@ class Client(FileCase):
         return self.machine | {"CLOCK": str(self.clocks[who].file)}
 
     def told(self, options, port, seed, text):
-        """The line that `client` prints, and its status."""
+        """What `client` prints under this configuration, and its status."""
         words = ["client", "--config=realm.toml", "--seed=/dev/stdin", f"--port={port}", *options]
         printed, errors, status = self.ran(words, {"realm.toml": text.encode()}, seed, self.environment("client"))
         return f"{' '.join([*printed.splitlines(), *errors])}, status {status}"
 
     def exchanged(self, request, reply=b""):
-        """What it sends at START, and what it tells of the reply; there is none where that has no bytes."""
+        """What it sends, and what it prints when these bytes, or none, come back."""
         heard = []
         with socket.create_server(("127.0.0.1", 0)) as listener:
             listener.settimeout(PATIENCE)
@@ -168,7 +169,7 @@ class Client(FileCase):
     def replied(self, reply):
         return self.exchanged(ALICES, with_length(reply))[1]
 
-    def reply(self, line):
+    def answered(self, line):
         if line in ("prefixes", "changed by 01"):
             text = REPLIES["reply"]
             return self.census(self.replied, (changed(line, text, place) for place in range(len(text))))
@@ -178,7 +179,7 @@ class Client(FileCase):
         for it in blocks_of("client"):
             lines = it.body.split("\n")
             self.clocks["client"].set(START)
-            answer = self.reply if it.kind == "answered" else Asked(self, lines).answer
+            answer = self.answered if it.kind == "answered" else Asked(self, lines).answer
             self.tell_same(it.title, "\n".join(map(answer, lines)), it.answer)
 
     def test_sent(self):
