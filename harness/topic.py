@@ -5,12 +5,15 @@ up to the next topic's.
     python3 -m tests.model.cases_log < crates/cases_network/stdin | python3 -m harness.topic log --into crates/cases_network/stdout
 """
 import pathlib
+import re
 import sys
 
 from harness.command import TOP, Parser
 
-# A program of cases has a folder of modules for each of its topics.
-TOPICS = sorted(it.name for it in TOP.glob("crates/cases_*/src/*") if it.is_dir())
+# The main.rt of a program of cases names its topics, or it has one, with a folder of modules.
+NAMED = re.compile(r"^ +\"(\w+)\" => ", re.MULTILINE)
+TOPICS = sorted({topic for it in TOP.glob("crates/cases_*/src/main.rt")
+                 for topic in (NAMED.findall(it.read_text()) or [folder.name for folder in it.parent.iterdir() if folder.is_dir()])})
 
 
 def parts_of(text):
