@@ -13,6 +13,7 @@
 mod records;
 mod times;
 mod values;
+mod writers;
 
 use crate::refusal::{Answer, Refusal};
 use crate::words::bytes;
