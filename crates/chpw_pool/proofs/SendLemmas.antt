@@ -8,6 +8,8 @@ use denote.Struct.Tuple.{TupleAt}
 use Rattle.std.specs.Prelude.{[], ◌∷◌}
 use denote.Param.Send.{IsSend, IsSync, sendable}
 use Rattle.std.proofs.alloc.Global.TheSendSync as global
+use Rattle.chpw_serve.specs.contracts.gate.NoGate as NoGate
+use Rattle.chpw_serve.proofs.gate.NoGate.TheSendSync as gate
 use Rattle.chpw_serve.specs.contracts.worker_words.WorkerWords as WorkerWords
 use Rattle.chpw_serve.proofs.worker_words.WorkerWords.TheSendSync as words
 use Rattle.chpw_workers.specs.contracts.clock.MachineClock as MachineClock
@@ -31,9 +33,9 @@ context_sync a b R M r m = search (crew_sync, global.the_field_sync, sendable) d
 pub seat_send : (a : NamedLft) (R : RattleType) → IsSync R → IsSend (Seat.the_row a R)
 seat_send a R r = search (seat.the_send, sendable) depth 20
 
-pub worker_send : (a b : NamedLft) (R T G : RattleType) → IsSync R → IsSync T → IsSend G
-    → IsSend (Worker.the_row (Seat.the_row a R) G (MachineClock.the_row b T) WorkerWords.the_row)
-worker_send a b R T G r t g = search (worker.the_send, seat_send, clock.the_send, words.the_send, sendable) depth 20
+pub worker_send : (a b : NamedLft) (R : RattleType) → IsSync R
+    → IsSend (Worker.the_row (Seat.the_row a R) NoGate.the_row (MachineClock.the_row b R) WorkerWords.the_row)
+worker_send a b R r = search (worker.the_send, seat_send, gate.the_send, clock.the_send, words.the_send, sendable) depth 20
 
 -- the runtime, what all share, the desk, the pass and the worker
 pub start_send : (δ : Ty) (ν : Sym) (A B C D E : RattleType) → IsSend A

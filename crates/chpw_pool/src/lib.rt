@@ -11,4 +11,4 @@ pub use chpw_reactor::Pool;
 pub use chpw_sockets::PoolFault;
 pub use chpw_transfers::AcceptLimit;
 pub use chpw_workers::{MachineClock, machine_moment};
-pub use pool::{run_pool, run_pool_with};
+pub use pool::run_pool;
