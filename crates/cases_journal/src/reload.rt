@@ -10,9 +10,9 @@ use crate::reload::configuration::config_of;
 use crate::telling::show_table;
 use chpw_journal::restore_file;
 use chpw_printing::put_name;
-use chpw_reload::{NextTable, ReloadFault, finish, prepare, put_fault};
+use chpw_reload::{NextTable, PreparedReload, ReloadFault, finish, prepare, put_fault};
 use chpw_table::Table;
-use std::alloc::{AllocError, Global};
+use std::alloc::Global;
 use std::io;
 use support_cases::no_case;
 
@@ -30,18 +30,38 @@ pub fn show_reload(alloc: Global, text: &mut Vec<u8>, case: &str) -> io::Result<
         return Err(no_case());
     };
     let journal = journal_of(alloc, pieces)?;
-    let Some(front) = journal.get(..number(end)? as usize) else {
+    let prepared = prepared(alloc, new, &journal, number(end)? as usize)?;
+    let closed = closed_table(alloc, old, &journal)?;
+    match prepared {
+        Ok(renewal) => show_finished(alloc, text, renewal, &journal, closed),
+        Err(fault) => show_refused(text, &fault, &closed),
+    }
+}
+
+/// The renewal by a new configuration and the front of the journal.
+fn prepared(
+    alloc: Global,
+    new: &str,
+    journal: &[u8],
+    end: usize,
+) -> io::Result<Result<PreparedReload, ReloadFault>> {
+    let Some(front) = journal.get(..end) else {
         return Err(no_case());
     };
-    let closed = closed_table(alloc, old, &journal)?;
-    let renewal = match prepare(alloc, config_of(alloc, new)?, front) {
-        Ok(renewal) => renewal,
-        Err(fault) => return Ok(show_refused(text, &fault, &closed)?),
-    };
+    Ok(prepare(alloc, config_of(alloc, new)?, front))
+}
+
+fn show_finished(
+    alloc: Global,
+    text: &mut Vec<u8>,
+    renewal: PreparedReload,
+    journal: &[u8],
+    closed: Table,
+) -> io::Result<()> {
     let rest = journal.get(renewal.kept as usize..).unwrap_or(&[]);
     match finish(alloc, renewal, rest, closed) {
-        Ok(next) => Ok(show_next(text, &next)?),
-        Err(refused) => Ok(show_refused(text, &refused.fault, &refused.closed)?),
+        Ok(next) => show_next(text, &next),
+        Err(refused) => show_refused(text, &refused.fault, &refused.closed),
     }
 }
 
@@ -54,13 +74,13 @@ fn closed_table(alloc: Global, words: &str, journal: &[u8]) -> io::Result<Table>
     }
 }
 
-fn show_refused(text: &mut Vec<u8>, fault: &ReloadFault, closed: &Table) -> Result<(), AllocError> {
+fn show_refused(text: &mut Vec<u8>, fault: &ReloadFault, closed: &Table) -> io::Result<()> {
     put_fault(text, fault)?;
     text.extend_from_slice(b"; stays:")?;
     show_held(text, closed)
 }
 
-fn show_next(text: &mut Vec<u8>, next: &NextTable) -> Result<(), AllocError> {
+fn show_next(text: &mut Vec<u8>, next: &NextTable) -> io::Result<()> {
     text.extend_from_slice(b"goes on:")?;
     show_held(text, &next.table)?;
     for name in next.lacked.as_slice() {
@@ -71,7 +91,7 @@ fn show_next(text: &mut Vec<u8>, next: &NextTable) -> Result<(), AllocError> {
 }
 
 /// Adds a table's principals with the versions of their keys, its count and whether it has the closed one's quiet second.
-fn show_held(text: &mut Vec<u8>, table: &Table) -> Result<(), AllocError> {
+fn show_held(text: &mut Vec<u8>, table: &Table) -> io::Result<()> {
     show_table(text, table)?;
     if table.quiet_until() == QUIET_UNTIL {
         text.extend_from_slice(b" quiet")?;

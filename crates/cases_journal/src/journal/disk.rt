@@ -37,9 +37,10 @@ pub fn show_appended(alloc: Global, text: &mut Vec<u8>, way: &str, end: &str) ->
     } else {
         "failed"
     };
-    let (failures, kept) = (sink.failures(), sink.file().kept);
+    let (failures, kept, cause) = (sink.failures(), sink.file().kept, sink.cause());
+    drop(sink);
     write!(text, "{told}, failures {failures}, on the disk {kept}")?;
-    match sink.cause() {
+    match cause {
         Some(cause) => write!(text, ", since {cause}"),
         None => Ok(()),
     }

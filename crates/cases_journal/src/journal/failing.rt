@@ -28,7 +28,7 @@ pub fn show_decided(
     let (nth, kept) = choice.split_once(' ').unwrap_or((choice, ""));
     let mut sink = MemorySink::new(alloc, number(size)? as usize)?;
     sink.fail_at(number(nth)?, number(kept)? as usize);
-    show_over(alloc, text, sink, changes)
+    show_over(alloc, text, &mut sink, changes)
 }
 
 /// Adds the answers to changes of alice, where an append fails before each byte of their journal in turn.
@@ -40,33 +40,45 @@ pub fn show_each_failed(alloc: Global, text: &mut Vec<u8>, changes: &str) -> io:
         let mut sink = MemorySink::new(alloc, size)?;
         sink.fail_at(before.saturating_add(1), place % RECORD);
         let mut told = Vec::new(alloc);
-        show_over(alloc, &mut told, sink, changes)?;
+        show_over(alloc, &mut told, &mut sink, changes)?;
         census.add(alloc, place, text_of(&told))?;
     }
     Ok(text.extend_from_slice(census.text(alloc)?.as_bytes())?)
 }
 
-/// Adds the answer to each change and raise over this journal, how many appends failed, what the table then has, and what
-/// is restored from the journal.
+/// Adds the answers of a table before any change, over this journal, and what is restored from the journal then.
 fn show_over(
     alloc: Global,
     text: &mut Vec<u8>,
-    mut sink: MemorySink,
+    sink: &mut MemorySink,
     changes: &str,
 ) -> io::Result<()> {
     let mut table = table(alloc)?;
+    let shown = show_answers(alloc, text, &mut table, sink, changes);
+    drop(table);
+    shown?;
+    show_restored(alloc, text, Way::of(""), sink.bytes())
+}
+
+/// Adds the answer to each change and raise, how many appends failed, and what the table then has.
+fn show_answers(
+    alloc: Global,
+    text: &mut Vec<u8>,
+    table: &mut Table,
+    sink: &mut MemorySink,
+    changes: &str,
+) -> io::Result<()> {
     let mut cusec = 0_u32;
     for change in changes.split(", ") {
         cusec = cusec.saturating_add(1);
         match change.strip_prefix("raise ") {
-            Some(count) => show_raise(text, &mut table, &mut sink, number(count)?)?,
-            None => show_change(text, &mut table, &mut sink, request(alloc, change, cusec)?)?,
+            Some(count) => show_raise(text, table, sink, number(count)?)?,
+            None => show_change(text, table, sink, request(alloc, change, cusec)?)?,
         }
     }
     write!(text, "failures {},", sink.failures())?;
-    show_table(text, &table)?;
-    text.extend_from_slice(b"; ")?;
-    show_restored(alloc, text, Way::of(""), sink.bytes())
+    show_table(text, table)?;
+    Ok(text.extend_from_slice(b"; ")?)
 }
 
 /// A principal's request for a password of its own: the password of this number has keys of that byte throughout, and

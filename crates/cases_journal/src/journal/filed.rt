@@ -39,12 +39,13 @@ pub fn show_filed<R: Files<File = File>>(
 
 /// Adds what opening the file gives, and how many bytes are in it then.
 fn show_opened<R: Files<File = File>>(rt: &R, alloc: Global, text: &mut Vec<u8>) -> io::Result<()> {
-    match open_journal(rt, alloc, SCRATCH, table(alloc)?) {
-        Ok(journal) => show_journal(rt, text, &journal)?,
-        Err(OpenFault::CannotRead) => text.extend_from_slice(b"cannot read")?,
-        Err(OpenFault::CannotWrite) => text.extend_from_slice(b"cannot write")?,
-        Err(OpenFault::Restore(fault)) => write!(text, "{fault}")?,
-    }
+    let shown = match open_journal(rt, alloc, SCRATCH, table(alloc)?) {
+        Ok(journal) => show_journal(rt, text, &journal),
+        Err(OpenFault::CannotRead) => write!(text, "cannot read"),
+        Err(OpenFault::CannotWrite) => write!(text, "cannot write"),
+        Err(OpenFault::Restore(fault)) => write!(text, "{fault}"),
+    };
+    shown?;
     let left = fs::metadata(rt, SCRATCH)?.len();
     write!(text, ", {left} bytes")
 }
@@ -73,10 +74,12 @@ fn append<R: Files<File = File>>(rt: &R, alloc: Global, more: &[u8]) -> io::Resu
     let Ok(mut journal) = open_journal(rt, alloc, SCRATCH, table(alloc)?) else {
         return Err(no_case());
     };
-    let Ok(()) = journal.sink.append(more) else {
-        return Err(no_case());
-    };
-    Ok(())
+    let appended = journal.sink.append(more);
+    drop(journal);
+    match appended {
+        Ok(()) => Ok(()),
+        Err(_) => Err(no_case()),
+    }
 }
 
 /// Adds whether the file existed when it was locked, and what opening it gives beside the locked file and beside the
@@ -85,13 +88,15 @@ fn show_locked<R: Files<File = File>>(rt: &R, alloc: Global, text: &mut Vec<u8>)
     let Ok(locked) = JournalFile::lock(rt, SCRATCH) else {
         return Err(no_case());
     };
-    write!(text, "{}; ", if locked.found { "found" } else { "new" })?;
+    let found = if locked.found { "found" } else { "new" };
+    write!(text, "{found}; ")?;
     show_opened(rt, alloc, text)?;
+    text.extend_from_slice(b"; ")?;
     let Ok(journal) = locked.restore(alloc, table(alloc)?) else {
         return Err(no_case());
     };
-    text.extend_from_slice(b"; ")?;
-    show_opened(rt, alloc, text)?;
+    let shown = show_opened(rt, alloc, text);
     drop(journal);
+    shown?;
     Ok(text.extend_from_slice(b"; ")?)
 }

@@ -1,7 +1,7 @@
 //! What restoring a journal gives.
 
 use crate::telling::show_table;
-use chpw_journal::restore_file;
+use chpw_journal::{Restored, restore_file};
 use chpw_table::Table;
 use std::alloc::Global;
 use std::io::{self, Write};
@@ -27,12 +27,14 @@ pub fn show_restored(
         course: Course::start(way),
     };
     match restore_file(alloc, table(alloc)?, giver) {
-        Ok((restored, _)) => {
-            let tail = if restored.torn { "torn" } else { "whole" };
-            let (records, kept) = (restored.records, restored.kept);
-            write!(text, "records {records} kept {kept} {tail},")?;
-            Ok(show_table(text, &restored.table)?)
-        }
+        Ok((restored, _)) => show_told(text, &restored),
         Err(fault) => write!(text, "{fault}"),
     }
+}
+
+fn show_told(text: &mut Vec<u8>, restored: &Restored) -> io::Result<()> {
+    let tail = if restored.torn { "torn" } else { "whole" };
+    let (records, kept) = (restored.records, restored.kept);
+    write!(text, "records {records} kept {kept} {tail},")?;
+    Ok(show_table(text, &restored.table)?)
 }
