@@ -7,8 +7,8 @@ from .tree import TOP
 DOCUMENT = "docs/PROTOCOL.md"
 PAGES = ("packaging/man/chpw_server.8", "packaging/man/boddrelyn.toml.5")
 QUOTED = re.compile(r"^\.Dq (.*?)(?: [,.:])?$", re.MULTILINE)
-# A value stands where a quotation has capitals; `..` is more of the same; a count is C, E or N.
-VALUE = re.compile(r"\b[A-Z][A-Z@]*\b|\.\.|\b[A-Z]\d\b")
+# A value stands where a quotation has capitals or a number; `..` is more of the same.
+VALUE = re.compile(r"\b[A-Z][A-Z@]*\b|\.\.|\b[A-Z]?\d+\b")
 LITERAL = re.compile(r"\"((?:[^\"\\\n]|\\.)*)\"")
 PLACEHOLDER = re.compile(r"\{[^}]*\}")
 # A row of the frame's table: code, text, condition. In a sentence the text comes after the error code.
@@ -18,7 +18,7 @@ TOLD = re.compile(r"error \d+[,:]? `([^`]+)`")
 
 def literals():
     """All texts of the program: literals of its sources and of its definitions, with a blank for each value."""
-    for pattern in ("crates/*/src/**/*.rt", "crates/*/specs/**/*.antt"):
+    for pattern in ("crates/chpw_*/src/**/*.rt", "crates/krb_*/src/**/*.rt", "crates/chpw_*/specs/**/*.antt", "crates/krb_*/specs/**/*.antt"):
         for file in TOP.glob(pattern):
             for text in LITERAL.findall(file.read_text()):
                 yield PLACEHOLDER.sub(" ", text).replace("\\n", " ")
