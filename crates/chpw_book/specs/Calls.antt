@@ -48,13 +48,13 @@ pub record Notes (opening : State) (mine more : PassView) (now : Moment) (event 
   pub entry : Entry
   pub happens : Happens opening before entry mine more now event
 
--- keys are asked for only if, after some such history, the decision of this request lacks exactly these
+-- keys are asked for only if, after some legal history, the decision of this request lacks exactly these
 pub record AsksAfter (opening : State) (now : Moment) (o : Opened) (fault : DecideFault) : Type 0 where
   pub before : List Entry
   pub legal : IsLegal opening before
   pub asks : AsksFor (missing (outcome opening before) now o) fault
 
--- after some such history the decision of this request lacks exactly these keys
+-- after some legal history the decision of this request lacks exactly these keys
 pub record LacksAfter (opening : State) (now : Moment) (o : Opened) (counts : List ℕ) : Type 0 where
   pub before : List Entry
   pub legal : IsLegal opening before

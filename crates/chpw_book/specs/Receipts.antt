@@ -32,7 +32,7 @@ pub record IsCounted (counts : List ℕ) (history : List Entry) : Type 0 where
   pub counts_are : (w : ℕ) → w < length counts → slice_index counts w ≡ length (entries_of w history)
   pub workers : AreOfWorkers (length counts) history
 
--- how many were accepted: changes of passwords and raises of the count
+-- how many were accepted: changes of passwords, raises of the count, and updates
 abbrev pub changes_of : List Entry → ℕ
 changes_of history = count_by (λ (e : Entry). is_accepted e.event) history
 

@@ -46,7 +46,7 @@ impl TakenOrder {
 
 /// All callers at the control socket, each in a slot of its own.
 ///
-/// `status` and `stop` are answered at once, each for itself. The other commands are orders: they are carried out one
+/// `status` is answered at once, and `stop` at the end. The other commands are orders: they are carried out one
 /// after the other, beside the thread that has the sockets.
 #[derive(Drop)]
 pub struct Callers {

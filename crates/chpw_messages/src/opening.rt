@@ -12,7 +12,7 @@ use chpw_serve::OpenResult;
 use krb_msgs::{OpenError, ServiceKey, Strictness, open_ap};
 use std::alloc::{AllocError, Global};
 
-/// What a message between these two opens to, for a service that accepts these.
+/// What a message that came over these addresses opens to, for a service that accepts these.
 #[tactic(auto, using(crate::proofs::VersionLemmas::holds_refused, crate::proofs::VersionLemmas::holds_opened))]
 pub(crate) fn open_under(
     alloc: Global,

@@ -25,9 +25,9 @@ pub struct MessageReply {
     pub opened: bool,
 }
 
-/// The reply to a message between these two. Its request is judged at
-/// the moment `now`, whose seconds are 0 to `chpw_table::LAST_SECOND`, and microseconds below
-/// 1,000,000; the words make its confounders and its sequence number. The observer hears what came of it.
+/// The reply to a message that came over these addresses. Its request is judged at the moment `now`, whose seconds
+/// are 0 to `chpw_table::LAST_SECOND`, and microseconds below 1,000,000; the words make its confounders and its
+/// sequence number. The observer hears what came of it.
 /// After `AllocError` there may be a receipt more, of this message's request, of which the observer heard.
 pub fn answer<M: Messages, D: Decider, G: Gate + Observer>(
     alloc: Global,

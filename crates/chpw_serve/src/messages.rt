@@ -49,7 +49,7 @@ pub enum OpenResult {
 
 /// The service's realm and keys, with which messages are opened and made.
 pub trait Messages {
-    /// A message between these two opens to this.
+    /// A message that came over these addresses opens to this.
     ghost opens: { Self → endpoints_spec → List ℕ → Opens → Type 0 };
 
     /// The frame of a KRB-ERROR.
@@ -61,7 +61,7 @@ pub trait Messages {
     /// The service's realm.
     fn realm(&self) -> &[u8];
 
-    /// Opens a message that came between these two.
+    /// Opens a message that came over these addresses.
     fn open(&self, alloc: Global, ends: Endpoints, message: &[u8]) -> Result<OpenResult, AllocError>
         ensures opening { IfOk result (λ found. (o : Opens) × opens self.now ends message.now o × IsOpenResult o found) }
         ensures times { IfOk result IsInTime };

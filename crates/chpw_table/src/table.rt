@@ -62,7 +62,7 @@ pub struct Lookup {
     pub held: Counts,
     /// The iteration count of new keys: the policy's, until it is raised.
     pub policy: u32,
-    /// The changes accepted so far, of all principals, raises among them.
+    /// The changes accepted so far, of all principals, raises and updates among them.
     pub seen: u32,
 }
 
@@ -167,7 +167,7 @@ impl Table {
         self.events == self.max_entries
     }
 
-    /// How many changes it has accepted, of all principals, raises among them.
+    /// How many changes it has accepted, of all principals, raises and updates among them.
     pub fn changes_accepted(&self) -> u32
         ensures value { result ≡ self.now.seen }
         ensures few { result ≤ entry_counts.high }
@@ -252,6 +252,7 @@ impl Table {
         self.standing.policy()
     }
 
+    /// How many principals it holds.
     pub fn principals(&self) -> usize
         ensures value { result ≡ length self.now.state.principals }
     {
