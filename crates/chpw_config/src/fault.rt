@@ -7,7 +7,7 @@ use thiserror::Error;
 
 /// What is wrong. For one key, `MissingKey`, `WrongKind`, `BadHex` and `OutOfRange` are checked in this order. A kind
 /// is displayed as its code, `C1` to `C6`.
-#[derive(Clone, Copy, Debug, Drop)]
+#[derive(Clone, Copy, Drop, Debug)]
 pub enum ConfigFaultKind {
     /// The file isn't TOML.
     NotToml,
@@ -25,7 +25,7 @@ pub enum ConfigFaultKind {
 }
 
 /// A part of the file. A part is displayed as its word, such as `servicekey`.
-#[derive(Clone, Copy, Debug, Drop)]
+#[derive(Clone, Copy, Drop, Debug)]
 pub enum Part {
     /// The file as a whole.
     File,

@@ -57,5 +57,5 @@ pub struct Raise {
 }
 
 /// The table has decided as many events as allowed, and nothing has changed.
-#[derive(Clone, Copy, PartialEq, Eq, Debug, Drop)]
+#[derive(Clone, Copy, PartialEq, Eq, Drop)]
 pub struct Full;

@@ -32,7 +32,7 @@ pub enum UpdateVerdict {
 }
 
 /// Why no update was decided, in the order of the checks.
-#[derive(Clone, Copy, PartialEq, Eq, Debug, Drop)]
+#[derive(Clone, Copy, PartialEq, Eq, Drop)]
 pub enum UpdateFault {
     /// The table has decided as many events as allowed.
     Full,

@@ -61,7 +61,7 @@ pub struct State {
 
 /// Whether a message wasn't read for want of room. Others of its kind wait with it for the next round, so that all get
 /// room in turn.
-#[derive(Clone, Copy, PartialEq, Eq, Debug, Default, Drop)]
+#[derive(Clone, Copy, PartialEq, Eq, Default, Drop)]
 pub struct Shortage {
     pub of_large: bool,
     pub of_small: bool,
@@ -99,7 +99,7 @@ impl Shortage {
 }
 
 /// The result of a read or a write.
-#[derive(Clone, Copy, PartialEq, Eq, Debug, Drop)]
+#[derive(Clone, Copy, PartialEq, Eq, Drop)]
 pub enum Progress {
     /// Something happened, and more may be done at once.
     Moved,

@@ -11,7 +11,7 @@ use std::alloc::{AllocError, Global};
 use toml::{Table, Value};
 
 /// A list whose elements are tables.
-#[derive(Clone, Copy, Debug, Drop)]
+#[derive(Clone, Copy, Drop)]
 pub enum Listed {
     ServiceKeys,
     Rules,

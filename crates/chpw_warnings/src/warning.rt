@@ -6,7 +6,7 @@ ghost use Rattle.chpw_warnings.specs.declared.warning.Place.TheVariants.{File, P
 use chpw_rules::{Items, Name};
 
 /// A table of a configuration's file; elements of lists are numbered from 1.
-#[derive(Clone, Copy, Debug, Drop)]
+#[derive(Clone, Copy, Drop)]
 pub enum Place {
     /// The file itself.
     File,
@@ -67,14 +67,14 @@ fn is_key_setting(key: &str) -> bool
 }
 
 /// Whom a rule names.
-#[derive(Clone, Copy, Debug, Drop)]
+#[derive(Clone, Copy, Drop)]
 pub enum Party {
     Actor,
     Target,
 }
 
 /// Why a rule's name may be a mistake, in the order of the checks.
-#[derive(Clone, Copy, Debug, Drop)]
+#[derive(Clone, Copy, Drop)]
 pub enum Doubt {
     /// It has an `@`: no name of a configuration has a realm.
     Realm,

@@ -17,7 +17,7 @@ use crate::writing::Write;
 use std::alloc::{AllocError, Global};
 
 /// The first 32 flags; bit 0 is the highest.
-#[derive(Clone, Copy, Debug, PartialEq, Eq)]
+#[derive(Clone, Copy, PartialEq, Eq)]
 pub struct KerberosFlags(pub u32);
 
 impl KerberosFlags {

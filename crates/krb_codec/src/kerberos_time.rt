@@ -17,7 +17,7 @@ use crate::writing::Write;
 use std::alloc::{AllocError, Global};
 
 /// Seconds since 1970-01-01T00:00:00Z; those of the years 0 to 9999 can be written.
-#[derive(Clone, Copy, Debug, PartialEq, Eq)]
+#[derive(Clone, Copy, PartialEq, Eq)]
 pub struct KerberosTime(pub i64);
 
 impl Element for KerberosTime {

@@ -19,11 +19,11 @@ use std::alloc::{AllocError, Global};
 const MICROSECONDS: u32 = 1_000_000;
 
 /// Microseconds, 0 to 999,999 on the wire (RFC 4120 section 5.2.4).
-#[derive(Clone, Copy, Debug, PartialEq, Eq)]
+#[derive(Clone, Copy, PartialEq, Eq)]
 pub struct Microseconds(pub u32);
 
 /// A sequence number (RFC 4120 section 5.5.1). One that is negative on the wire is read modulo 2^32.
-#[derive(Clone, Copy, Debug, PartialEq, Eq)]
+#[derive(Clone, Copy, PartialEq, Eq)]
 pub struct SeqNumber(pub u32);
 
 impl Element for i32 {

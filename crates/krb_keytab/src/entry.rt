@@ -9,7 +9,7 @@ use crate::fields::{components, read_counted, u8_at, u16_at, u32_at};
 use std::alloc::Global;
 
 /// A key of a principal (MIT Kerberos, keytab file format 0x0502).
-#[derive(Debug, Drop)]
+#[derive(Drop)]
 pub struct KeytabEntry {
     /// The offset in the file, in bytes from 0, of the four bytes of its record's length.
     pub place: usize,
