@@ -21,7 +21,7 @@ use chpw_table::{Entry, Event, JournalSink, Moment, RaiseVerdict, Receipt, Table
 use std::alloc::AllocError;
 
 /// Why no raise was decided, in the order of the tests; nothing has changed.
-#[derive(Clone, Copy, PartialEq, Eq, Drop)]
+#[derive(Clone, Copy, Drop)]
 pub enum RaiseFault {
     /// The table has decided as many events as allowed.
     Full,

@@ -25,7 +25,7 @@ use chpw_table::{
 use std::alloc::AllocError;
 
 /// Why a desk decided no update, in the order of the tests; nothing has changed.
-#[derive(Clone, Copy, PartialEq, Eq, Drop)]
+#[derive(Clone, Copy, Drop)]
 pub enum DeskUpdateFault {
     /// The table has decided as many events as allowed.
     Full,

@@ -6,7 +6,7 @@ ghost use Rattle.chpw_connection.specs.Stages.{stage};
 use crate::connection::{Connection, Phase};
 
 /// The stages of connections that are counted separately. Each connection is in one of them.
-#[derive(Clone, Copy, PartialEq, Eq, Drop)]
+#[derive(Clone, Copy, Drop)]
 pub enum CountedStage {
     /// It reads its next message.
     Reading,

@@ -2,7 +2,7 @@
 
 /// Who may be ended to make room: connections with a message or reply of more than `larger_than` bytes that has been
 /// under way since `begun_by` or longer.
-#[derive(Clone, Copy, PartialEq, Eq, Default, Drop)]
+#[derive(Clone, Copy, Default, Drop)]
 pub struct EvictionRule {
     pub larger_than: usize,
     pub begun_by: u64,

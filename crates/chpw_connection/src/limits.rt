@@ -1,7 +1,7 @@
 //! How much is held, and for how long.
 
 /// How many connections are held, how many bytes, and for how long. Times are in milliseconds.
-#[derive(Clone, Copy, PartialEq, Eq, Drop)]
+#[derive(Clone, Copy, Drop)]
 pub struct ConnectionLimits {
     /// Connections at a time, at least 1.
     pub connections: usize,

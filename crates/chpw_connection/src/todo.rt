@@ -5,7 +5,7 @@ ghost use Rattle.chpw_connection.specs.Todos.{todo_at};
 
 use crate::connection::{Connection, Phase};
 
-#[derive(Clone, Copy, PartialEq, Eq, Drop)]
+#[derive(Clone, Copy, Drop, PartialEq, Eq)]
 pub enum Todo {
     /// Read at most this many bytes.
     Read(usize),

@@ -16,7 +16,7 @@ use chpw_endpoints::Endpoints;
 use std::net::IpAddr;
 
 /// A reply that no longer waits although its change wasn't confirmed.
-#[derive(Clone, Copy, PartialEq, Eq, Drop)]
+#[derive(Clone, Copy, Drop)]
 pub struct Unconfirmed {
     /// The address that its message came from.
     pub peer: IpAddr,

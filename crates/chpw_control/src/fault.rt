@@ -5,7 +5,7 @@ ghost use Rattle.chpw_control.specs.Faults.{fault_text};
 use std::alloc::AllocError;
 
 /// Why a connection gave no command.
-#[derive(Clone, Copy, PartialEq, Eq, Drop)]
+#[derive(Clone, Copy, Drop)]
 pub enum ControlFault {
     /// The line is none of the commands.
     UnknownCommand,

@@ -13,7 +13,7 @@ pub enum JournalState<'a> {
 }
 
 /// Whether the name of a file that the service has open still leads to it.
-#[derive(Clone, Copy, PartialEq, Eq, Drop)]
+#[derive(Clone, Copy, Drop)]
 pub enum NameState {
     /// There is no such file.
     Absent,

@@ -7,7 +7,7 @@ use crate::peer::Peer;
 use std::net::{IpAddr, Ipv4Addr, SocketAddr};
 
 /// The addresses of a request's two ends.
-#[derive(Clone, Copy, PartialEq, Eq, Drop)]
+#[derive(Clone, Copy, Drop)]
 pub struct Endpoints {
     /// The address that it comes from: the client's, or a forwarder's.
     pub peer: IpAddr,

@@ -7,7 +7,7 @@ use std::net::IpAddr;
 /// A peer that has a share of the connections: a host of IPv4, or a network of IPv6. A host of IPv6 has a whole /64 as a
 /// rule (RFC 4291 section 2.5.1), in which it takes as many addresses as it likes (RFC 8981), so its addresses count
 /// together.
-#[derive(Clone, Copy, PartialEq, Eq, Drop)]
+#[derive(Clone, Copy, Drop)]
 pub enum Peer {
     /// The host of this IPv4 address, its first octet the highest.
     Host(u32),

@@ -27,7 +27,7 @@ pub struct ChangeTarget {
 }
 
 /// Why bytes ask for no change, in the order of the checks.
-#[derive(Clone, Copy, PartialEq, Eq, Debug, Drop, Error)]
+#[derive(Clone, Copy, Debug, Drop, Error)]
 pub enum ChangeFault {
     /// They are no ChangePasswdData.
     #[error("no ChangePasswdData")]

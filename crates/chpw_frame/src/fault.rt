@@ -9,7 +9,7 @@ use thiserror::Error;
 
 /// What is wrong with a message's frame, in the order of the checks (RFC 3244 section 2). Each has the result code and
 /// the error code of its reply.
-#[derive(Clone, Copy, PartialEq, Eq, Debug, Drop, Error)]
+#[derive(Clone, Copy, Debug, Drop, Error)]
 pub enum FrameFault {
     /// It has fewer than 6 bytes, or its length field isn't its length: 1, KRB_ERR_GENERIC (60).
     #[error("another length than the message's")]

@@ -34,7 +34,7 @@ pub enum TcpOutcome {
 const FRONT_LEN: usize = 1_020;
 
 /// A write failed, was interrupted or took nothing.
-#[derive(Clone, Copy, PartialEq, Eq, Drop)]
+#[derive(Clone, Copy, Drop)]
 pub struct WriteFault;
 
 /// Reads the next message, of at most 65,535 bytes after a length of four bytes (RFC 4120 section 7.2.2). An

@@ -3,7 +3,7 @@ use std::fs::{self, Files, Metadata};
 use std::os::unix::fs::MetadataExt;
 
 /// The device of a file, and its number there. As long as a file is open no other one has both.
-#[derive(Clone, Copy, PartialEq, Eq, Drop)]
+#[derive(Clone, Copy, Drop)]
 pub struct FileNumber {
     pub device: u64,
     pub number: u64,

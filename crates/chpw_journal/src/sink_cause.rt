@@ -25,7 +25,7 @@ const EDQUOT: i32 = 122;
 const FIRST_OTHER: u64 = 8;
 
 /// Why an append failed, displayed as the system's words for it: `no space left`.
-#[derive(Clone, Copy, PartialEq, Eq, Drop)]
+#[derive(Clone, Copy, Drop)]
 pub enum SinkCause {
     NoSpace,
     ReadOnly,

@@ -11,7 +11,7 @@ use chpw_rules::{Items, Name};
 use std::alloc::{AllocError, Global};
 
 /// Why a name is never written, or its keys are not told.
-#[derive(Clone, Copy, PartialEq, Eq, Drop)]
+#[derive(Clone, Copy, Drop)]
 pub enum Reason {
     /// `reserved`: its first component is one that the KDC or its servers live by.
     Reserved,

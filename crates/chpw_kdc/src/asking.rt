@@ -13,7 +13,7 @@ use crate::request::Request;
 use std::alloc::AllocError;
 
 /// What comes next.
-#[derive(Clone, Copy, PartialEq, Eq, Drop)]
+#[derive(Clone, Copy, Drop)]
 pub(crate) enum Next {
     /// The first put.
     Put,

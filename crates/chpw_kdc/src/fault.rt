@@ -3,7 +3,7 @@
 use std::alloc::{AllocError, AllocFailed};
 
 /// Why a line is no answer of the agent's, in the order of the checks.
-#[derive(Clone, Copy, PartialEq, Eq, Drop)]
+#[derive(Clone, Copy, Drop)]
 pub enum LineFault {
     /// Its bytes are no UTF-8.
     NotText,
@@ -48,7 +48,7 @@ impl<T: Drop> From<AllocFailed<T>> for LineFault {
 }
 
 /// Why a connection is given up.
-#[derive(Clone, Copy, PartialEq, Eq, Drop)]
+#[derive(Clone, Copy, Drop)]
 pub enum ProtocolFault {
     /// Bytes came without a connection.
     NotConnected,
@@ -73,7 +73,7 @@ pub enum ProtocolFault {
 }
 
 /// Why a key isn't kept.
-#[derive(Clone, Copy, PartialEq, Eq, Drop)]
+#[derive(Clone, Copy, Drop)]
 pub enum HoldFault {
     /// No line can have the name.
     LongName,

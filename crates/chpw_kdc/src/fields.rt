@@ -16,7 +16,7 @@ use std::alloc::{AllocError, Global};
 pub const NAME_TEXT: usize = 900;
 
 /// Both keys of a principal under the default salt.
-#[derive(Clone, Copy, PartialEq, Eq, Drop)]
+#[derive(Clone, Copy, Drop)]
 pub struct KeyPair {
     /// The key of etype 18.
     pub aes256: [u8; 32],

@@ -6,7 +6,7 @@ use chpw_frame::REQUEST_VERSION;
 use krb_msgs::Strictness;
 
 /// The versions of requests that a service answers.
-#[derive(Clone, Copy, PartialEq, Eq, Drop)]
+#[derive(Clone, Copy, Drop)]
 pub enum Versions {
     /// 0xff80 (RFC 3244 section 2), and 0x0001 (draft-ietf-cat-kerb-chg-password-02 section 3).
     Both,
@@ -15,7 +15,7 @@ pub enum Versions {
 }
 
 /// Which messages a service accepts.
-#[derive(Clone, Copy, PartialEq, Eq, Drop)]
+#[derive(Clone, Copy, Drop)]
 pub struct Acceptance {
     pub versions: Versions,
     /// Of their KRB-PRIVs.

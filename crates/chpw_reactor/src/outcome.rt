@@ -7,7 +7,7 @@ use chpw_sockets::PoolFault;
 use chpw_transfers::AcceptLimit;
 
 /// The result of a pool.
-#[derive(Clone, Copy, PartialEq, Eq, Drop)]
+#[derive(Clone, Copy, Drop)]
 pub struct Pool {
     /// The connections that were accepted, each until it ended.
     pub served: u64,

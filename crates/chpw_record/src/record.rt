@@ -37,7 +37,7 @@ pub struct PrincipalKey {
 }
 
 /// What a record says of a principal and a key.
-#[derive(Clone, Copy, PartialEq, Eq, Drop)]
+#[derive(Clone, Copy, Drop)]
 pub enum KeyKind {
     /// The principal's new key, of an accepted change.
     Change,

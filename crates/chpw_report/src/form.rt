@@ -1,7 +1,7 @@
 //! The forms that a report has.
 
 /// What is printed for each principal.
-#[derive(Clone, Copy, PartialEq, Eq, Drop)]
+#[derive(Clone, Copy, Drop)]
 pub enum Form {
     /// A line for a person: `alice kvno 3 counts 4096 4096`; at the end how many principals there are.
     Lines,

@@ -8,7 +8,7 @@ use crate::resume::Resume;
 use chpw_table::{CLOCK_SKEW, LAST_SECOND};
 
 /// Why a resume file doesn't fit a start, in the order of the checks.
-#[derive(Clone, Copy, PartialEq, Eq, Drop)]
+#[derive(Clone, Copy, Drop)]
 pub enum Misfit {
     /// It is of another realm.
     Realm,

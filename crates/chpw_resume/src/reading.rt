@@ -24,7 +24,7 @@ const STATE_BYTES: usize = 44;
 const TIMES_BYTES: usize = 12;
 
 /// Why a text is that of no resume file.
-#[derive(Clone, Copy, PartialEq, Eq, Drop)]
+#[derive(Clone, Copy, Drop)]
 pub enum ResumeFault {
     /// It doesn't begin as a resume file of this format does.
     Unknown,

@@ -11,7 +11,7 @@ use sha1::Sha1;
 use std::alloc::{AllocError, Global};
 
 /// Why no text is written.
-#[derive(Clone, Copy, PartialEq, Eq, Drop)]
+#[derive(Clone, Copy, Drop)]
 pub enum WriteFault {
     /// It would be longer than `LONGEST_RESUME`.
     TooLong,

@@ -1,7 +1,7 @@
 //! Why an update was not prepared.
 
 /// Why an update from the KDC can't be shown to lookups, in the order of the checks. Nothing has changed.
-#[derive(Clone, Copy, PartialEq, Eq, Drop)]
+#[derive(Clone, Copy, Drop)]
 pub enum NotPrepared {
     /// Its name has no row yet, and has not one component of at most 128 bytes. The next opening can have it.
     Composite,

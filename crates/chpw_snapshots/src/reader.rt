@@ -41,7 +41,7 @@ impl<D: LogName> Model for SnapshotReader<D> {
 }
 
 /// `left_right` refused the entry, or the version is older than what was learnt.
-#[derive(Clone, Copy, PartialEq, Eq, Drop)]
+#[derive(Clone, Copy, Drop)]
 pub struct NotEntered;
 
 impl<D: LogName> SnapshotReader<D> {

@@ -1,7 +1,7 @@
 //! Why a pool ended early.
 
 /// Why a pool ended early.
-#[derive(Clone, Copy, PartialEq, Eq, Drop)]
+#[derive(Clone, Copy, Drop)]
 pub enum PoolFault {
     /// The listener failed, or the system has no file for what watches the sockets.
     Accept,

@@ -4,7 +4,7 @@ ghost use Rattle.std.specs.Prelude.{◌≡◌};
 use krb_protocol::codes::{KRB5_KPASSWD_HARDERROR, KRB5_KPASSWD_SOFTERROR, KRB5_KPASSWD_SUCCESS};
 
 /// The verdicts on a raise, in the order of the checks.
-#[derive(Clone, Copy, PartialEq, Eq, Drop)]
+#[derive(Clone, Copy, Drop)]
 pub enum RaiseVerdict {
     /// The count is not above the present one.
     NotHigher,
@@ -57,5 +57,5 @@ pub struct Raise {
 }
 
 /// The table has decided as many events as allowed, and nothing has changed.
-#[derive(Clone, Copy, PartialEq, Eq, Drop)]
+#[derive(Clone, Copy, Drop)]
 pub struct Full;

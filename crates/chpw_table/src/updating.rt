@@ -19,7 +19,7 @@ pub enum KdcUpdate {
 }
 
 /// The verdicts on an update, in the order of the checks.
-#[derive(Clone, Copy, PartialEq, Eq, Drop)]
+#[derive(Clone, Copy, Drop)]
 pub enum UpdateVerdict {
     /// The name isn't held.
     NoSuchPrincipal,
@@ -32,7 +32,7 @@ pub enum UpdateVerdict {
 }
 
 /// Why no update was decided, in the order of the checks.
-#[derive(Clone, Copy, PartialEq, Eq, Drop)]
+#[derive(Clone, Copy, Drop)]
 pub enum UpdateFault {
     /// The table has decided as many events as allowed.
     Full,

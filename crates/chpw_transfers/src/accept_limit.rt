@@ -3,7 +3,7 @@ ghost use Rattle.std.specs.Prelude.{◌≡◌};
 ghost use Rattle.chpw_transfers.specs.Bounded.{allows_more as allows};
 
 /// After how many connections no more are accepted, those that come as datagrams among them.
-#[derive(Clone, Copy, PartialEq, Eq, Drop)]
+#[derive(Clone, Copy, Drop)]
 pub enum AcceptLimit {
     /// However many there are, it goes on.
     Unlimited,

@@ -9,7 +9,7 @@ use std::io::{Error, ErrorKind};
 pub(crate) const PAUSE: u64 = 100;
 
 /// Whether a connection may be accepted. Moments are milliseconds.
-#[derive(Clone, Copy, PartialEq, Eq, Drop)]
+#[derive(Clone, Copy, Drop)]
 pub enum Accepting {
     /// Accept the next one.
     Ready,

@@ -3,7 +3,7 @@ ghost use Rattle.std.specs.Prelude.{◌≡◌, ◌-◌, ◌^◌, min};
 ghost use Rattle.chpw_transfers.specs.Controlling.{sum_of};
 
 /// How many connections there are, by their stages, and whether the KDC is behind.
-#[derive(Clone, Copy, PartialEq, Eq, Drop)]
+#[derive(Clone, Copy, Drop)]
 pub struct ConnectionCounts {
     /// Those whose message is being read.
     pub reading: usize,

@@ -37,7 +37,7 @@ pub struct KdcSide {
 }
 
 /// What came of an update that a worker was given.
-#[derive(Clone, Copy, PartialEq, Eq, Drop)]
+#[derive(Clone, Copy, Drop)]
 pub enum UpdateEnd {
     /// The desk has decided it, or never takes it.
     Over,

@@ -61,7 +61,7 @@ pub struct State {
 
 /// Whether a message wasn't read for want of room. Others of its kind wait with it for the next round, so that all get
 /// room in turn.
-#[derive(Clone, Copy, PartialEq, Eq, Default, Drop)]
+#[derive(Clone, Copy, Default, Drop)]
 pub struct Shortage {
     pub of_large: bool,
     pub of_small: bool,
@@ -99,7 +99,7 @@ impl Shortage {
 }
 
 /// The result of a read or a write.
-#[derive(Clone, Copy, PartialEq, Eq, Drop)]
+#[derive(Clone, Copy, Drop, PartialEq, Eq)]
 pub enum Progress {
     /// Something happened, and more may be done at once.
     Moved,

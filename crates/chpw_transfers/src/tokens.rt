@@ -21,7 +21,7 @@ pub const DATAGRAMS: Token = Token(usize::MAX - 3);
 pub const CONTROL: Token = Token(usize::MAX - 4);
 
 /// What was reported.
-#[derive(Clone, Copy, PartialEq, Eq, Drop)]
+#[derive(Clone, Copy, Drop)]
 pub enum EventSource {
     /// The listener.
     Listener,

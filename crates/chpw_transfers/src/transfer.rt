@@ -5,7 +5,7 @@ use std::io;
 use std::io::ErrorKind;
 
 /// What one read or write did.
-#[derive(Clone, Copy, PartialEq, Eq, Drop)]
+#[derive(Clone, Copy, Drop)]
 pub enum Transfer {
     /// It moved this many bytes, at least one.
     Bytes(usize),

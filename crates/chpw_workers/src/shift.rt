@@ -29,7 +29,7 @@ pub trait BackgroundTask {
 }
 
 /// A worker's thread could not be started.
-#[derive(Clone, Copy, PartialEq, Eq, Drop)]
+#[derive(Clone, Copy, Drop)]
 pub struct NotStarted;
 
 /// A worker at a desk: its pass there, and what it has at each.

@@ -7,7 +7,7 @@ use std::alloc::{AllocError, AllocFailed};
 use thiserror::Error;
 
 /// What is wrong with a text.
-#[derive(Clone, Copy, Debug, PartialEq, Eq, Drop, Error)]
+#[derive(Clone, Copy, Debug, Drop, Error)]
 pub enum FaultKind {
     /// An element that is required, or a part of one, is missing at the end.
     #[error("missing or cut short")]
@@ -33,7 +33,7 @@ pub enum FaultKind {
 }
 
 /// The first fault from left to right.
-#[derive(Clone, Copy, Debug, PartialEq, Eq, Drop, Error)]
+#[derive(Clone, Copy, Debug, Drop, Error)]
 #[error("{kind} at byte {place}")]
 pub struct DerFault {
     /// Its distance from the text's start: where the faulty element, or what trails, starts.
@@ -42,7 +42,7 @@ pub struct DerFault {
 }
 
 /// Why a text wasn't read.
-#[derive(Clone, Copy, Debug, PartialEq, Eq, Drop, Error)]
+#[derive(Clone, Copy, Debug, Drop, Error)]
 pub enum ReadError {
     #[error(transparent)]
     Fault(DerFault),

@@ -17,7 +17,7 @@ use crate::writing::Write;
 use std::alloc::{AllocError, Global};
 
 /// The first 32 flags; bit 0 is the highest.
-#[derive(Clone, Copy, PartialEq, Eq)]
+#[derive(Clone, Copy)]
 pub struct KerberosFlags(pub u32);
 
 impl KerberosFlags {

@@ -15,7 +15,7 @@ use krb_codec::{
 use std::alloc::{AllocError, Global};
 
 /// An address of a host (RFC 4120 section 5.2.5).
-#[derive(PartialEq, Drop)]
+#[derive(Drop)]
 pub struct HostAddress {
     /// 2 for IPv4.
     pub addr_type: i32,

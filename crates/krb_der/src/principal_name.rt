@@ -15,7 +15,7 @@ use krb_codec::{
 use std::alloc::{AllocError, Global};
 
 /// A name of a principal, without its realm (RFC 4120 section 5.2.2).
-#[derive(PartialEq, Drop)]
+#[derive(Drop)]
 pub struct PrincipalName {
     /// What kind of name it is; no part of its identity.
     pub name_type: i32,

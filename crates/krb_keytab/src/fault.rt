@@ -4,7 +4,7 @@ use std::alloc::{AllocError, AllocFailed};
 
 /// What is wrong with a keytab, the first from the left (MIT Kerberos, keytab file format 0x0502). A record's faults
 /// are checked in this order. `place` is the offset in the file, in bytes from 0, of the four bytes of its length.
-#[derive(Clone, Copy, PartialEq, Eq, Drop)]
+#[derive(Clone, Copy, Drop)]
 pub enum KeytabFault {
     /// The file doesn't begin with the bytes 05 02.
     NotKeytab,
@@ -17,7 +17,7 @@ pub enum KeytabFault {
 }
 
 /// Why no keytab is read.
-#[derive(Clone, Copy, PartialEq, Eq, Drop)]
+#[derive(Clone, Copy, Drop)]
 pub enum KeytabError {
     /// The file's first fault.
     Fault(KeytabFault),
@@ -48,7 +48,7 @@ impl<T: Drop> From<AllocFailed<T>> for KeytabError {
 }
 
 /// Why no field of an entry is read.
-#[derive(Clone, Copy, PartialEq, Eq, Drop)]
+#[derive(Clone, Copy, Drop)]
 pub(crate) enum FieldError {
     /// It ends after the record.
     PastEnd,

@@ -16,7 +16,7 @@ use std::alloc::Global;
 use std::net::IpAddr;
 
 /// Which KRB-PRIVs are taken.
-#[derive(Clone, Copy, PartialEq, Eq, Drop)]
+#[derive(Clone, Copy, Drop)]
 pub enum Strictness {
     /// Those whose sequence number is the authenticator's, where both have one.
     Lenient,
