@@ -94,7 +94,7 @@ pub struct ClientOptions<'a> {
 }
 
 /// After how many connections the service ends.
-#[derive(Clone, Copy, Drop)]
+#[derive(Clone, Copy, Debug, Drop)]
 pub enum ConnectionLimit {
     /// However many there are, it goes on.
     Unlimited,
@@ -173,7 +173,7 @@ pub struct ControlOptions<'a> {
 }
 
 /// The output forms of `table`.
-#[derive(Clone, Copy, Drop)]
+#[derive(Clone, Copy, Debug, Drop)]
 pub enum TableForm {
     /// A line for each principal.
     Lines,
