@@ -1,10 +1,9 @@
-//! Layer: tests. Touches: threads, sockets and the clock. Called by: nobody, it is run.
+//! Layer: tests. Touches: threads and the clock. Called by: nobody, it is run.
 //!
 //! Does one thing many times, to be measured from outside (the scripts of `bench/`).
 //!
 //! The first word of the command line names a part of the program, the next what it does, the third how often: `keys`,
-//! `der`, `open`, `stream`, `lookup` and `serve`. Each is a module, which says more. Without words each except `serve`
-//! is run once, or a few times.
+//! `der`, `open`, `stream` and `lookup`. Each is a module, which says more. Without words each is run once, or a few times.
 #![tactic(auto)]
 
 ghost use Rattle.std.specs.Prelude.{◌≤◌};
@@ -14,13 +13,11 @@ mod keys;
 mod lookup;
 mod open;
 mod reading;
-mod serve;
 mod stream;
 
 use reading::{Given, read_given};
 use std::env;
 use std::io::{self, BufReader};
-use std::net::{Net, TcpListener, TcpStream};
 use std::rt::Env;
 use std::sync::Wait;
 use std::thread::Threads;
@@ -37,7 +34,6 @@ struct Task {
     part: String,
     what: String,
     count: u32,
-    further: u32,
 }
 
 fn task_of<R: Env + AllocGlobal>(rt: &R) -> io::Result<Option<Task>> {
@@ -49,7 +45,6 @@ fn task_of<R: Env + AllocGlobal>(rt: &R) -> io::Result<Option<Task>> {
         part,
         what,
         count: number_of(words.next()),
-        further: number_of(words.next()),
     }))
 }
 
@@ -61,7 +56,7 @@ fn number_of(word: Option<String>) -> u32 {
     }
 }
 
-// Each part but `serve`, as the gate does.
+// Each part, as the gate does.
 fn once<R>(rt: &R) -> io::Result<()>
 where
     R: Input + Threads + Wait + Clock + Print + AllocGlobal + Sync,
@@ -96,14 +91,7 @@ fn main(rt: HostRuntime) -> io::Result<()> {
 
 fn measure<R>(rt: &R, task: &Task) -> io::Result<()>
 where
-    R: Input
-        + Threads
-        + Wait
-        + Clock
-        + Print
-        + AllocGlobal
-        + Sync
-        + Net<Listener = TcpListener, Stream = TcpStream>,
+    R: Input + Threads + Wait + Clock + Print + AllocGlobal + Sync,
 {
     let (what, count) = (task.what.as_str(), task.count);
     match task.part.as_str() {
@@ -112,7 +100,6 @@ where
         "open" => measure_open(rt, count),
         "stream" => measure_stream(rt, what, count),
         "lookup" => measure_lookup(rt, what, count),
-        "serve" => measure_serve(rt, what, count, task.further),
         _ => Err(no_such()),
     }
 }
@@ -124,16 +111,6 @@ where
     match u16::try_from(count) {
         Ok(principals) => lookup::measure(rt, what, principals),
         Err(_) => Err(no_such()),
-    }
-}
-
-fn measure_serve<R>(rt: &R, port: &str, count: u32, changes: u32) -> io::Result<()>
-where
-    R: Net<Stream = TcpStream> + Threads + Clock + Print + AllocGlobal + Sync,
-{
-    match (port.parse(), u8::try_from(count)) {
-        (Ok(port), Ok(clients)) => serve::measure(rt, port, clients, changes),
-        _ => Err(no_such()),
     }
 }
 
