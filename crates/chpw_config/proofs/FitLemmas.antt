@@ -41,6 +41,7 @@ service_key kvno etype key = record { kvno = kvno; etype = pos etype; key = key 
 
 service_row_fits : (before : List ServiceRow) (value : Data)
     → Gives (service_row before value) (λ row. (service_key_fits row ≡ true) × (list_any (is_same_service_key row) before ≡ false))
+unfolding service_row
 service_row_fits before value =
     let at = location ServiceKey (length before) in
     gives_then (placed at (a_table value)) _ (gives_any _) (λ members _.
@@ -50,6 +51,7 @@ service_row_fits before value =
     gives_once at is_same_service_key before (service_key kvno etype key) (λ new. (rw (in_kvnos, in_etypes, long), new))))))
 
 policy_of_fits : (members : Members) → Gives (policy_of members) (λ policy. policy_fits policy ≡ true)
+unfolding policy_of
 policy_of_fits members =
     let at = location PolicyPart 0 in
     gives_key at (codes "min_length") (a_number min_lengths) members _ (gives_number min_lengths) (λ min_length in_lengths.
@@ -60,6 +62,7 @@ policy_of_fits members =
     gives_ok (λ policy. policy_fits policy ≡ true) _ (rw (in_lengths, in_classes, in_depths, in_counts)))))))
 
 rule_row_fits : (before : List Rule) (value : Data) → Gives (rule_row before value) (λ rule. rule_fits rule ≡ true)
+unfolding rule_row
 rule_row_fits before value =
     let at = location RulePart (length before) in
     gives_then (placed at (a_table value)) _ (gives_any _) (λ members _.
@@ -69,6 +72,7 @@ rule_row_fits before value =
 
 key_row_fits : (at : Location) (before : List KeyBytes) (value : Data)
     → Gives (key_row at before value) (λ key. (key_fits key ≡ true) × (comes_after before key.kvno ≡ true))
+unfolding key_row
 key_row_fits at before value =
     gives_then (placed at (a_table value)) _ (gives_any _) (λ members _.
     gives_key at (codes "kvno") (a_number kvnos) members _ (gives_number kvnos) (λ kvno in_kvnos.
@@ -100,6 +104,7 @@ row_of name keys = record { name = name; keys = keys }
 
 principal_row_fits : (before : List PrincipalRow) (value : Data)
     → Gives (principal_row before value) (λ row. (principal_fits row ≡ true) × (list_any (is_same_name row.name) (names_of before) ≡ false))
+unfolding principal_row
 principal_row_fits before value =
     let at = location Principal (length before) in
     let keys_at = location PrincipalKey (length before) in

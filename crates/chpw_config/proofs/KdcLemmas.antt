@@ -1,6 +1,6 @@
 -- The patterns that are read are within the limits.
-use Rattle.std.proofs.Common.{◌≡◌, ◌+◌, Bool, true, false, List, [], ◌∷◌, ◌++◌, length, Option, Some, None, Result}
-use Rattle.std.proofs.Common.{Ok, Err, codes, refl, arith, IfOk, ◌&&◌, ℕ, if◌then◌else◌, inl, inr}
+use Rattle.std.proofs.Common.{◌≡◌, true, List, [], ◌∷◌, length, Option, Some, None, Result}
+use Rattle.std.proofs.Common.{Ok, Err, codes, refl, arith, IfOk, ℕ, inl, inr}
 use Rattle.std.specs.List.{list_all}
 use Rattle.std.specs.Option.{ok_or}
 use Rattle.std.proofs.lemmas.Bool.{cases_Bool}
@@ -13,7 +13,7 @@ use Rattle.chpw_config.specs.declared.fault.ConfigError.{ConfigError}
 use Rattle.chpw_config.specs.declared.fault.ConfigFaultKind.TheVariants.{OutOfRange}
 use Rattle.chpw_config.specs.declared.fault.Part.{Part}
 use Rattle.chpw_config.specs.declared.fault.Part.TheVariants.{Kdc, KdcInclude, KdcExclude}
-use Rattle.chpw_config.specs.Faults.{UnlessMemory, location, placed, ◌>>=◌}
+use Rattle.chpw_config.specs.Faults.{UnlessMemory, location, placed}
 use Rattle.chpw_config.specs.Kdc.{a_pattern, pattern_row, pattern_list, kdc_table, kdc_settings}
 use Rattle.chpw_config.specs.Kinds.{a_list, a_table, item_count}
 use Rattle.chpw_config.specs.Rows.{walk}

@@ -1,5 +1,5 @@
 -- What the table [kdc] sets, or the first fault in it: `include` is read before `exclude`.
-use Rattle.std.specs.Prelude.{ℕ, List, [], ◌∷◌, ◌++◌, length, codes, Option, Some, None, Result, Ok, Err}
+use Rattle.std.specs.Prelude.{ℕ, List, [], length, codes, Option, Some, None, Result, Ok, Err}
 use Rattle.std.specs.Option.{ok_or}
 use Rattle.toml.specs.Data.{Data, Members, get_member, as_str}
 use Rattle.toml.specs.Parse.{parse_document}

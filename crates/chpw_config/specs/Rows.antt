@@ -32,7 +32,7 @@ abbrev pub once : {A : Type 0} → Location → (A → A → Bool) → List A �
 once at same before a = if list_any (same a) before then Err (fault_at at Duplicate) else Ok a
 
 -- [[service.key]]: a service key
-abbrev pub service_row : List ServiceRow → Data → Result ServiceRow ConfigFault
+unfoldable pub service_row : List ServiceRow → Data → Result ServiceRow ConfigFault
 service_row before value = do
   let at = location ServiceKey (length before)
   members ← placed at (a_table value)
@@ -42,7 +42,7 @@ service_row before value = do
   once at is_same_service_key before (record { kvno = kvno; etype = pos etype; key = key })
 
 -- [policy]
-abbrev pub policy_of : Members → Result Policy ConfigFault
+unfoldable pub policy_of : Members → Result Policy ConfigFault
 policy_of members = do
   let at = location PolicyPart 0
   min_length ← required at (codes "min_length") (a_number min_lengths) members
@@ -59,7 +59,7 @@ policy_of members = do
   })
 
 -- [[rule]]
-abbrev pub rule_row : List Rule → Data → Result Rule ConfigFault
+unfoldable pub rule_row : List Rule → Data → Result Rule ConfigFault
 rule_row before value = do
   let at = location RulePart (length before)
   members ← placed at (a_table value)
@@ -78,7 +78,7 @@ step_down at before kvno =
     if comes_after before kvno then Ok kvno else Err (fault_at at OutOfRange)
 
 -- [[principal.key]]: a key of the principal at this place
-abbrev pub key_row : Location → List KeyBytes → Data → Result KeyBytes ConfigFault
+unfoldable pub key_row : Location → List KeyBytes → Data → Result KeyBytes ConfigFault
 key_row at before value = do
   members ← placed at (a_table value)
   kvno ← required at (codes "kvno") (a_number kvnos) members
@@ -92,7 +92,7 @@ abbrev pub names_of : List PrincipalRow → List Name
 names_of rows = map (λ row. row.name) rows
 
 -- [[principal]]: a principal, its name that of none before it, followed by its keys
-abbrev pub principal_row : List PrincipalRow → Data → Result PrincipalRow ConfigFault
+unfoldable pub principal_row : List PrincipalRow → Data → Result PrincipalRow ConfigFault
 principal_row before value = do
   let at = location Principal (length before)
   let keys_at = location PrincipalKey (length before)

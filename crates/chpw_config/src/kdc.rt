@@ -10,7 +10,6 @@ ghost use Rattle.chpw_config.specs.Rows.{walk};
 
 use crate::fault::{ConfigError, ConfigFault, ConfigFaultKind, Location, Part};
 use crate::keys::get;
-use crate::kinds::{a_list, a_table};
 use chpw_rules::{Items, NamePattern, NamePatterns, PATTERN_COUNTS};
 use std::alloc::Global;
 use toml::{Table, Value};
@@ -57,7 +56,7 @@ fn read_list(
     let Some(value) = value else {
         return Ok(default);
     };
-    let list = a_list(value, PATTERN_COUNTS).map_err(|kind| Location::of(part, 0).fault(kind))?;
+    let list = Location::of(part, 0).list_in(value, PATTERN_COUNTS)?;
     read_patterns(alloc, part, list)
 }
 
@@ -77,7 +76,7 @@ fn read_settings(alloc: Global, kdc: Option<&Value>) -> Result<NamePatterns, Con
     let Some(value) = kdc else {
         return Ok(NamePatterns::of_one_component(alloc)?);
     };
-    let table = a_table(value).map_err(|kind| Location::of(Part::Kdc, 0).fault(kind))?;
+    let table = Location::of(Part::Kdc, 0).table_in(value)?;
     read_table(alloc, table)
 }
 

@@ -8,7 +8,6 @@ ghost use Rattle.chpw_rules.specs.Names.{name_of};
 ghost use Rattle.chpw_config.specs.Kinds.{a_flag, a_hex_key, a_list, a_name, a_number, a_table, a_target, a_text, any_text, optional, present, required};
 
 use crate::fault::{ConfigError, ConfigFault, ConfigFaultKind, Location};
-use crate::kinds::{a_flag, a_list, a_number, a_table, a_text};
 use chpw_rules::{Limits, Name};
 use hex::FromHexError;
 use std::alloc::Global;
@@ -56,16 +55,14 @@ impl Location {
         ensures value { result ≡ required self key.now (a_number limits) (table_view table.now) }
         ensures high { IfOk result (λ number. number ≤ limits.high) }
     {
-        let value = self.required_value(table, key)?;
-        a_number(value, limits).map_err(|kind| self.fault(kind))
+        self.number_in(self.required_value(table, key)?, limits)
     }
 
     /// True or false.
     pub fn flag(self, table: &Table, key: &str) -> Result<bool, ConfigFault>
         ensures value { result ≡ required self key.now a_flag (table_view table.now) }
     {
-        let value = self.required_value(table, key)?;
-        a_flag(value).map_err(|kind| self.fault(kind))
+        self.flag_in(self.required_value(table, key)?)
     }
 
     pub fn table<'a>(self, table: &'a Table, key: &str) -> Result<&'a Table, ConfigFault>
@@ -74,8 +71,7 @@ impl Location {
             ≡ Ok (table_view inner.now))
             (λ fault. required self key.now a_table (table_view table.now) ≡ Err fault) }
     {
-        let value = self.required_value(table, key)?;
-        a_table(value).map_err(|kind| self.fault(kind))
+        self.table_in(self.required_value(table, key)?)
     }
 
     /// A name, and the text that spells it.
@@ -127,8 +123,7 @@ impl Location {
             (λ text. required self key.now (a_text lengths) (table_view table.now) ≡ Ok text.now)
             (λ fault. required self key.now (a_text lengths) (table_view table.now) ≡ Err fault) }
     {
-        let value = self.required_value(table, key)?;
-        a_text(value, lengths).map_err(|kind| self.fault(kind))
+        self.text_in(self.required_value(table, key)?, lengths)
     }
 
     /// The bytes of a key of this length.
@@ -164,8 +159,7 @@ impl Location {
             ≡ Ok (items_view list.now))
             (λ fault. required self key.now (a_list counts) (table_view table.now) ≡ Err fault) }
     {
-        let value = self.required_value(table, key)?;
-        a_list(value, counts).map_err(|kind| self.fault(kind))
+        self.list_in(self.required_value(table, key)?, counts)
     }
 
     /// A whole number within the limits, or the default if the key is missing.
@@ -182,7 +176,7 @@ impl Location {
     {
         match get(table, key) {
             None => Ok(default),
-            Some(value) => a_number(value, limits).map_err(|kind| self.fault(kind)),
+            Some(value) => self.number_in(value, limits),
         }
     }
 
@@ -201,7 +195,7 @@ impl Location {
     {
         match get(table, key) {
             None => Ok(&[]),
-            Some(value) => a_list(value, counts).map_err(|kind| self.fault(kind)),
+            Some(value) => self.list_in(value, counts),
         }
     }
 }

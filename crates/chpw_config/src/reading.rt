@@ -9,7 +9,6 @@ ghost use Rattle.chpw_config.specs.Rows.{comes_after, key_row, names_of, policy_
 ghost use Rattle.chpw_config.specs.Settings.{settings, settings_of};
 
 use crate::fault::{ConfigError, ConfigFault, ConfigFaultKind, Location, Part};
-use crate::kinds::a_table;
 use crate::seen::{add_name, no_names};
 use chpw_rules::{
     AES128_LENGTH, AES256_LENGTH, Config, DEPTHS, ENTRY_COUNTS, ETYPES, ITERATION_COUNTS, Items,
@@ -24,6 +23,7 @@ use toml::{Table, Value};
 /// The most events of a history if a file doesn't say.
 pub(crate) const DEFAULT_ENTRIES: usize = ENTRY_COUNTS.high;
 
+#[tactic(auto, unfolding(crate::specs::Rows::policy_of))]
 fn read_policy(table: &Table) -> Result<Policy, ConfigFault>
     ensures value { result ≡ policy_of (table_view table.now) }
 {
@@ -37,6 +37,7 @@ fn read_policy(table: &Table) -> Result<Policy, ConfigFault>
     })
 }
 
+#[tactic(auto, unfolding(crate::specs::Rows::service_row))]
 fn read_service_key(
     alloc: Global,
     before: &[ServiceRow],
@@ -45,7 +46,7 @@ fn read_service_key(
     ensures value { UnlessMemory result (service_row before.now (view value.now)) }
 {
     let at = Location::of(Part::ServiceKey, before.len());
-    let table = a_table(value).map_err(|kind| at.fault(kind))?;
+    let table = at.table_in(value)?;
     let kvno = at.number(table, "kvno", KVNOS)?;
     let etype = at.number(table, "etype", ETYPES)?;
     let key = at.hex_key(alloc, table, "key", key_length(etype))?;
@@ -72,11 +73,12 @@ fn read_service_keys(alloc: Global, list: &[Value]) -> Result<Vec<ServiceRow>, C
     Ok(keys)
 }
 
+#[tactic(auto, unfolding(crate::specs::Rows::rule_row))]
 fn read_rule(alloc: Global, before: &[Rule], value: &Value) -> Result<Rule, ConfigError>
     ensures value { UnlessMemory result (rule_row before.now (view value.now)) }
 {
     let at = Location::of(Part::Rule, before.len());
-    let table = a_table(value).map_err(|kind| at.fault(kind))?;
+    let table = at.table_in(value)?;
     let actor = at.name(alloc, table, "actor")?.name;
     let target = at.target(alloc, table, "target")?;
     Ok(Rule { actor, target })
@@ -104,6 +106,7 @@ fn comes_after(before: &[KeyBytes], kvno: u32) -> bool
     }
 }
 
+#[tactic(auto, unfolding(crate::specs::Rows::key_row))]
 fn read_key(
     alloc: Global,
     at: Location,
@@ -112,7 +115,7 @@ fn read_key(
 ) -> Result<KeyBytes, ConfigError>
     ensures value { UnlessMemory result (key_row at before.now (view value.now)) }
 {
-    let table = a_table(value).map_err(|kind| at.fault(kind))?;
+    let table = at.table_in(value)?;
     let kvno = at.number(table, "kvno", KVNOS)? as u32;
     if !comes_after(before, kvno) {
         return Err(ConfigError::Fault(at.fault(ConfigFaultKind::OutOfRange)));
@@ -143,6 +146,7 @@ fn read_keys(alloc: Global, at: Location, list: &[Value]) -> Result<Vec<KeyBytes
     Ok(keys)
 }
 
+#[tactic(auto, unfolding(crate::specs::Rows::principal_row))]
 fn read_principal<'a>(
     alloc: Global,
     seen: &mut BTreeSet<&'a str>,
@@ -155,7 +159,7 @@ fn read_principal<'a>(
 {
     let at = Location::of(Part::Principal, before.len());
     let keys_at = Location::of(Part::PrincipalKey, before.len());
-    let table = a_table(value).map_err(|kind| at.fault(kind))?;
+    let table = at.table_in(value)?;
     let named = at.name(alloc, table, "name")?;
     if !add_name(seen, named.text)? {
         return Err(ConfigError::Fault(at.fault(ConfigFaultKind::Duplicate)));

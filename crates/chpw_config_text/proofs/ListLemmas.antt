@@ -104,6 +104,7 @@ named_anew row (other ∷ before) = rw (named_anew row before)
 
 principal_read : (before : List PrincipalRow) (row : PrincipalRow) → principal_fits row ≡ true → is_writable_principal row ≡ true
     → is_typed_principal row ≡ true → list_any (is_same_principal row) before ≡ false → principal_row before (principal_of row) ≡ Ok row
+unfolding principal_row
 principal_read before row fits writable typed new =
     let at = location PrincipalKey (length before) in
     let (front, down) = and_parts (is_name row.name && is_in key_counts (length row.keys) && list_all key_fits row.keys) (kvnos_descend row.keys) fits in

@@ -35,6 +35,7 @@ service_key_at : (before : List ServiceRow) (kvno : ℕ) (etype : ℤ) (key : Li
     → is_in kvnos kvno ≡ true → is_aes_key etype key ≡ true → are_bytes key ≡ true
     → list_any (is_same_service_key (service_key kvno etype key)) before ≡ false
     → service_row before (service_key_of (service_key kvno etype key)) ≡ Ok (service_key kvno etype key)
+unfolding service_row
 service_key_at before kvno (pos etype) key in_kvnos aes bytes new =
     let (in_etypes, long) = and_parts (is_in etypes etype) (length key == key_length etype) aes in
     rw (in_kvnos, in_etypes, hex_read (key_length etype) key bytes long, new)
@@ -48,6 +49,7 @@ service_key_read before row fits bytes new =
 
 pub policy_read : (policy : Policy) → policy_fits policy ≡ true
     → policy_of (policy_table_of policy) ≡ Ok policy
+unfolding policy_of
 policy_read policy fits =
     let (front, in_counts) = and_parts (is_in min_lengths policy.min_length && is_in min_class_counts policy.min_classes
     && is_in depths policy.depth) (is_in iteration_counts policy.iterations) fits in
@@ -57,6 +59,7 @@ policy_read policy fits =
 
 pub rule_read : (before : List Rule) (rule : Rule) → rule_fits rule ≡ true → is_writable_rule rule ≡ true
     → rule_row before (rule_of rule) ≡ Ok rule
+unfolding rule_row
 rule_read before rule fits writable =
     let (actor_fits, fit) = and_parts (is_name rule.actor) (target_fits rule.target) fits in
     let (actor_writable, target_writable) = and_parts (is_writable_name rule.actor) (is_writable_target rule.target) writable in
@@ -64,6 +67,7 @@ rule_read before rule fits writable =
 
 pub key_read : (at : Location) (before : List KeyBytes) (key : KeyBytes) → key_fits key ≡ true → is_typed_key key ≡ true
     → comes_after before key.kvno ≡ true → key_row at before (key_of key) ≡ Ok key
+unfolding key_row
 key_read at before key fits typed after =
     let (in_kvnos, in_counts) = and_parts (is_in kvnos key.kvno) (is_in iteration_counts key.iterations) fits in
     let (front, long256) =
