@@ -26,13 +26,8 @@ use std::time::Clock;
 
 /// What the next desk opens with: the closed table, and a compact journal in place of the present one; or that journal,
 /// if there is no compact one. The order is answered.
-pub(crate) fn compact<
-    'a,
-    'l,
-    R: Files<File = File> + Wait + Clock + Eprint + AllocGlobal,
-    T: Clock,
->(
-    context: &ServiceContext<'l, R, T>,
+pub(crate) fn compact<'a, 'l, R: Files<File = File> + Wait + Clock + Eprint + AllocGlobal>(
+    context: &ServiceContext<'l, R>,
     order: TakenOrder,
     compaction: Compaction,
     table: Table,
@@ -67,8 +62,8 @@ fn replaced_answer(alloc: Global, path: &str, replaced: Result<(), NotReplaced>)
 }
 
 // Replaces the present journal by a compact one.
-fn replace<'l, R: Wait + Clock + Eprint + AllocGlobal, T, P: JournalPlace>(
-    context: &ServiceContext<'l, R, T>,
+fn replace<'l, R: Wait + Clock + Eprint + AllocGlobal, P: JournalPlace>(
+    context: &ServiceContext<'l, R>,
     place: &mut P,
     compaction: &Compaction,
     held: &Table,

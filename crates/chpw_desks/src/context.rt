@@ -10,11 +10,9 @@ use std::sync::{Mutex, Wait};
 
 /// What all desks are served with.
 #[derive(Drop)]
-pub struct ServiceContext<'l, R: Wait + Eprint, T> {
-    /// The machine that the service runs on.
+pub struct ServiceContext<'l, R: Wait + Eprint> {
+    /// The machine that the service runs on, whose clock gives its moments.
     pub rt: &'l R,
-    /// The clock that its moments come from.
-    pub time: &'l T,
     pub engine: Engine,
     pub workers: u8,
     pub log: &'l Log<'l, R>,

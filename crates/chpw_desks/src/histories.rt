@@ -40,10 +40,10 @@ use std::time::Clock;
 /// configuration was reloaded, with the reload of it. The workers go from each desk to the next. The table of the last desk is
 /// returned; before that it is left to the next start, in the resume file, if there is to be one.
 #[tactic(auto, using(crate::proofs::ServiceRunLemmas::run_begins, crate::proofs::ServiceRunLemmas::run_leads))]
-pub fn serve_histories<'a, 'h, 'l, D: DeskName + Send + Sync, R: Machine, T: Clock + Sync>(
-    context: &'h ServiceContext<'l, R, T>,
+pub fn serve_histories<'a, 'h, 'l, D: DeskName + Send + Sync, R: Machine>(
+    context: &'h ServiceContext<'l, R>,
     mut rules: Rules,
-    workers: Vec<ServiceWorker<'h, 'l, R, T>>,
+    workers: Vec<ServiceWorker<'h, 'l, R>>,
     first: Opened<D>,
 ) -> Result<Table, ServeFault<'a>>
     requires passes { length first.passes.items ≡ context.now.workers }
@@ -68,7 +68,7 @@ pub fn serve_histories<'a, 'h, 'l, D: DeskName + Send + Sync, R: Machine, T: Clo
             return Ok(served.into_table(rt, &context.engine));
         }
         let opening = further_opening(context, &mut rules, served)?;
-        let next = serve_history::<Brand, R, T>(context, &rules, staff, opening, &mut reported)?;
+        let next = serve_history::<Brand, R>(context, &rules, staff, opening, &mut reported)?;
         let Attended {
             served: left,
             workers,
@@ -81,8 +81,8 @@ pub fn serve_histories<'a, 'h, 'l, D: DeskName + Send + Sync, R: Machine, T: Clo
 
 // What the next desk opens with: the closed table, or a reload of it when the configuration was reloaded.
 #[tactic(auto, using(crate::proofs::ServiceRunLemmas::goes_on_itself, crate::proofs::ServiceRunLemmas::goes_on_by))]
-fn further_opening<'a, 'l, R: Files<File = File> + Wait + Clock + Eprint + AllocGlobal, T: Clock>(
-    context: &ServiceContext<'l, R, T>,
+fn further_opening<'a, 'l, R: Files<File = File> + Wait + Clock + Eprint + AllocGlobal>(
+    context: &ServiceContext<'l, R>,
     rules: &mut Rules,
     served: Served,
 ) -> Result<Opening, ServeFault<'a>>
@@ -158,29 +158,29 @@ struct Reported {
 }
 
 /// What is left of a service's desk.
-type AfterServiceDesk<'h, 'l, D, R, T> = AfterDesk<
+type AfterServiceDesk<'h, 'l, D, R> = AfterDesk<
     D,
     FileSink<File>,
     Seat<'h, R>,
     Logging<LogLines<'l, R>>,
-    MachineClock<'l, T>,
+    MachineClock<'l, R>,
     WorkerWords,
 >;
 
 // What a closed desk left, and the workers that were there.
-struct Attended<'h, 'l, R: Wait + Eprint, T: Clock> {
+struct Attended<'h, 'l, R: Wait + Clock + Eprint> {
     served: Served,
-    workers: Vec<ServiceWorker<'h, 'l, R, T>>,
+    workers: Vec<ServiceWorker<'h, 'l, R>>,
 }
 
 // Serves at a desk of this name, with what it opens with.
-fn serve_history<'a, 'h, 'l, D: DeskName + Send + Sync, R: Machine, T: Clock + Sync>(
-    context: &'h ServiceContext<'l, R, T>,
+fn serve_history<'a, 'h, 'l, D: DeskName + Send + Sync, R: Machine>(
+    context: &'h ServiceContext<'l, R>,
     rules: &Rules,
-    workers: Vec<ServiceWorker<'h, 'l, R, T>>,
+    workers: Vec<ServiceWorker<'h, 'l, R>>,
     opening: Opening,
     reported: &mut Reported,
-) -> Result<Attended<'h, 'l, R, T>, ServeFault<'a>>
+) -> Result<Attended<'h, 'l, R>, ServeFault<'a>>
     requires name { IsNamed opening.unnamed D.name D.parts D.book D.root D.workers }
     requires opening { workers_of opening.unnamed ≡ context.now.workers }
     requires workers { length workers.items ≡ context.now.workers }
@@ -197,13 +197,13 @@ fn serve_history<'a, 'h, 'l, D: DeskName + Send + Sync, R: Machine, T: Clock + S
 }
 
 // Serves at a desk, closes it and prints what it did.
-fn attend_desk<'a, 'h, 'l, D: DeskName + Send + Sync, R: Machine, T: Clock + Sync>(
-    context: &'h ServiceContext<'l, R, T>,
+fn attend_desk<'a, 'h, 'l, D: DeskName + Send + Sync, R: Machine>(
+    context: &'h ServiceContext<'l, R>,
     rules: &Rules,
-    workers: Vec<ServiceWorker<'h, 'l, R, T>>,
+    workers: Vec<ServiceWorker<'h, 'l, R>>,
     opened: Opened<D>,
     reported: &mut Reported,
-) -> Result<Attended<'h, 'l, R, T>, ServeFault<'a>>
+) -> Result<Attended<'h, 'l, R>, ServeFault<'a>>
     requires passes { length opened.passes.items ≡ context.now.workers }
     requires workers { length workers.items ≡ context.now.workers }
     ensures served { IfOk result (λ left. (history : List Entry) × IsServed (is_some context.now.kdc.socket) rules.now (opening_table D.root)
@@ -226,8 +226,8 @@ fn attend_desk<'a, 'h, 'l, D: DeskName + Send + Sync, R: Machine, T: Clock + Syn
 }
 
 // Reports what was done at a desk that is closed, and passes on what is due then.
-fn after_close<'a, 'l, R: Wait + Print + Eprint + AllocGlobal, T>(
-    context: &ServiceContext<'l, R, T>,
+fn after_close<'a, 'l, R: Wait + Print + Eprint + AllocGlobal>(
+    context: &ServiceContext<'l, R>,
     left: Left<FileSink<File>>,
     done: Result<Option<AfterClose>, NotStarted>,
     reported: &mut Reported,
@@ -263,13 +263,13 @@ fn after_close<'a, 'l, R: Wait + Print + Eprint + AllocGlobal, T>(
 
 // Answers messages at a desk, unless a raise has taken the only entry that its history has room for, carries out orders
 // meanwhile, and closes the desk. Returns also what is due then.
-fn serve_shift<'h, 'l, D: DeskName + Send + Sync, R: Machine, T: Clock + Sync>(
-    context: &'h ServiceContext<'l, R, T>,
+fn serve_shift<'h, 'l, D: DeskName + Send + Sync, R: Machine>(
+    context: &'h ServiceContext<'l, R>,
     rules: &Rules,
-    workers: Vec<ServiceWorker<'h, 'l, R, T>>,
+    workers: Vec<ServiceWorker<'h, 'l, R>>,
     opened: Opened<D>,
 ) -> (
-    AfterServiceDesk<'h, 'l, D, R, T>,
+    AfterServiceDesk<'h, 'l, D, R>,
     Result<Option<AfterClose>, NotStarted>,
 )
     requires paired { vec_len opened.passes ≡ vec_len workers }

@@ -16,8 +16,8 @@ use std::sync::Wait;
 
 /// Leaves what the next start takes over of this table in the resume file, if one was asked for, while the journal is still locked.
 /// Nothing is left if an append to the journal failed. A file that can't be written is reported.
-pub(crate) fn keep_where_asked<'l, R: Files<File = File> + Wait + Eprint + AllocGlobal, T>(
-    context: &ServiceContext<'l, R, T>,
+pub(crate) fn keep_where_asked<'l, R: Files<File = File> + Wait + Eprint + AllocGlobal>(
+    context: &ServiceContext<'l, R>,
     table: &Table,
     journal: &FileSink<File>,
 ) {

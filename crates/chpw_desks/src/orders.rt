@@ -37,14 +37,14 @@ impl AfterClose {
 
 /// Carries out the orders of callers at the control socket, while the workers of a desk answer messages.
 #[derive(Drop)]
-pub(crate) struct Orders<'s, 'l, R: Wait + Eprint, T> {
-    pub context: &'s ServiceContext<'l, R, T>,
+pub(crate) struct Orders<'s, 'l, R: Wait + Eprint> {
+    pub context: &'s ServiceContext<'l, R>,
     /// The text of the configuration in force: the one that was read last, by the start or a reload.
     pub in_force: &'s [u8],
 }
 
-impl<R: Files<File = File> + Net + Wait + Clock + Eprint + AllocGlobal, T: Clock> BackgroundTask
-    for Orders<'_, '_, R, T> {
+impl<R: Files<File = File> + Net + Wait + Clock + Eprint + AllocGlobal> BackgroundTask
+    for Orders<'_, '_, R> {
     ghost use Rattle.std.specs.Prelude.{IfSome};
     ghost use Rattle.chpw_desks.specs.Orders.{IsDueBy};
 
@@ -86,12 +86,7 @@ enum Carried {
     Compact(Compaction),
 }
 
-impl<R: Files<File = File> + Net + Wait + Clock + Eprint + AllocGlobal, T: Clock> Orders<
-    '_,
-    '_,
-    R,
-    T,
-> {
+impl<R: Files<File = File> + Net + Wait + Clock + Eprint + AllocGlobal> Orders<'_, '_, R> {
     fn carry_out(&self, command: &Command) -> Carried
         ensures carried { IsCarriedOut self.now.context.now.options.now self.now.in_force.now command.now result }
     {
@@ -130,7 +125,7 @@ impl<R: Files<File = File> + Net + Wait + Clock + Eprint + AllocGlobal, T: Clock
                 return exposed_answer(rt.alloc(), log, why);
             }
         }
-        let now = MachineClock::new(self.context.time).now();
+        let now = MachineClock::new(self.context.rt).now();
         let answer = reopen_answer(rt.alloc(), self.context.log.reopen(options, now));
         Carried::Answered(answer_or_empty(rt.alloc(), answer))
     }

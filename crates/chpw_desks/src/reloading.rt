@@ -32,8 +32,8 @@ use std::time::Clock;
 /// rest of the journal, by the new rules; or the closed table, by the present rules, if the reload is refused. The
 /// order is answered.
 #[tactic(auto, using(crate::proofs::ServiceRunLemmas::takes_new))]
-pub(crate) fn reload<'a, 'l, R: Wait + Clock + Eprint + AllocGlobal, T: Clock>(
-    context: &ServiceContext<'l, R, T>,
+pub(crate) fn reload<'a, 'l, R: Wait + Clock + Eprint + AllocGlobal>(
+    context: &ServiceContext<'l, R>,
     rules: &mut Rules,
     order: TakenOrder,
     anew: PendingReload,
@@ -106,12 +106,12 @@ fn refused_answer(alloc: Global, fault: &ReloadFault) -> Vec<u8>
 }
 
 // Reports the reload in the log, and on standard error if the configuration lacks principals.
-fn tell_reloaded<'l, R: Wait + Eprint, T: Clock>(
-    context: &ServiceContext<'l, R, T>,
+fn tell_reloaded<'l, R: Wait + Clock + Eprint>(
+    context: &ServiceContext<'l, R>,
     table: &Table,
     lacked: &[Name],
 ) {
-    let now = MachineClock::new(context.time).now();
+    let now = MachineClock::new(context.rt).now();
     let event = context.counters.lock(context.rt).reload(table);
     context.log.put_event(now, &event);
     if !lacked.is_empty() {

@@ -14,15 +14,15 @@ use std::time::Clock;
 
 /// A worker of a service: its seat at the engine, what writes what came of its messages into the log, the machine's clock, and
 /// its random words.
-pub type ServiceWorker<'h, 'l, R, T> = Worker<
+pub type ServiceWorker<'h, 'l, R> = Worker<
     Seat<'h, R>,
     Logging<LogLines<'l, R>>,
-    MachineClock<'l, T>,
+    MachineClock<'l, R>,
     WorkerWords,
 >;
 
 // Where a worker writes what came of its messages.
-fn lines_of<'l, R: Wait + Eprint, T>(context: &ServiceContext<'l, R, T>) -> LogLines<'l, R> {
+fn lines_of<'l, R: Wait + Eprint>(context: &ServiceContext<'l, R>) -> LogLines<'l, R> {
     LogLines {
         log: context.log,
         counters: context.counters,
@@ -32,10 +32,10 @@ fn lines_of<'l, R: Wait + Eprint, T>(context: &ServiceContext<'l, R, T>) -> LogL
 /// The workers of a service before its first desk. Each has the seat of its number, of which no turn was taken; its lines in the
 /// log have that number; and its words are the seed's stream of that number, from the first one on.
 #[tactic(auto, using(crate::proofs::StaffLemmas::staff_more))]
-pub fn make_staff<'h, 'l, R: Wait + Eprint + AllocGlobal, T: Clock>(
-    context: &'h ServiceContext<'l, R, T>,
+pub fn make_staff<'h, 'l, R: Wait + Clock + Eprint + AllocGlobal>(
+    context: &'h ServiceContext<'l, R>,
     seed: [u8; 32],
-) -> Result<Vec<ServiceWorker<'h, 'l, R, T>>, AllocError>
+) -> Result<Vec<ServiceWorker<'h, 'l, R>>, AllocError>
     ensures staff { IfOk result (λ staff. AreStaff (key_of seed) 0 staff.items) }
     ensures count { IfOk result (λ staff. length staff.items ≡ context.now.workers) }
 {
@@ -44,7 +44,7 @@ pub fn make_staff<'h, 'l, R: Wait + Eprint + AllocGlobal, T: Clock>(
         staff.push(Worker {
             inbox: Seat::new(context.rt, &context.engine, usize::from(number)),
             gate: Logging::new(lines_of(context), number),
-            clock: MachineClock::new(context.time),
+            clock: MachineClock::new(context.rt),
             words: WorkerWords::new(seed, u64::from(number)),
         })?;
     }

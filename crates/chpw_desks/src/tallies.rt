@@ -14,11 +14,11 @@ use std::sync::Wait;
 use std::time::Clock;
 
 /// Appends the line of a history that opens with the table that the last one left: it has the counts of the last one.
-pub(crate) fn tell_rollover<R: Wait + Eprint, T: Clock>(
-    context: &ServiceContext<'_, R, T>,
+pub(crate) fn tell_rollover<R: Wait + Clock + Eprint>(
+    context: &ServiceContext<'_, R>,
     table: &Table,
 ) {
-    let now = MachineClock::new(context.time).now();
+    let now = MachineClock::new(context.rt).now();
     let event = context.counters.lock(context.rt).roll_over(table);
     context.log.put_event(now, &event);
 }

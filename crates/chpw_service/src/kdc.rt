@@ -40,13 +40,13 @@ pub(crate) struct ControlTerms {
 /// The agent at a socket, if there is one, and the control socket. Each change that the agent doesn't confirm has a line of its
 /// own in the log, and a notice on standard error once until it confirms one again.
 #[derive(Drop)]
-pub(crate) struct SocketKdc<'l, R, T: Clock> {
+pub(crate) struct SocketKdc<'l, R: Clock> {
     rt: &'l R,
     alloc: Global,
     place: KdcPlace<'l>,
     log: &'l Log<'l, R>,
     counters: &'l Mutex<Counters>,
-    clock: MachineClock<'l, T>,
+    clock: MachineClock<'l, R>,
     /// Whether it was reported that a change isn't confirmed.
     is_late_told: bool,
     /// Whether it was reported that there is no connection.
@@ -61,9 +61,9 @@ pub(crate) struct SocketKdc<'l, R, T: Clock> {
     ghost told: { IsTold since × IsTold changed },
 }
 
-impl<'l, R: Wait + Eprint + AllocGlobal, T: Clock> SocketKdc<'l, R, T> {
+impl<'l, R: Wait + Clock + Eprint + AllocGlobal> SocketKdc<'l, R> {
     /// The agent and the control socket of a service.
-    pub fn of(context: &'l ServiceContext<'l, R, T>, control: ControlTerms) -> SocketKdc<'l, R, T>
+    pub fn of(context: &'l ServiceContext<'l, R>, control: ControlTerms) -> SocketKdc<'l, R>
         ensures place { result.place ≡ context.now.kdc }
         ensures listener { result.listener ≡ control.listener }
         ensures since { result.since ≡ control.since }
@@ -81,7 +81,7 @@ impl<'l, R: Wait + Eprint + AllocGlobal, T: Clock> SocketKdc<'l, R, T> {
             place: context.kdc,
             log: context.log,
             counters: context.counters,
-            clock: MachineClock::new(context.time),
+            clock: MachineClock::new(context.rt),
             is_late_told: false,
             is_down_told: false,
             changed: since,
@@ -93,8 +93,8 @@ impl<'l, R: Wait + Eprint + AllocGlobal, T: Clock> SocketKdc<'l, R, T> {
     }
 }
 
-impl<R: Net<Listener = TcpListener, Stream = TcpStream> + Wait + Eprint, T: Clock> KdcTerms
-    for SocketKdc<'_, R, T> {
+impl<R: Net<Listener = TcpListener, Stream = TcpStream> + Wait + Clock + Eprint> KdcTerms
+    for SocketKdc<'_, R> {
     fn wait(&self) -> u64
         ensures value { result ≡ self.now.place.wait }
     {
@@ -167,9 +167,8 @@ impl<R: Net<Listener = TcpListener, Stream = TcpStream> + Wait + Eprint, T: Cloc
 }
 
 impl<
-    R: Files + Net<Listener = TcpListener, Stream = TcpStream> + Wait + Eprint,
-    T: Clock,
-> StatusReporter for SocketKdc<'_, R, T> {
+    R: Files + Net<Listener = TcpListener, Stream = TcpStream> + Wait + Clock + Eprint,
+> StatusReporter for SocketKdc<'_, R> {
     fn listener(&mut self) -> Option<UnixListener>
         ensures given { result ≡ self.old.listener }
         ensures none { self.new.listener ≡ None }

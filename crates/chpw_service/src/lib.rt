@@ -10,4 +10,4 @@ mod running;
 mod serving;
 
 pub use chpw_desks::Machine;
-pub use serving::{serve, serve_by};
+pub use serving::serve;

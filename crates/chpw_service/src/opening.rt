@@ -83,12 +83,12 @@ pub(crate) struct OpenJournal {
 /// Opens the journal, and restores the table from it; with that what a clean end left in the resume file, if there is one that
 /// fits. The log watches the journal's length from then on, and tells of a torn tail that was cut off, and why a resume file was
 /// set aside.
-pub(crate) fn open_journal<'a, R: Files<File = File> + Wait + Eprint + AllocGlobal, T: Clock>(
+pub(crate) fn open_journal<'a, R: Files<File = File> + Wait + Clock + Eprint + AllocGlobal>(
     rt: &R,
     log: &Log<'_, R>,
     options: &ServeOptions<'a>,
     config: Config,
-    clock: &mut MachineClock<'_, T>,
+    clock: &mut MachineClock<'_, R>,
 ) -> Result<OpenJournal, ServeFault<'a>>
     requires fits { config_fits config ≡ true }
     ensures opened { IfOk result (λ journal. IsOpenedFrom config clock.old journal.table) }

@@ -26,8 +26,8 @@ use std::time::Clock;
 
 /// Serves from the first desk on, until no more messages will come. That desk is abandoned if memory for its workers, or a
 /// thread for the sockets, is missing.
-pub(crate) fn serve_from<'a, 'h, 'l, D: DeskName + Send + Sync, R: Machine, T: Clock + Sync>(
-    context: &'h ServiceContext<'l, R, T>,
+pub(crate) fn serve_from<'a, 'h, 'l, D: DeskName + Send + Sync, R: Machine>(
+    context: &'h ServiceContext<'l, R>,
     listeners: &[TcpListener],
     control: ControlTerms,
     rules: Rules,
@@ -76,10 +76,9 @@ fn serve_with_staff<
     's,
     D: DeskName + Send + Sync,
     R: Machine,
-    T: Clock + Sync,
     F: KdcTerms + StatusReporter + Send + Drop,
 >(
-    context: &'h ServiceContext<'l, R, T>,
+    context: &'h ServiceContext<'l, R>,
     reception: Reception<'s, F>,
     rules: Rules,
     first: &mut Option<Opened<D>>,
@@ -105,13 +104,12 @@ fn serve_all<
     's,
     D: DeskName + Send + Sync,
     R: Machine,
-    T: Clock + Sync,
     F: KdcTerms + StatusReporter + Send + Drop,
 >(
-    context: &'h ServiceContext<'l, R, T>,
+    context: &'h ServiceContext<'l, R>,
     reception: Reception<'s, F>,
     rules: Rules,
-    workers: Vec<ServiceWorker<'h, 'l, R, T>>,
+    workers: Vec<ServiceWorker<'h, 'l, R>>,
     first: &mut Option<Opened<D>>,
 ) -> Result<(), ServeFault<'a>>
     requires passes { IfSome first.old (λ opened. length opened.passes.items ≡ context.now.workers) }
@@ -148,8 +146,8 @@ fn serve_all<
 }
 
 // How the service ended: with the fault of its desks, or else with that of its pool.
-fn finish<'a, 'l, R: Wait + Eprint, T>(
-    context: &ServiceContext<'l, R, T>,
+fn finish<'a, 'l, R: Wait + Eprint>(
+    context: &ServiceContext<'l, R>,
     ended: Result<Option<Table>, LateFault>,
     connections: AcceptLimit,
 ) -> Result<(), ServeFault<'a>>
@@ -167,10 +165,10 @@ fn finish<'a, 'l, R: Wait + Eprint, T>(
 
 // Serves at one desk after the other, and returns the table of the last one; none if there is no first one. After a
 // fault nobody is left to answer, and all connections end.
-fn serve_or_desert<'h, 'l, D: DeskName + Send + Sync, R: Machine, T: Clock + Sync>(
-    context: &'h ServiceContext<'l, R, T>,
+fn serve_or_desert<'h, 'l, D: DeskName + Send + Sync, R: Machine>(
+    context: &'h ServiceContext<'l, R>,
     rules: Rules,
-    workers: Vec<ServiceWorker<'h, 'l, R, T>>,
+    workers: Vec<ServiceWorker<'h, 'l, R>>,
     first: &mut Option<Opened<D>>,
 ) -> Result<Option<Table>, LateFault>
     requires passes { IfSome first.old (λ opened. length opened.passes.items ≡ context.now.workers) }

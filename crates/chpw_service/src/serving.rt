@@ -66,23 +66,9 @@ where
     ensures run { OnOk result (IsWholeRun R (LogLines R) options.entry) }
     ensures fault { IfErr result (IsOfService options.entry) }
 {
-    serve_by(rt, rt, options)
-}
-
-/// Serves as `serve` does, with another clock than the machine's.
-pub fn serve_by<'a, R: Machine, T: Clock + Sync>(
-    rt: &R,
-    time: &T,
-    options: ServeOptions<'a>,
-) -> Result<(), ServeFault<'a>>
-where
-    R::Dir: Send + Sync,
-    ensures run { OnOk result (IsWholeRun R (LogLines R) options.entry) }
-    ensures fault { IfErr result (IsOfService options.entry) }
-{
     let settings = settings_of(rt, &options)?;
     let log = log_of(rt, rt.alloc(), &options)?;
-    serve_with(rt, time, &options, &log, settings)
+    serve_with(rt, &options, &log, settings)
 }
 
 /// What a service has once its files, its sockets and its journal are open.
@@ -97,9 +83,8 @@ struct Ready {
 }
 
 // Takes its ports, opens the journal, then the control socket, and serves.
-fn serve_with<'a, 'l, R: Machine, T: Clock + Sync>(
+fn serve_with<'a, 'l, R: Machine>(
     rt: &'l R,
-    time: &'l T,
     options: &'l ServeOptions<'a>,
     log: &'l Log<'l, R>,
     settings: Settings,
@@ -118,7 +103,7 @@ where
         seed,
     } = settings;
     let sockets = bind(rt, options, rules.service.realm())?;
-    let mut clock = MachineClock::new(time);
+    let mut clock = MachineClock::new(rt);
     let journal = open_journal(rt, log, options, config, &mut clock)?;
     tell_shared(rt, log, options);
     let control = control_socket(rt, options.control)?;
@@ -130,17 +115,16 @@ where
         control,
         journal,
     };
-    serve_ready(rt, time, options, log, ready, &mut clock)
+    serve_ready(rt, options, log, ready, &mut clock)
 }
 
 // Serves with what is open, and tells of the beginning and of the end.
-fn serve_ready<'a, 'l, R: Machine, T: Clock + Sync>(
+fn serve_ready<'a, 'l, R: Machine>(
     rt: &'l R,
-    time: &'l T,
     options: &'l ServeOptions<'l>,
     log: &'l Log<'l, R>,
     ready: Ready,
-    clock: &mut MachineClock<'_, T>,
+    clock: &mut MachineClock<'_, R>,
 ) -> Result<(), ServeFault<'a>>
 where
     R::Dir: Send + Sync,
@@ -168,7 +152,6 @@ where
     let opening = first_opening(table, sink, options.workers);
     let service = Start {
         rt: &*rt,
-        time: &*time,
         options: &*options,
         seed,
         log: &*log,
@@ -182,7 +165,7 @@ where
         since: time_of(since),
         workers: options.workers,
     };
-    let ended = serve_opened::<Brand, R, T>(service, terms, rules, opening, clock);
+    let ended = serve_opened::<Brand, R>(service, terms, rules, opening, clock);
     notify_stopping(rt);
     take_away(rt, options.control);
     let last = counters.lock(rt).end();
@@ -263,9 +246,8 @@ fn tell_shared<R: Files + Wait + Eprint>(rt: &R, log: &Log<'_, R>, options: &Ser
 
 /// What a service starts with, beside its table and its rules.
 #[derive(Drop)]
-struct Start<'l, R, T> {
+struct Start<'l, R> {
     rt: &'l R,
-    time: &'l T,
     options: &'l ServeOptions<'l>,
     seed: [u8; 32],
     log: &'l Log<'l, R>,
@@ -278,12 +260,12 @@ struct Start<'l, R, T> {
 // Serves what is opened: at the first desk the count is raised if that is asked for, and then the service listens at
 // the port.
 #[tactic(auto, using(crate::proofs::RaisedLemmas::raised_in_order))]
-fn serve_opened<'a, 'l, D: DeskName + Send + Sync, R: Machine, T: Clock + Sync>(
-    start: Start<'l, R, T>,
+fn serve_opened<'a, 'l, D: DeskName + Send + Sync, R: Machine>(
+    start: Start<'l, R>,
     control: ControlTerms,
     rules: Rules,
     opening: Opening,
-    clock: &mut MachineClock<'_, T>,
+    clock: &mut MachineClock<'_, R>,
 ) -> Result<(), ServeFault<'a>>
 where
     R::Dir: Send + Sync,
@@ -315,15 +297,20 @@ fn raise_and_listen<
     'a,
     'l,
     D: DeskName,
-    R: Net<Listener = TcpListener, Stream = TcpStream> + Wait + Env + Print + Eprint + AllocGlobal,
-    T: Clock,
+    R: Net<Listener = TcpListener, Stream = TcpStream>
+        + Wait
+        + Clock
+        + Env
+        + Print
+        + Eprint
+        + AllocGlobal,
     C: chpw_serve::Clock,
 >(
-    start: Start<'l, R, T>,
+    start: Start<'l, R>,
     desk: &Desk<D, FileSink<File>>,
     passes: &mut [Pass<D>],
     clock: &mut C,
-) -> Result<(Vec<TcpListener>, ServiceContext<'l, R, T>), ServeFault<'a>>
+) -> Result<(Vec<TcpListener>, ServiceContext<'l, R>), ServeFault<'a>>
     ensures workers { IfOk result (λ r. r.1.workers ≡ start.entry.options.now.workers) }
     ensures options { IfOk result (λ r. r.1.options.now ≡ start.entry.options.now) }
     ensures kdc { IfOk result (λ r. (r.1.kdc.socket ≡ start.entry.options.now.kdc)
@@ -340,8 +327,8 @@ fn raise_and_listen<
 }
 
 // Appends the line of a raise if the count was raised, and reports it if the journal did not take it.
-fn tell_raise<R: Wait + Eprint, T: Clock>(start: &Start<'_, R, T>, told: RaiseReport) {
-    let now = MachineClock::new(start.time).now();
+fn tell_raise<R: Wait + Clock + Eprint>(start: &Start<'_, R>, told: RaiseReport) {
+    let now = MachineClock::new(start.rt).now();
     let raised = start.counters.lock(start.rt).raise(told);
     if let Some(event) = raised {
         start.log.put_event(now, &event);
@@ -356,8 +343,7 @@ fn listening<
     'a,
     'l,
     R: Net<Listener = TcpListener, Stream = TcpStream> + Wait + Env + Print + Eprint + AllocGlobal,
-    T,
->(start: Start<'l, R, T>) -> Result<(Vec<TcpListener>, ServiceContext<'l, R, T>), ServeFault<'a>>
+>(start: Start<'l, R>) -> Result<(Vec<TcpListener>, ServiceContext<'l, R>), ServeFault<'a>>
     ensures workers { IfOk result (λ r. r.1.workers ≡ start.entry.options.now.workers) }
     ensures options { IfOk result (λ r. r.1.options.now ≡ start.entry.options.now) }
     ensures kdc { IfOk result (λ r. (r.1.kdc.socket ≡ start.entry.options.now.kdc)
@@ -366,7 +352,6 @@ fn listening<
 {
     let Start {
         rt,
-        time,
         options,
         seed: _,
         log,
@@ -381,7 +366,6 @@ fn listening<
     let engine = engine_of(rt, options, datagrams, kdc)?;
     let context = ServiceContext {
         rt,
-        time,
         engine,
         workers: options.workers,
         log,
