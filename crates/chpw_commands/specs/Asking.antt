@@ -30,7 +30,7 @@ abbrev pub password_lengths : Limits
 password_lengths = range 0 65535
 
 -- CTIME.CUSEC STARTS ENDS
-abbrev pub times_of : List ℕ → List ℕ → List ℕ → Option Times
+unfoldable pub times_of : List ℕ → List ℕ → List ℕ → Option Times
 times_of stamp starts ends = do
   parts ← split_first 46 stamp
   ctime ← number_in seconds parts.0
@@ -40,7 +40,7 @@ times_of stamp starts ends = do
   Some (record { ctime = pos ctime; cusec = cusec; starts = pos starts; ends = pos ends })
 
 -- FLAGS: -, i, v or iv
-abbrev pub flags_of : List ℕ → Option Flags
+unfoldable pub flags_of : List ℕ → Option Flags
 flags_of word =
     if bytes_eq word (codes "-") then Some (record { initial = false; invalid = false })
     else if bytes_eq word (codes "i") then Some (record { initial = true; invalid = false })
@@ -49,7 +49,7 @@ flags_of word =
     else None
 
 -- TARGET, or - if it is absent
-abbrev pub target_in : List ℕ → List ℕ → Option (Option Target)
+unfoldable pub target_in : List ℕ → List ℕ → Option (Option Target)
 target_in realm word =
     if bytes_eq word (codes "-") then Some None
     else option_map (λ target. Some target) (named_in realm word)
@@ -59,14 +59,14 @@ abbrev pub derived_of : CountedKey → ℕ × Key × Key
 derived_of k = (k.count, Aes128 (replicate 16 k.byte), Aes256 (replicate 32 k.byte))
 
 -- COUNT:KEY .., at most 17, no count twice
-abbrev pub digest_of : ℕ → ℕ → List (List ℕ) → Option Digest
+unfoldable pub digest_of : ℕ → ℕ → List (List ℕ) → Option Digest
 digest_of size classes words = do
   keys ← each_of counted_key words
   keep_if (nat_le (length keys) 17 && is_derivation (map derived_of keys))
       (record { length = size; classes = classes; derived = map derived_of keys })
 
 -- TARGET LENGTH CLASSES COUNT:KEY ..
-abbrev pub ask_of : List ℕ → List (List ℕ) → Option Body
+unfoldable pub ask_of : List ℕ → List (List ℕ) → Option Body
 ask_of realm (target ∷ length ∷ classes ∷ keys) = do
   target ← target_in realm target
   length ← number_in password_lengths length
@@ -75,14 +75,14 @@ ask_of realm (target ∷ length ∷ classes ∷ keys) = do
   Some (Ask target digest)
 ask_of realm _ = None
 
-abbrev pub bad_body_of : List ℕ → Option Body
+unfoldable pub bad_body_of : List ℕ → Option Body
 bad_body_of word =
     if bytes_eq word (codes "bad-private") then Some BadPrivate
     else if bytes_eq word (codes "bad-data") then Some BadData
     else None
 
 -- bad-private|bad-data as the one word, or the other form
-abbrev pub body_of : List ℕ → List (List ℕ) → Option Body
+unfoldable pub body_of : List ℕ → List (List ℕ) → Option Body
 body_of realm [] = None
 body_of realm (word ∷ []) = bad_body_of word
 body_of realm (word ∷ other ∷ words) = ask_of realm (word ∷ other ∷ words)
@@ -103,7 +103,7 @@ opened_of client times flags body = record {
 }
 
 -- NOW CLIENT CTIME.CUSEC STARTS ENDS FLAGS, and the body
-abbrev pub asked_of : List ℕ → List (List ℕ) → Option Asked
+unfoldable pub asked_of : List ℕ → List (List ℕ) → Option Asked
 asked_of realm (now ∷ client ∷ stamp ∷ starts ∷ ends ∷ flags ∷ body) = do
   now ← number_in seconds now
   client ← named_in realm client

@@ -12,14 +12,14 @@ use Rattle.chpw_commands.specs.declared.drill.words.CountedKey.{CountedKey}
 use Rattle.chpw_commands.specs.Words.{◌>>=◌, keep_if, number_in, counted_key, each_of}
 
 -- yes|no
-abbrev pub choice_of : List ℕ → Option Bool
+unfoldable pub choice_of : List ℕ → Option Bool
 choice_of word =
     if bytes_eq word (codes "yes") then Some true
     else if bytes_eq word (codes "no") then Some false
     else None
 
 -- MIN_LENGTH MIN_CLASSES DEPTH ITERATIONS yes|no
-abbrev pub policy_of : List (List ℕ) → Option Policy
+unfoldable pub policy_of : List (List ℕ) → Option Policy
 policy_of (length ∷ classes ∷ depth ∷ iterations ∷ set ∷ []) = do
   min_length ← number_in min_lengths length
   min_classes ← number_in min_class_counts classes
@@ -36,13 +36,13 @@ policy_of (length ∷ classes ∷ depth ∷ iterations ∷ set ∷ []) = do
 policy_of _ = None
 
 -- TARGET|*
-abbrev pub rule_target : List ℕ → Option (Option Name)
+unfoldable pub rule_target : List ℕ → Option (Option Name)
 rule_target word =
     if bytes_eq word (codes "*") then Some None
     else option_map (λ name. Some name) (name_of word)
 
 -- ACTOR TARGET|*
-abbrev pub rule_of : List (List ℕ) → Option Rule
+unfoldable pub rule_of : List (List ℕ) → Option Rule
 rule_of (actor ∷ target ∷ []) = do
   actor ← name_of actor
   target ← rule_target target
@@ -64,7 +64,7 @@ numbered kvno [] = []
 numbered kvno (k ∷ ks) = key_under kvno k ∷ numbered (kvno - 1) ks
 
 -- NAME KVNO COUNT:KEY .. (newest first, KVNO of the first); the last version is at least 1
-abbrev pub principal_of : List (List ℕ) → Option PrincipalRow
+unfoldable pub principal_of : List (List ℕ) → Option PrincipalRow
 principal_of (name ∷ kvno ∷ keys) = do
   name ← name_of name
   newest ← number_in kvnos kvno

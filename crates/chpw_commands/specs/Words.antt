@@ -51,7 +51,7 @@ is_number (d ∷ []) = is_ascii_digit d
 is_number (d ∷ e ∷ ds) = not (d == 48) && list_all is_ascii_digit (d ∷ e ∷ ds)
 
 -- a decimal number within a range
-abbrev pub number_in : Limits → List ℕ → Option ℕ
+unfoldable pub number_in : Limits → List ℕ → Option ℕ
 number_in range word =
     keep_if (is_number word && is_in range (value_from 0 word)) (value_from 0 word)
 
@@ -60,11 +60,11 @@ abbrev pub one_byte : {E : Type 0} → Result (List ℕ) E → Option ℕ
 one_byte (Ok (byte ∷ [])) = Some byte
 one_byte _ = None
 
-abbrev pub key_byte : List ℕ → Option ℕ
+unfoldable pub key_byte : List ℕ → Option ℕ
 key_byte word = one_byte (decode_sized word 1)
 
 -- COUNT:KEY
-abbrev pub counted_key : List ℕ → Option CountedKey
+unfoldable pub counted_key : List ℕ → Option CountedKey
 counted_key word = do
   parts ← split_first 58 word
   count ← number_in iteration_counts parts.0
@@ -72,7 +72,7 @@ counted_key word = do
   Some (record { count = count; byte = byte })
 
 -- NAME, in the script's realm, or NAME@REALM
-abbrev pub named_in : List ℕ → List ℕ → Option Target
+unfoldable pub named_in : List ℕ → List ℕ → Option Target
 named_in realm word =
     let parts = unwrap_or (split_last 64 word) (word, realm) in do
       name ← name_of parts.0

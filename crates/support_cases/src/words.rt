@@ -1,7 +1,7 @@
 //! Words of a case, and bytes as they are printed.
 
 use crate::fault::Fault;
-use hex::{decode, encode};
+use hex::{FromHexError, decode, encode};
 use std::alloc::{AllocError, Global};
 use std::io::{self, ErrorKind};
 
@@ -13,13 +13,19 @@ pub fn no_case() -> io::Error {
 /// The bytes of a word in hexadecimal, `-` for none.
 pub fn bytes(alloc: Global, word: &str) -> Result<Vec<u8>, Fault> {
     let digits = if word == "-" { "" } else { word };
-    decode(alloc, digits).map_err(|_| Fault::NoSuchCase)
+    match decode(alloc, digits) {
+        Ok(bytes) => Ok(bytes),
+        Err(FromHexError::OutOfMemory) => Err(Fault::Memory),
+        Err(_) => Err(Fault::NoSuchCase),
+    }
 }
 
 /// The bytes of a word in hexadecimal, `-` for none, or of one with this many zeros after it, as in `00 zeros 4`.
 pub fn bytes_with_zeros(alloc: Global, text: &str) -> Result<Vec<u8>, Fault> {
     let (front, zeros) = text.split_once(" zeros ").unwrap_or((text, "0"));
-    let zeros: u32 = zeros.parse().map_err(|_| Fault::NoSuchCase)?;
+    let Ok(zeros) = zeros.parse::<u32>() else {
+        return Err(Fault::NoSuchCase);
+    };
     let mut all = bytes(alloc, front)?;
     for _ in 0..zeros {
         all.push(0)?;

@@ -131,11 +131,10 @@ impl Script {
 
 /// This many bytes, 00 01 .. fa 00 ..
 fn filler_bytes(alloc: Global, count: &str) -> Result<Vec<u8>, Fault> {
+    let count: u32 = parsed(count)?;
     let mut bytes = Vec::new(alloc);
-    let mut next = 0_u8;
-    for _ in 0..parsed::<u32>(count)? {
-        bytes.push(next)?;
-        next = if next < 250 { next + 1 } else { 0 };
+    for index in 0..count {
+        bytes.push((index % 251) as u8)?;
     }
     Ok(bytes)
 }

@@ -1,4 +1,5 @@
 //! The state machine that a script runs, and the lines of the script.
+ghost use Rattle.std.specs.Prelude.{◌≡◌, []};
 
 use crate::connections::showing::slots_text;
 use crate::words::parsed;
@@ -106,9 +107,15 @@ impl Drop for Script {
             workers: _,
             mut taken,
         } = self;
-        while let Some(message) = taken.pop() {
-            connections.leave_unanswered(message, 0);
-        }
+        leave_unanswered(&mut connections, &mut taken);
         taken.destroy_empty();
+    }
+}
+
+fn leave_unanswered(connections: &mut Connections, taken: &mut Vec<TakenMessage>)
+    ensures none { taken.new.items ≡ [] }
+{
+    while let Some(message) = taken.pop() {
+        connections.leave_unanswered(message, 0);
     }
 }

@@ -49,6 +49,7 @@ pub struct Flags {
 }
 
 // CTIME.CUSEC STARTS ENDS
+#[tactic(auto, unfolding(crate::specs::Asking::times_of))]
 fn times_from(stamp: &str, starts: &str, ends: &str) -> Option<Times>
     ensures value { result ≡ times_of stamp.now starts.now ends.now }
 {
@@ -65,6 +66,7 @@ fn times_from(stamp: &str, starts: &str, ends: &str) -> Option<Times>
     })
 }
 
+#[tactic(auto, unfolding(crate::specs::Asking::flags_of))]
 fn flags_from(word: &str) -> Option<Flags>
     ensures value { result ≡ flags_of word.now }
 {
@@ -79,6 +81,7 @@ fn flags_from(word: &str) -> Option<Flags>
 }
 
 // TARGET, or `-` for none.
+#[tactic(auto, unfolding(crate::specs::Asking::target_in))]
 fn target(alloc: Global, realm: &[u8], word: &str) -> Result<Option<Option<Target>>, AllocError>
     ensures value { IfOk result (λ found. found ≡ target_in realm.now word.now) }
 {
@@ -108,6 +111,7 @@ fn derived_keys(alloc: Global, keys: &[CountedKey]) -> Result<Vec<(u32, Key, Key
 }
 
 // COUNT:KEY .., at most 17, no count twice.
+#[tactic(auto, unfolding(crate::specs::Asking::digest_of))]
 fn digest(
     alloc: Global,
     length: u32,
@@ -128,6 +132,7 @@ fn digest(
 }
 
 // TARGET LENGTH CLASSES COUNT:KEY ..
+#[tactic(auto, unfolding(crate::specs::Asking::ask_of))]
 fn ask(alloc: Global, realm: &[u8], words: &[&str]) -> Result<Option<Body>, AllocError>
     ensures value { IfOk result (λ found. found ≡ ask_of realm.now (map (λ w. w.now) words.now)) }
 {
@@ -150,6 +155,7 @@ fn ask(alloc: Global, realm: &[u8], words: &[&str]) -> Result<Option<Body>, Allo
 }
 
 // `bad-private`, `bad-data`, or what is asked for.
+#[tactic(auto, unfolding(crate::specs::Asking::body_of))]
 fn body(alloc: Global, realm: &[u8], words: &[&str]) -> Result<Option<Body>, AllocError>
     ensures value { IfOk result (λ found. found ≡ body_of realm.now (map (λ w. w.now) words.now)) }
 {
@@ -159,6 +165,7 @@ fn body(alloc: Global, realm: &[u8], words: &[&str]) -> Result<Option<Body>, All
     }
 }
 
+#[tactic(auto, unfolding(crate::specs::Asking::bad_body_of))]
 fn bad_body(word: &str) -> Option<Body>
     ensures value { result ≡ bad_body_of word.now }
 {
@@ -170,6 +177,7 @@ fn bad_body(word: &str) -> Option<Body>
 }
 
 /// NOW CLIENT CTIME.CUSEC STARTS ENDS FLAGS, and the body.
+#[tactic(auto, unfolding(crate::specs::Asking::asked_of))]
 pub fn asked_from(alloc: Global, realm: &[u8], words: &[&str]) -> Result<Option<Asked>, AllocError>
     ensures value { IfOk result (λ found. found ≡ asked_of realm.now (map (λ w. w.now) words.now)) }
     ensures moment { IfOk result (λ found. IfSome found (λ asked. IsMoment asked.now)) }

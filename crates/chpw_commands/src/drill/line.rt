@@ -44,6 +44,7 @@ pub enum Line {
     Show { name: Name, text: Items<u8> },
 }
 
+#[tactic(auto, unfolding(crate::specs::Lines::realm_of))]
 fn realm_line(alloc: Global, words: &[&str]) -> Result<Option<Line>, AllocError>
     ensures value { IfOk result (λ found. found ≡ realm_of (map (λ w. w.now) words.now)) }
     ensures fits { IfOk result (λ found. IfSome found FitsLine) }
@@ -56,6 +57,7 @@ fn realm_line(alloc: Global, words: &[&str]) -> Result<Option<Line>, AllocError>
     Ok(Some(Line::Realm(Items::of(text))))
 }
 
+#[tactic(auto, unfolding(crate::specs::Lines::quiet_of))]
 fn quiet_until(word: &str) -> Option<i64>
     ensures value { result ≡ quiet_of word.now }
 {
@@ -66,6 +68,7 @@ fn quiet_until(word: &str) -> Option<i64>
     Some(seconds as i64)
 }
 
+#[tactic(auto, unfolding(crate::specs::Lines::open_of))]
 fn open(words: &[&str]) -> Option<Line>
     ensures value { result ≡ open_of (map (λ w. w.now) words.now) }
     ensures fits { IfSome result FitsLine }
@@ -79,6 +82,7 @@ fn open(words: &[&str]) -> Option<Line>
     })
 }
 
+#[tactic(auto, unfolding(crate::specs::Lines::fail_of))]
 fn fail(words: &[&str]) -> Option<Line>
     ensures value { result ≡ fail_of (map (λ w. w.now) words.now) }
     ensures fits { IfSome result FitsLine }
@@ -89,6 +93,7 @@ fn fail(words: &[&str]) -> Option<Line>
     }
 }
 
+#[tactic(auto, unfolding(crate::specs::Lines::raise_of))]
 fn raise(words: &[&str]) -> Option<Line>
     ensures value { result ≡ raise_of (map (λ w. w.now) words.now) }
     ensures fits { IfSome result FitsLine }
@@ -112,6 +117,7 @@ fn key_from(kvno: u32, key: &CountedKey) -> KeyRow
     }
 }
 
+#[tactic(auto, unfolding(crate::specs::Lines::adopt_of))]
 fn adopt(alloc: Global, words: &[&str]) -> Result<Option<Line>, AllocError>
     ensures value { IfOk result (λ found. found ≡ adopt_of (map (λ w. w.now) words.now)) }
     ensures fits { IfOk result (λ found. IfSome found FitsLine) }
@@ -132,6 +138,7 @@ fn adopt(alloc: Global, words: &[&str]) -> Result<Option<Line>, AllocError>
 }
 
 // NAME KVNO COUNT:KEY
+#[tactic(auto, unfolding(crate::specs::Lines::adopted_of))]
 fn adopted(alloc: Global, words: &[&str]) -> Result<Option<KdcUpdate>, AllocError>
     ensures value { IfOk result (λ found. found ≡ adopted_of (map (λ w. w.now) words.now)) }
     ensures fits { IfOk result (λ found. IfSome found (λ update. update_fits update ≡ true)) }
@@ -152,6 +159,7 @@ fn adopted(alloc: Global, words: &[&str]) -> Result<Option<KdcUpdate>, AllocErro
     Ok(Some(KdcUpdate::Adopt { name, key }))
 }
 
+#[tactic(auto, unfolding(crate::specs::Lines::lift_of))]
 fn lift(alloc: Global, words: &[&str]) -> Result<Option<Line>, AllocError>
     ensures value { IfOk result (λ found. found ≡ lift_of (map (λ w. w.now) words.now)) }
     ensures fits { IfOk result (λ found. IfSome found FitsLine) }
@@ -177,6 +185,7 @@ fn lift(alloc: Global, words: &[&str]) -> Result<Option<Line>, AllocError>
     }))
 }
 
+#[tactic(auto, unfolding(crate::specs::Lines::remove_of))]
 fn remove(alloc: Global, words: &[&str]) -> Result<Option<Line>, AllocError>
     ensures value { IfOk result (λ found. found ≡ remove_of (map (λ w. w.now) words.now)) }
     ensures fits { IfOk result (λ found. IfSome found FitsLine) }
@@ -207,6 +216,7 @@ fn at(seconds: usize) -> Moment
     }
 }
 
+#[tactic(auto, unfolding(crate::specs::Lines::show_of))]
 fn show(alloc: Global, words: &[&str]) -> Result<Option<Line>, AllocError>
     ensures value { IfOk result (λ found. found ≡ show_of (map (λ w. w.now) words.now)) }
     ensures fits { IfOk result (λ found. IfSome found FitsLine) }
@@ -220,6 +230,7 @@ fn show(alloc: Global, words: &[&str]) -> Result<Option<Line>, AllocError>
 }
 
 // The line of these words, whose first word is its kind.
+#[tactic(auto, unfolding(crate::specs::Lines::line_from))]
 fn line_from(alloc: Global, realm: &[u8], words: &[&str]) -> Result<Option<Line>, AllocError>
     ensures value { IfOk result (λ found.
         found ≡ line_from realm.now (map (λ w. w.now) words.now)) }

@@ -9,6 +9,7 @@ use chpw_rules::{
 };
 use std::alloc::{AllocError, Global};
 
+#[tactic(auto, unfolding(crate::specs::Setup::choice_of))]
 fn choice(word: &str) -> Option<bool>
     ensures value { result ≡ choice_of word.now }
 {
@@ -20,6 +21,7 @@ fn choice(word: &str) -> Option<bool>
 }
 
 /// MIN_LENGTH MIN_CLASSES DEPTH ITERATIONS yes|no
+#[tactic(auto, unfolding(crate::specs::Setup::policy_of))]
 pub fn policy(words: &[&str]) -> Option<Policy>
     ensures value { result ≡ policy_of (map (λ w. w.now) words.now) }
 {
@@ -36,6 +38,7 @@ pub fn policy(words: &[&str]) -> Option<Policy>
 }
 
 // TARGET, or `*` for every target.
+#[tactic(auto, unfolding(crate::specs::Setup::rule_target))]
 fn target(alloc: Global, word: &str) -> Result<Option<Option<Name>>, AllocError>
     ensures value { IfOk result (λ found. found ≡ rule_target word.now) }
 {
@@ -49,6 +52,7 @@ fn target(alloc: Global, word: &str) -> Result<Option<Option<Name>>, AllocError>
 }
 
 /// ACTOR TARGET|*
+#[tactic(auto, unfolding(crate::specs::Setup::rule_of))]
 pub fn rule(alloc: Global, words: &[&str]) -> Result<Option<Rule>, AllocError>
     ensures value { IfOk result (λ found. found ≡ rule_of (map (λ w. w.now) words.now)) }
 {
@@ -91,6 +95,7 @@ fn key_under(kvno: u32, key: &CountedKey) -> KeyBytes
 }
 
 /// NAME KVNO COUNT:KEY .., newest first: 1 to 16 keys, the last of version 1 or more.
+#[tactic(auto, unfolding(crate::specs::Setup::principal_of))]
 pub fn principal(alloc: Global, words: &[&str]) -> Result<Option<PrincipalRow>, AllocError>
     ensures value { IfOk result (λ found. found ≡ principal_of (map (λ w. w.now) words.now)) }
 {

@@ -58,6 +58,7 @@ fn digits_up_to(digits: &[u8], high: usize) -> Option<usize>
 }
 
 /// The decimal number, without leading zeros, within these limits.
+#[tactic(auto, unfolding(crate::specs::Words::number_in))]
 pub fn number(word: &str, limits: Limits) -> Option<usize>
     requires { limits.high < 2 ^ 60 }
     ensures value { result ≡ number_in limits word.now }
@@ -77,6 +78,7 @@ pub fn number(word: &str, limits: Limits) -> Option<usize>
 }
 
 // KEY: two hexadecimal digits.
+#[tactic(auto, unfolding(crate::specs::Words::key_byte))]
 fn key_byte(word: &str) -> Option<u8>
     ensures value { result ≡ key_byte word.now }
 {
@@ -88,6 +90,7 @@ fn key_byte(word: &str) -> Option<u8>
 }
 
 /// COUNT:KEY
+#[tactic(auto, unfolding(crate::specs::Words::counted_key))]
 pub fn counted_key(word: &str) -> Option<CountedKey>
     ensures value { result ≡ counted_key word.now }
     ensures count { IfSome result (λ key. is_in iteration_counts key.count ≡ true) }
@@ -114,6 +117,7 @@ pub fn counted_keys(alloc: Global, words: &[&str]) -> Result<Option<Vec<CountedK
 }
 
 /// NAME, or NAME@REALM, where the realm follows the last `@`.
+#[tactic(auto, unfolding(crate::specs::Words::named_in))]
 pub fn parse_target(alloc: Global, realm: &[u8], word: &str) -> Result<Option<Target>, AllocError>
     ensures value { IfOk result (λ found. found ≡ named_in realm.now word.now) }
 {

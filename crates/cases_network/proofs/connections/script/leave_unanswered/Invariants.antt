@@ -1,5 +1,5 @@
 use Rattle.std.proofs.Common.{length}
-use Rattle.cases_network.proofs.connections.script.Script.drop.Given as goal
+use Rattle.cases_network.proofs.connections.script.leave_unanswered.Given as goal
 
 -- each turn takes one
 abbrev pub decreases-loop-message : goal.decreases-loop-message
