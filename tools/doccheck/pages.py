@@ -14,7 +14,8 @@ from .tree import TOP
 
 HELP = TOP / "crates/chpw_invocation/src/option_lists.rt"
 AGENT = TOP / "agent/main.c"
-SETTINGS = TOP / "crates/chpw_config/src/explanation.rt"
+PARTS = TOP / "crates/chpw_config/src/explanation.rt"
+SETTINGS = TOP / "crates/chpw_config/src/explanation/key.rt"
 LIMITS = TOP / "crates/chpw_rules/src/limits.rt"
 NOTHING = {"nowhere", "no wait", "no log"}  # how a help says that by default there is none
 RANGE = re.compile(r"\b(\d+) to (\d+)\b")
@@ -99,7 +100,7 @@ def settings():
             of = "ENTRY_COUNTS" if held == "Entries" else re.sub(r".*\((.*)\)", r"\1", held)
             is_number = held.startswith(("Number", "Text", "Entries")) and of != "ETYPES"
             tables.setdefault(PLACES[name], {})[setting] = limits.get(of) if is_number else None
-    tables["[kdc]"] = dict.fromkeys(re.findall(r'explain_patterns\(alloc, file.get\("kdc"\), "(\w+)"', source))
+    tables["[kdc]"] = dict.fromkeys(re.findall(r'put_patterns\(words, file.get\("kdc"\), "(\w+)"', PARTS.read_text()))
     return tables
 
 
