@@ -68,9 +68,9 @@ digest_of size classes words = do
 -- TARGET LENGTH CLASSES COUNT:KEY ..
 unfoldable pub ask_of : List ℕ → List (List ℕ) → Option Body
 ask_of realm (target ∷ length ∷ classes ∷ keys) = do
-  target ← target_in realm target
   length ← number_in password_lengths length
   classes ← number_in min_class_counts classes
+  target ← target_in realm target
   digest ← digest_of length classes keys
   Some (Ask target digest)
 ask_of realm _ = None
@@ -83,9 +83,8 @@ bad_body_of word =
 
 -- bad-private|bad-data as the one word, or the other form
 unfoldable pub body_of : List ℕ → List (List ℕ) → Option Body
-body_of realm [] = None
 body_of realm (word ∷ []) = bad_body_of word
-body_of realm (word ∷ other ∷ words) = ask_of realm (word ∷ other ∷ words)
+body_of realm words = ask_of realm words
 
 -- the request with these parts; there is no timestamp in the KRB-PRIV
 abbrev pub opened_of : Target → Times → Flags → Body → Opened
@@ -106,9 +105,9 @@ opened_of client times flags body = record {
 unfoldable pub asked_of : List ℕ → List (List ℕ) → Option Asked
 asked_of realm (now ∷ client ∷ stamp ∷ starts ∷ ends ∷ flags ∷ body) = do
   now ← number_in seconds now
-  client ← named_in realm client
   times ← times_of stamp starts ends
   flags ← flags_of flags
+  client ← named_in realm client
   body ← body_of realm body
   Some (record {
     now = record { seconds = pos now; micros = 0 };

@@ -66,9 +66,9 @@ numbered kvno (k ∷ ks) = key_under kvno k ∷ numbered (kvno - 1) ks
 -- NAME KVNO COUNT:KEY .. (newest first, KVNO of the first); the last version is at least 1
 unfoldable pub principal_of : List (List ℕ) → Option PrincipalRow
 principal_of (name ∷ kvno ∷ keys) = do
-  name ← name_of name
   newest ← number_in kvnos kvno
   keys ← each_of counted_key keys
-  keep_if (is_in key_counts (length keys) && nat_le (length keys) newest)
-      (record { name = name; keys = numbered newest keys })
+  _ ← keep_if (is_in key_counts (length keys) && nat_le (length keys) newest) (length keys)
+  name ← name_of name
+  Some (record { name = name; keys = numbered newest keys })
 principal_of _ = None

@@ -139,13 +139,13 @@ fn ask(alloc: Global, realm: &[u8], words: &[&str]) -> Result<Option<Body>, Allo
     let [word, length, classes, keys @ ..] = words else {
         return Ok(None);
     };
-    let Some(target) = target(alloc, realm, word)? else {
-        return Ok(None);
-    };
     let Some(length) = number(length, PASSWORD_LENGTHS) else {
         return Ok(None);
     };
     let Some(classes) = number(classes, MIN_CLASS_COUNTS) else {
+        return Ok(None);
+    };
+    let Some(target) = target(alloc, realm, word)? else {
         return Ok(None);
     };
     let Some(digest) = digest(alloc, length as u32, classes as u8, keys)? else {
@@ -188,13 +188,13 @@ pub fn asked_from(alloc: Global, realm: &[u8], words: &[&str]) -> Result<Option<
     let Some(now) = number(now, SECONDS) else {
         return Ok(None);
     };
-    let Some(client) = parse_target(alloc, realm, client)? else {
-        return Ok(None);
-    };
     let Some(times) = times_from(stamp, starts, ends) else {
         return Ok(None);
     };
     let Some(flags) = flags_from(flags) else {
+        return Ok(None);
+    };
+    let Some(client) = parse_target(alloc, realm, client)? else {
         return Ok(None);
     };
     let Some(body) = body(alloc, realm, rest)? else {

@@ -146,13 +146,13 @@ fn adopted(alloc: Global, words: &[&str]) -> Result<Option<KdcUpdate>, AllocErro
     let [name, kvno, key] = words else {
         return Ok(None);
     };
-    let Some(name) = Name::parse(alloc, name)? else {
-        return Ok(None);
-    };
     let Some(kvno) = number(kvno, KVNOS) else {
         return Ok(None);
     };
     let Some(key) = counted_key(key) else {
+        return Ok(None);
+    };
+    let Some(name) = Name::parse(alloc, name)? else {
         return Ok(None);
     };
     let key = key_from(kvno as u32, &key);
@@ -170,10 +170,10 @@ fn lift(alloc: Global, words: &[&str]) -> Result<Option<Line>, AllocError>
     let Some(seconds) = number(now, SECONDS) else {
         return Ok(None);
     };
-    let Some(name) = Name::parse(alloc, name)? else {
+    let Some(kvno) = number(kvno, KVNOS) else {
         return Ok(None);
     };
-    let Some(kvno) = number(kvno, KVNOS) else {
+    let Some(name) = Name::parse(alloc, name)? else {
         return Ok(None);
     };
     Ok(Some(Line::Update {

@@ -102,9 +102,6 @@ pub fn principal(alloc: Global, words: &[&str]) -> Result<Option<PrincipalRow>, 
     let [name, kvno, keys @ ..] = words else {
         return Ok(None);
     };
-    let Some(name) = Name::parse(alloc, name)? else {
-        return Ok(None);
-    };
     let Some(newest) = number(kvno, KVNOS) else {
         return Ok(None);
     };
@@ -114,6 +111,9 @@ pub fn principal(alloc: Global, words: &[&str]) -> Result<Option<PrincipalRow>, 
     if !KEY_COUNTS.allow(keys.len()) || newest < keys.len() {
         return Ok(None);
     }
+    let Some(name) = Name::parse(alloc, name)? else {
+        return Ok(None);
+    };
     let keys = Items::of(number_keys(alloc, newest as u32, keys.as_slice())?);
     Ok(Some(PrincipalRow { name, keys }))
 }
