@@ -1,4 +1,5 @@
 use Rattle.std.proofs.Common.{refl, codes}
+use Rattle.chpw_config.specs.Rows.{key_row, policy_of, principal_row, rule_row, service_row}
 use Rattle.chpw_warnings.proofs.laws.nothing_else_is_read.Goals as goal
 
 pub returns-clause-files : goal.returns-clause-files
@@ -21,10 +22,12 @@ returns-clause-services c = λ a b h.
     ) refl
 
 pub returns-clause-service_keys : goal.returns-clause-service_keys
+unfolding service_row
 returns-clause-service_keys c = λ n before a b h.
     rw (h (codes "kvno") refl, h (codes "etype") refl, h (codes "key") refl) refl
 
 pub returns-clause-policies : goal.returns-clause-policies
+unfolding policy_of
 returns-clause-policies c = λ a b h.
     rw (
       h (codes "min_length") refl,
@@ -35,12 +38,15 @@ returns-clause-policies c = λ a b h.
     ) refl
 
 pub returns-clause-rules : goal.returns-clause-rules
+unfolding rule_row
 returns-clause-rules c = λ n before a b h. rw (h (codes "actor") refl, h (codes "target") refl) refl
 
 pub returns-clause-principals : goal.returns-clause-principals
+unfolding principal_row
 returns-clause-principals c = λ n before a b h. rw (h (codes "name") refl, h (codes "key") refl) refl
 
 pub returns-clause-keys : goal.returns-clause-keys
+unfolding key_row
 returns-clause-keys c = λ n k at before a b h.
     rw (h (codes "kvno") refl, h (codes "iterations") refl, h (codes "aes128") refl, h (codes "aes256") refl) refl
 
