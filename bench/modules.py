@@ -2,7 +2,11 @@
 
 The prover makes modules of each function and checks them one after the other. Where `Lts` is dear, the function mostly keeps a
 large value while it makes many calls, or returns early often: part it, and lend the value. Measure again, since a function more
-may cost more than it saves. `Proof` has the goals.
+may cost more than it saves. What owns memory is best made last, since each way out after it has to let it go.
+
+`Proof` has the goals. Where it is dear, the definitions that the contract names mostly open further than the function needs. One
+that another function computes is `unfoldable` in place of an `abbrev`, and opened there alone: by `unfolding` in that function's
+`tactic`, and below the signature of a lemma about it (chpw_commands).
 
 A module's file is written once it is checked, so the time between two files is that of the later one. The libraries below the
 crate have to be proved in this checkout, as by `./prove CRATE`; its own proof is made in a temporary folder, and nothing is kept.
