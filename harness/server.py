@@ -1,9 +1,11 @@
 """The service as a process: started on a port of loopback, and ended."""
 
 import os
+import pathlib
 import signal
 import socket
 import subprocess
+import time
 
 from harness.ports import free_ports
 
@@ -100,6 +102,21 @@ class Server:
         lines = errors.splitlines()
         self.quiet = [it for it in lines if it.startswith("quiet until ")]
         return "\n".join([*out.splitlines(), *(it for it in lines if it not in self.quiet)]).strip()
+
+    def halt(self):
+        """Stops it with all its threads, each of which obeys once it is scheduled, until it is told to go on."""
+        self.process.send_signal(signal.SIGSTOP)
+        while set(self.states()) != {"T"}:
+            time.sleep(0.001)
+
+    def states(self):
+        """The state of each of its threads, as the kernel has it."""
+        for task in pathlib.Path(f"/proc/{self.process.pid}/task").iterdir():
+            yield (task / "stat").read_text().rpartition(")")[2].split()[0]
+
+    def go_on(self):
+        """Goes on after a halt."""
+        self.process.send_signal(signal.SIGCONT)
 
     def stop(self, number):
         """Sends it the signal; how it ended, as the shell says it."""

@@ -9,7 +9,6 @@ import itertools
 import multiprocessing
 import os
 import re
-import signal
 import socket
 import stat
 import threading
@@ -313,9 +312,9 @@ class Control(ServiceCase):
         self.tell("the next one", ask(self, "status").endswith(f"\n{OK}"), True)
         self.tell_within(1, watch)
         # The service, which has nothing else to do, would else begin it before its caller has hung up.
-        self.server.process.send_signal(signal.SIGSTOP)
+        self.server.halt()
         leave(self, "stop\n")
-        self.server.process.send_signal(signal.SIGCONT)
+        self.server.go_on()
         self.tell("it goes on", self.client().ask(request_now("alice", "New-pass9", 9)), CHANGED)
         words = [it.split(" ")[0] for it in logged(self)]
         self.tell("the log", [it for it in words if it in ("log-reopened", "reloaded")], ["log-reopened"])
