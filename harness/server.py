@@ -106,8 +106,11 @@ class Server:
     def halt(self):
         """Stops it with all its threads, each of which obeys once it is scheduled, until it is told to go on."""
         self.process.send_signal(signal.SIGSTOP)
-        while set(self.states()) != {"T"}:
+        for _ in range(10_000):
+            if set(self.states()) == {"T"}:
+                return
             time.sleep(0.001)
+        raise RuntimeError("serve doesn't stop")
 
     def states(self):
         """The state of each of its threads, as the kernel has it."""
