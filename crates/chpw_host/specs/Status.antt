@@ -66,11 +66,11 @@ pub record IsStatusOf (version : List ℕ) (r : Readings) (f : Counters) (c : Co
   pub workers : s.workers ≡ r.workers
   pub busy : s.busy ≡ c.answering
   pub queue : s.queue ≡ c.waiting
-  pub journal_bytes : s.journal_bytes ≡ r.journal_bytes
-  pub journal : reason_in s.journal ≡ option_map cause_text r.failure
-  pub journal_name : s.journal_name ≡ r.journal_name
-  pub log_lost : s.log_lost ≡ r.log_lost
-  pub log_name : s.log_name ≡ r.log_name
+  pub journal_bytes : s.journal_bytes ≡ r.files.journal_bytes
+  pub journal : reason_in s.journal ≡ option_map cause_text r.files.failure
+  pub journal_name : s.journal_name ≡ r.files.journal_name
+  pub log_lost : s.log_lost ≡ r.files.log_lost
+  pub log_name : s.log_name ≡ r.files.log_name
   pub kdc : s.kdc ≡ kdc_state r.kdc
   pub kdc_since : s.kdc_since ≡ option_map (λ k. k.since) r.kdc
   pub kdc_behind : s.kdc_behind ≡ option_map_or (λ k. k.behind) r.kdc 0

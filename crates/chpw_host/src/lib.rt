@@ -18,6 +18,6 @@ pub use binding::{BoundSockets, bind};
 pub use control::{control_socket, take_away};
 pub use late_fault::LateFault;
 pub use limits::{limit_of, limits_of};
-pub use readings::{KdcReadings, Readings};
+pub use readings::{FileReadings, KdcReadings, Readings};
 pub use service_manager::{notify_ready, notify_stopping};
 pub use status::{StatusSources, answer_of};

@@ -13,6 +13,14 @@ pub struct Readings {
     /// The moment of the status.
     pub moment: Moment,
     pub workers: u8,
+    pub files: FileReadings,
+    /// What is read of the KDC, if there is one.
+    pub kdc: Option<KdcReadings>,
+}
+
+/// What is read of the journal and the log.
+#[derive(Clone, Copy, Drop)]
+pub struct FileReadings {
     pub journal_bytes: u64,
     /// Why an append to the journal has failed, if one has.
     pub failure: Option<SinkCause>,
@@ -21,8 +29,6 @@ pub struct Readings {
     pub log_name: NameState,
     /// The lines of the log that couldn't be written.
     pub log_lost: u64,
-    /// What is read of the KDC, if there is one.
-    pub kdc: Option<KdcReadings>,
 }
 
 /// What is read of the agent at the KDC's database.

@@ -32,7 +32,7 @@ pub fn answer_of(alloc: Global, sources: &StatusSources<'_>) -> Vec<u8>
         × IsStatusOf sources.now.version.now sources.now.readings.now sources.now.counters.now sources.now.counts.now s
         × (result.items ≡ lines_text (status_lines s ++ ok_line ∷ []))) }
 {
-    match failure_words(alloc, sources.readings.failure) {
+    match failure_words(alloc, sources.readings.files.failure) {
         Err(_) => Vec::new(alloc),
         Ok(None) => answer_by(alloc, *sources, None),
         Ok(Some(why)) => answer_by(alloc, *sources, Some(why.as_str())),
@@ -42,7 +42,7 @@ pub fn answer_of(alloc: Global, sources: &StatusSources<'_>) -> Vec<u8>
 // The same, of a service whose journal failed for this reason, if it did.
 fn answer_by<'a>(alloc: Global, sources: StatusSources<'a>, failed: Option<&'a str>) -> Vec<u8>
     requires since { IsTold sources.readings.now.since }
-    requires failed { option_map (λ words. words.now) failed ≡ option_map cause_text sources.readings.now.failure }
+    requires failed { option_map (λ words. words.now) failed ≡ option_map cause_text sources.readings.now.files.failure }
     ensures value { (result.items ≡ []) ⊎ ((s : TheStatus)
         × IsStatusOf sources.entry.version.now sources.entry.readings.now sources.entry.counters.now sources.entry.counts.now s
         × (result.items ≡ lines_text (status_lines s ++ ok_line ∷ []))) }
@@ -54,7 +54,7 @@ fn answer_by<'a>(alloc: Global, sources: StatusSources<'a>, failed: Option<&'a s
 // The status of a service whose journal failed for this reason, if it did.
 fn status_of<'a>(sources: &StatusSources<'a>, failed: Option<&'a str>) -> Status<'a>
     requires since { IsTold sources.now.readings.now.since }
-    requires failed { option_map (λ words. words.now) failed ≡ option_map cause_text sources.now.readings.now.failure }
+    requires failed { option_map (λ words. words.now) failed ≡ option_map cause_text sources.now.readings.now.files.failure }
     ensures value { IsStatusOf sources.now.version.now sources.now.readings.now sources.now.counters.now sources.now.counts.now result }
     ensures refused { result.kdc_refused ≡ sources.now.refused }
     ensures told { AreTold result }
@@ -86,11 +86,11 @@ fn status_of<'a>(sources: &StatusSources<'a>, failed: Option<&'a str>) -> Status
         workers: u64::from(readings.workers),
         busy: counts.answering as u64,
         queue: counts.waiting as u64,
-        journal_bytes: readings.journal_bytes,
+        journal_bytes: readings.files.journal_bytes,
         journal: journal_state(failed),
-        journal_name: readings.journal_name,
-        log_lost: readings.log_lost,
-        log_name: readings.log_name,
+        journal_name: readings.files.journal_name,
+        log_lost: readings.files.log_lost,
+        log_name: readings.files.log_name,
         kdc: kdc_state(readings.kdc),
         kdc_since: readings.kdc.map(|kdc| kdc.since),
         kdc_behind: readings.kdc.map_or(0, |kdc| kdc.behind),

@@ -32,13 +32,18 @@ impl KdcTerms for Unattended {
 }
 
 impl StatusReporter for Unattended {
+    type FileReadings = ();
+
     fn listener(&mut self) -> Option<UnixListener> {
         None
     }
 
+    fn file_readings(&self) {}
+
     fn status(
         &mut self,
         alloc: Global,
+        _files: (),
         _standing: &ConnectionCounts,
         _kdc: Option<&KdcDialog>,
     ) -> Vec<u8> {

@@ -162,12 +162,15 @@ impl<
         ensures stopping { self.new.is_stopping ≡ self.old.is_stopping }
         ensures entrance { self.new.entrance ≡ self.old.entrance }
     {
+        let files = self.link.terms.file_readings();
         let hub = self.engine.hub.lock(self.rt);
         let standing = hub.state.standing();
-        let text = self
-            .link
-            .terms
-            .status(self.engine.alloc, &standing, hub.state.kdc.as_ref());
+        let text = self.link.terms.status(
+            self.engine.alloc,
+            files,
+            &standing,
+            hub.state.kdc.as_ref(),
+        );
         MutexGuard::unlock(hub);
         self.engine.control.lock(self.rt).callers.answer(slot, text);
     }

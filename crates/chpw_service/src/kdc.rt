@@ -9,7 +9,7 @@ ghost use Rattle.chpw_host.specs.Status.{IsReadOf, IsStatusAnswer, refusal_words
 use chpw_connections::Unconfirmed;
 use chpw_control::Time;
 use chpw_desks::{JournalLength, KdcPlace, ServiceContext};
-use chpw_host::{KdcReadings, Readings, StatusSources, answer_of};
+use chpw_host::{FileReadings, KdcReadings, Readings, StatusSources, answer_of};
 use chpw_invocation::VERSION;
 use chpw_kdc::{KdcDialog, Notice as KdcNotice, ProtocolFault, RefusedName};
 use chpw_logging::{Counters, Log, Notice, is_first, time_of};
@@ -169,6 +169,8 @@ impl<R: Net<Listener = TcpListener, Stream = TcpStream> + Wait + Clock + Eprint>
 impl<
     R: Files + Net<Listener = TcpListener, Stream = TcpStream> + Wait + Clock + Eprint,
 > StatusReporter for SocketKdc<'_, R> {
+    type FileReadings = FileReadings;
+
     fn listener(&mut self) -> Option<UnixListener>
         ensures given { result ≡ self.old.listener }
         ensures none { self.new.listener ≡ None }
@@ -176,9 +178,20 @@ impl<
         self.listener.take()
     }
 
+    fn file_readings(&self) -> FileReadings {
+        FileReadings {
+            journal_bytes: self.journal.bytes(),
+            failure: self.log.failure(),
+            journal_name: self.log.journal_name(),
+            log_name: self.log.log_name(),
+            log_lost: self.log.lost_count(),
+        }
+    }
+
     fn status(
         &mut self,
         alloc: Global,
+        files: FileReadings,
         standing: &ConnectionCounts,
         kdc: Option<&KdcDialog>,
     ) -> Vec<u8>
@@ -197,11 +210,7 @@ impl<
             since: self.since,
             moment,
             workers: self.workers,
-            journal_bytes: self.journal.bytes(),
-            failure: self.log.failure(),
-            journal_name: self.log.journal_name(),
-            log_lost: self.log.lost_count(),
-            log_name: self.log.log_name(),
+            files,
             kdc: readings_of(kdc, self.changed),
         };
         let refused = refused.as_ref().map(|words| words.as_slice());
