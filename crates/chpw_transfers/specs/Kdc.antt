@@ -75,7 +75,7 @@ abbrev pub LeavesChange : Bool → ℕ → Option State → KdcChange → Option
 LeavesChange needed now None c new r = (new ≡ None) × (r ≡ release.Now)
 LeavesChange needed now (Some s) change.Nothing new r = (new ≡ Some s) × (r ≡ release.Now)
 LeavesChange needed now (Some s) (change.Key c) new r = (t : State) × (new ≡ Some t) × LeavesKey needed now c s t r
-LeavesChange needed now (Some s) change.Lost new r = (new ≡ Some (after_lost_want s)) × (r ≡ release.Never)
+LeavesChange needed now (Some s) change.Lost new r = (new ≡ Some (after_lost_want s)) × (r ≡ release_of_lost needed)
 
 -- ---- whether requests are decided
 

@@ -100,7 +100,7 @@ impl State {
             KdcChange::Nothing => Release::Now,
             KdcChange::Lost => {
                 kdc.want_lost();
-                Release::Never
+                release_of_lost(is_needed)
             }
             KdcChange::Key(change) => want(kdc, change, is_needed, now),
         }
