@@ -1,15 +1,12 @@
-"""The manual pages: chpw_server(8), boddrelyn.toml(5), and kdc_mit(8) and kdc_heimdal(8), which have one source.
-
-    python3 -m packaging.manual FOLDER
-
-writes them into FOLDER.
+"""Writes the manual pages into a folder: chpw_server(8), boddrelyn.toml(5), and kdc_mit(8) and kdc_heimdal(8), which have one
+source.
 """
 
 import pathlib
 import re
-import sys
 import time
 
+from harness.command import Parser
 from packaging import version
 
 HERE = pathlib.Path(__file__).resolve().parent
@@ -45,9 +42,9 @@ def page(name):
 
 
 def main():
-    if len(sys.argv) != 2:
-        sys.exit("usage: python3 -m packaging.manual FOLDER")
-    folder = pathlib.Path(sys.argv[1])
+    parser = Parser(__doc__, None, "a page can't be written")
+    parser.add_argument("folder", type=pathlib.Path, metavar="FOLDER", help="made if it isn't there")
+    folder = parser.parse_args().folder
     folder.mkdir(parents=True, exist_ok=True)
     for name in PACKAGES:
         (folder / name).write_text(page(name))

@@ -14,7 +14,7 @@ ghost use Rattle.chpw_journal.specs.Runs.{IsWholeKey};
 use crate::known::{know_key, know_order};
 use chpw_record::{KeyKind, KeyRow, key_bytes, raise_bytes};
 use chpw_rules::Name;
-use chpw_table::Table;
+use chpw_table::{Table, blank_key};
 use std::alloc::{AllocError, Global};
 
 /// The text of a journal that, restored onto the opening, gives exactly the principals that the held table has, with the same
@@ -142,7 +142,7 @@ fn put_removal(text: &mut Vec<u8>, name: &Name) -> Result<(), AllocError>
     ensures whole { OnOk result (AreWholeRecords
         (record_of.Key Remove (record { name = name.now; key = blank_key }) ∷ [])) }
 {
-    put_key(text, KeyKind::Remove, name, &no_key())
+    put_key(text, KeyKind::Remove, name, &blank_key())
 }
 
 // Adds the records that give a name these keys, unless it has them.
@@ -224,18 +224,6 @@ fn put_key(text: &mut Vec<u8>, kind: KeyKind, name: &Name, key: &KeyRow) -> Resu
     know_key(key);
     let record = key_bytes(*text.allocator(), kind, name, key)?;
     text.extend_from_slice(record.as_slice())
-}
-
-// What the record of a removed name has in place of a key.
-fn no_key() -> KeyRow
-    ensures value { result ≡ blank_key }
-{
-    KeyRow {
-        kvno: 1,
-        count: 1,
-        aes128: [0; 16],
-        aes256: [0; 32],
-    }
 }
 
 fn are_same(keys: &[KeyRow], others: &[KeyRow]) -> bool

@@ -42,12 +42,12 @@ pub struct Log<'l, R> {
     failed: Mutex<bool>,
     /// What is read of the journal that is open, once it is.
     marks: Mutex<Option<JournalMarks>>,
-    book: Option<Book<'l>>,
+    file: Option<LogFile<'l>>,
 }
 
 // The log at a path.
 #[derive(Drop)]
-struct Book<'l> {
+struct LogFile<'l> {
     path: &'l str,
     // Which file it is, if it is one.
     number: Mutex<Option<FileNumber>>,
@@ -72,7 +72,7 @@ pub fn log_of<'l, 'a: 'l, R: Files<File = File> + Net>(
     ensures fault { IfErr result (IsOfClash options.now) }
 {
     keep_apart(rt, options)?;
-    let book = book_at(rt, alloc, options.log)?;
+    let file = file_at(rt, alloc, options.log)?;
     // A log that was just made may be the journal by another name.
     keep_apart(rt, options)?;
     Ok(Log {
@@ -81,21 +81,21 @@ pub fn log_of<'l, 'a: 'l, R: Files<File = File> + Net>(
         journal: options.journal,
         failed: Mutex::new(false),
         marks: Mutex::new(None),
-        book,
+        file,
     })
 }
 
-fn book_at<'l, 'a: 'l, R: Files<File = File> + Net>(
+fn file_at<'l, 'a: 'l, R: Files<File = File> + Net>(
     rt: &R,
     alloc: Global,
     path: Option<&'a str>,
-) -> Result<Option<Book<'l>>, ServeFault<'a>>
+) -> Result<Option<LogFile<'l>>, ServeFault<'a>>
     ensures fault { IfErr result (IsOfLog path.entry) }
 {
     match path {
         None => Ok(None),
         Some(path) => match LineOutput::at(rt, alloc, path) {
-            Ok(sheet) => Ok(Some(Book {
+            Ok(sheet) => Ok(Some(LogFile {
                 path,
                 number: Mutex::new(sheet.number()),
                 end: Mutex::new(End {
@@ -127,8 +127,8 @@ impl<R: Wait + Eprint> Log<'_, R> {
         requires moment { IsMoment now }
         requires micros { now.micros < 1000000 }
     {
-        if let Some(book) = &self.book {
-            self.put_text(book, write_update(self.alloc, now, update, verdict));
+        if let Some(file) = &self.file {
+            self.put_text(file, write_update(self.alloc, now, update, verdict));
         }
         if matches!(verdict, UpdateVerdict::Broken) {
             self.tell_failed(now);
@@ -141,17 +141,17 @@ impl<R: Wait + Eprint> Log<'_, R> {
         requires micros { now.micros < 1000000 }
         requires quiet { IsQuietTold event.now }
     {
-        if let Some(book) = &self.book {
-            let held = book.end.lock(self.rt).limits.rest();
-            self.put_counts(book, now, held);
+        if let Some(file) = &self.file {
+            let held = file.end.lock(self.rt).limits.rest();
+            self.put_counts(file, now, held);
         }
         self.put_event(now, event);
     }
 
     /// How many of its lines couldn't be written.
     pub fn lost_count(&self) -> u64 {
-        match &self.book {
-            Some(book) => book.end.lock(self.rt).losses.count,
+        match &self.file {
+            Some(file) => file.end.lock(self.rt).losses.count,
             None => 0,
         }
     }
@@ -199,28 +199,28 @@ impl<R: Wait + Eprint> Log<'_, R> {
         requires micros { now.micros < 1000000 }
         requires quiet { IsQuietTold event.now }
     {
-        if let Some(book) = &self.book {
-            self.put_text(book, write_event(self.alloc, now, event));
+        if let Some(file) = &self.file {
+            self.put_text(file, write_event(self.alloc, now, event));
         }
     }
 
     // Appends the line of a message whose kind has no limit.
     fn put(&self, line: &Line<'_>) {
-        if let Some(book) = &self.book {
-            let held = book.end.lock(self.rt).limits.due(micros_of(line.moment));
-            self.put_counts(book, line.moment, held);
-            self.put_line(book, line);
+        if let Some(file) = &self.file {
+            let held = file.end.lock(self.rt).limits.due(micros_of(line.moment));
+            self.put_counts(file, line.moment, held);
+            self.put_line(file, line);
         }
     }
 
     // Appends the line of a message of this kind, if it has one of its own.
     fn put_limited(&self, kind: HeldKind, line: &Line<'_>) {
-        if let Some(book) = &self.book {
+        if let Some(file) = &self.file {
             let now = micros_of(line.moment);
-            let leave = book.end.lock(self.rt).limits.ask(kind, now, line.peer);
-            self.put_counts(book, line.moment, leave.told);
+            let leave = file.end.lock(self.rt).limits.ask(kind, now, line.peer);
+            self.put_counts(file, line.moment, leave.told);
             if leave.line {
-                self.put_line(book, line);
+                self.put_line(file, line);
             }
         }
     }
@@ -231,40 +231,40 @@ impl<R: Wait + Eprint> Log<'_, R> {
         requires moment { IsMoment now }
         requires micros { now.micros < 1000000 }
     {
-        if let Some(book) = &self.book {
-            self.put_text(book, write_unconfirmed(self.alloc, now, peer, ticket));
+        if let Some(file) = &self.file {
+            self.put_text(file, write_unconfirmed(self.alloc, now, peer, ticket));
         }
     }
 
     // Appends the summaries of how many were held back, those that are due.
-    fn put_counts(&self, book: &Book<'_>, now: Moment, held: HeldCounts)
+    fn put_counts(&self, file: &LogFile<'_>, now: Moment, held: HeldCounts)
         requires moment { IsMoment now }
         requires micros { now.micros < 1000000 }
         requires few { AreFew held }
     {
-        self.put_held(book, now, HeldKind::Unopened, held.unopened);
-        self.put_held(book, now, HeldKind::Skewed, held.skewed);
-        self.put_held(book, now, HeldKind::Replayed, held.replayed);
+        self.put_held(file, now, HeldKind::Unopened, held.unopened);
+        self.put_held(file, now, HeldKind::Skewed, held.skewed);
+        self.put_held(file, now, HeldKind::Replayed, held.replayed);
     }
 
-    fn put_held(&self, book: &Book<'_>, now: Moment, kind: HeldKind, held: Option<HeldCount>)
+    fn put_held(&self, file: &LogFile<'_>, now: Moment, kind: HeldKind, held: Option<HeldCount>)
         requires moment { IsMoment now }
         requires micros { now.micros < 1000000 }
         requires few { IfSome held IsFew }
     {
         if let Some(held) = held {
-            self.put_text(book, write_held(self.alloc, now, kind, &held));
+            self.put_text(file, write_held(self.alloc, now, kind, &held));
         }
     }
 
-    fn put_line(&self, book: &Book<'_>, line: &Line<'_>) {
-        self.put_text(book, write_line(self.alloc, line));
+    fn put_line(&self, file: &LogFile<'_>, line: &Line<'_>) {
+        self.put_text(file, write_line(self.alloc, line));
     }
 
     // Appends the text of a line. If there is none, because memory was refused, the line is lost.
-    fn put_text(&self, book: &Book<'_>, text: Result<Vec<u8>, AllocError>) {
-        if book.append(self.rt, text) {
-            self.tell(Notice::LogLost(book.path));
+    fn put_text(&self, file: &LogFile<'_>, text: Result<Vec<u8>, AllocError>) {
+        if file.append(self.rt, text) {
+            self.tell(Notice::LogLost(file.path));
         }
     }
 
@@ -283,10 +283,10 @@ impl<R: Wait + Eprint> Log<'_, R> {
     /// Writes a line on standard error. If the log goes there too, it waits for it no longer than a line of the log
     /// does.
     pub fn tell(&self, notice: Notice<'_>) {
-        match &self.book {
-            Some(book) if is_standard_error(book.path) => {
+        match &self.file {
+            Some(file) if is_standard_error(file.path) => {
                 if let Ok(text) = format!(in self.alloc; "{notice}\n") {
-                    let _ = book
+                    let _ = file
                         .end
                         .lock(self.rt)
                         .sheet
@@ -311,8 +311,8 @@ impl<R: Files + Wait + Eprint> Log<'_, R> {
 
     /// Whether the log's name leads to the log; none has one if there is no log, or it is no file.
     pub fn log_name(&self) -> NameState {
-        match &self.book {
-            Some(book) => book.name_state(self.rt),
+        match &self.file {
+            Some(file) => file.name_state(self.rt),
             None => NameState::Absent,
         }
     }
@@ -326,12 +326,12 @@ impl<R: Files<File = File> + Net + Wait + Eprint> Log<'_, R> {
         requires micros { now.micros < 1000000 }
         ensures fault { IfErr result (IsOfClash options.now) }
     {
-        let (Some(book), Some(path)) = (&self.book, options.log) else {
+        let (Some(file), Some(path)) = (&self.file, options.log) else {
             return Ok(());
         };
         keep_apart(self.rt, options)?;
         match LineOutput::at(self.rt, self.alloc, path) {
-            Ok(sheet) => book.go_on_in(self.rt, sheet),
+            Ok(sheet) => file.go_on_in(self.rt, sheet),
             Err(error) => return Err(unlogged_fault(path, error)),
         }
         self.put_event(now, &ServiceEvent::LogReopened);
@@ -339,7 +339,7 @@ impl<R: Files<File = File> + Net + Wait + Eprint> Log<'_, R> {
     }
 }
 
-impl Book<'_> {
+impl LogFile<'_> {
     // The lines go there from now on.
     fn go_on_in<R: Wait>(&self, rt: &R, sheet: LineOutput) {
         *self.number.lock(rt) = sheet.number();

@@ -28,7 +28,7 @@ pub use counts::{COUNTS_LIMIT, Counts};
 pub use derived::DerivedKeys;
 pub use digest::Digest;
 pub use history::{Entry, Event, Receipt};
-pub use key::newest;
+pub use key::{blank_key, newest};
 pub use outcome::{DecideFault, Outcome, Refused};
 pub use raising::{Full, Raise, RaiseVerdict};
 pub use request::{Body, Opened, RequestId, Target};

@@ -1,15 +1,11 @@
 -- Addresses of hosts (RFC 4120 section 7.5.3).
-use Rattle.std.specs.Prelude.{ℕ, ℤ, pos, Bool, ◌&&◌, List, bytes_eq}
+use Rattle.std.specs.Prelude.{ℕ, ℤ, Bool, ◌&&◌, List, bytes_eq}
 use Rattle.std.specs.Ordering.{int_eq}
 use Rattle.std.specs.Net.Addr.{ipv4_octets, ipv6_octets}
 use Rattle.std.specs.declared.net.ip_addr.IpAddr.{IpAddr}
 use Rattle.std.specs.declared.net.ip_addr.IpAddr.TheVariants.{V4, V6}
-use Rattle.krb_protocol.specs.Numbers.{addr_type_ipv4}
+use Rattle.krb_protocol.specs.Numbers.{addr_type_ipv4, addr_type_ipv6}
 use Rattle.krb_der.specs.declared.host_address.HostAddress.{HostAddress}
-
--- the address type of IPv6
-abbrev pub addr_type_ipv6 : ℤ
-addr_type_ipv6 = pos 24
 
 abbrev pub type_of : IpAddr → ℤ
 type_of (V4 ip) = addr_type_ipv4

@@ -5,12 +5,9 @@ ghost use Rattle.krb_msgs.specs.Addresses.{host_address, octets_of};
 
 use crate::contents::copy_bytes;
 use krb_der::HostAddress;
-use krb_protocol::ADDR_TYPE_IPV4;
+use krb_protocol::{ADDR_TYPE_IPV4, ADDR_TYPE_IPV6};
 use std::alloc::{AllocError, Global};
 use std::net::IpAddr;
-
-/// The address type of IPv6 (RFC 4120 section 7.5.3).
-const ADDR_TYPE_IPV6: i32 = 24;
 
 // Whether an address is this host's.
 pub(crate) fn is_host(address: &HostAddress, host: IpAddr) -> bool

@@ -22,6 +22,9 @@ krb_error = pos 30
 abbrev pub addr_type_ipv4 : ℤ
 addr_type_ipv4 = pos 2
 
+abbrev pub addr_type_ipv6 : ℤ
+addr_type_ipv6 = pos 24
+
 -- name types (section 6.2)
 abbrev pub nt_principal : ℤ
 nt_principal = pos 1

@@ -2,7 +2,7 @@
 
 ghost use Rattle.std.specs.Prelude.{◌≡◌, ◌∷◌, [], pos};
 ghost use Rattle.krb_protocol.specs.Numbers.{pvno, krb_ap_req, krb_ap_rep, krb_priv, krb_error};
-ghost use Rattle.krb_protocol.specs.Numbers.{addr_type_ipv4, nt_principal, nt_srv_inst, use_session_key};
+ghost use Rattle.krb_protocol.specs.Numbers.{addr_type_ipv4, addr_type_ipv6, nt_principal, nt_srv_inst, use_session_key};
 ghost use Rattle.krb_protocol.specs.Numbers.{mutual_required, ticket_invalid, ticket_initial};
 
 use crate::codes::{
@@ -15,8 +15,8 @@ use crate::codes::{
     KRB5_KPASSWD_SUCCESS,
 };
 use crate::numbers::{
-    ADDR_TYPE_IPV4, KRB_AP_REP, KRB_AP_REQ, KRB_ERROR, KRB_PRIV, MUTUAL_REQUIRED, NT_PRINCIPAL,
-    NT_SRV_INST, PVNO, TICKET_INITIAL, TICKET_INVALID, USE_SESSION_KEY,
+    ADDR_TYPE_IPV4, ADDR_TYPE_IPV6, KRB_AP_REP, KRB_AP_REQ, KRB_ERROR, KRB_PRIV, MUTUAL_REQUIRED,
+    NT_PRINCIPAL, NT_SRV_INST, PVNO, TICKET_INITIAL, TICKET_INVALID, USE_SESSION_KEY,
 };
 
 /// The constants are the numbers of RFC 4120 by their names.
@@ -26,7 +26,7 @@ pub fn numbers()
     ensures replies { KRB_AP_REP ≡ krb_ap_rep }
     ensures private { KRB_PRIV ≡ krb_priv }
     ensures errors { KRB_ERROR ≡ krb_error }
-    ensures addresses { ADDR_TYPE_IPV4 ≡ addr_type_ipv4 }
+    ensures addresses { (ADDR_TYPE_IPV4 ≡ addr_type_ipv4) × (ADDR_TYPE_IPV6 ≡ addr_type_ipv6) }
     ensures names { (NT_PRINCIPAL ≡ nt_principal) × (NT_SRV_INST ≡ nt_srv_inst) }
     ensures options { (USE_SESSION_KEY ≡ use_session_key) × (MUTUAL_REQUIRED ≡ mutual_required) }
     ensures flags { (TICKET_INVALID ≡ ticket_invalid) × (TICKET_INITIAL ≡ ticket_initial) }

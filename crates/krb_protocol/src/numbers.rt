@@ -18,6 +18,9 @@ pub const KRB_ERROR: i32 = 30;
 /// The address type of IPv4 (section 7.5.3).
 pub const ADDR_TYPE_IPV4: i32 = 2;
 
+/// The address type of IPv6 (section 7.5.3).
+pub const ADDR_TYPE_IPV6: i32 = 24;
+
 /// The name type of a user or of a service that isn't bound to a host (section 6.2).
 pub const NT_PRINCIPAL: i32 = 1;
 

@@ -3,13 +3,14 @@ ghost use Rattle.std.specs.Prelude.{◌≡◌, IfOk, true, false};
 ghost use Rattle.chpw_table.specs.declared.updating.UpdateVerdict.TheVariants.{Taken};
 ghost use Rattle.chpw_table.specs.State.{keys_held};
 ghost use Rattle.chpw_table.specs.Updates.{key_in, name_in, update_fits, update_verdict};
-ghost use Rattle.chpw_table.specs.Updates.{lifted_key as lifted_key_spec, blank_key as blank_key_spec};
+ghost use Rattle.chpw_table.specs.Updates.{lifted_key as lifted_key_spec};
 ghost use Rattle.chpw_table.specs.Updating.{has_too_many};
 ghost use Rattle.chpw_table.specs.Planning.{IsNextPlan, IsUpdatePlanned, keys_left};
 ghost use Rattle.chpw_table.specs.Placing.{IsPlaced};
 
 use super::Table;
 use super::placing::Placement;
+use crate::key::blank_key;
 use crate::updating::{KdcUpdate, UpdateVerdict};
 use chpw_record::{KeyRow, key_bytes};
 use std::alloc::AllocError;
@@ -100,17 +101,5 @@ fn lifted_key(held: &[KeyRow], kvno: u32) -> KeyRow
             ..blank_key()
         },
         [key, ..] => KeyRow { kvno, ..*key },
-    }
-}
-
-// What the record of a removed name has in place of a key.
-fn blank_key() -> KeyRow
-    ensures value { result ≡ blank_key_spec }
-{
-    KeyRow {
-        kvno: 1,
-        count: 1,
-        aes128: [0; 16],
-        aes256: [0; 32],
     }
 }

@@ -10,4 +10,4 @@ pub returns-clause-value : goal.returns-clause-value
 returns-clause-value c =
     let text : List ℕ = record_text (record_of.Key Remove (record { name = c.args.name.now; key = blank_key })) in
     on_ok_weaker c.put_key.result
-    (λ g. rw c.no_key.ensures.value at g ∙ ap (λ (xs : List ℕ). c.args.text.now.items ++ xs) (sym (append-nil text))) c.put_key.ensures.value
+    (λ g. rw c.blank_key.ensures.value at g ∙ ap (λ (xs : List ℕ). c.args.text.now.items ++ xs) (sym (append-nil text))) c.put_key.ensures.value
