@@ -1,8 +1,10 @@
 """Which modules of a crate's proof take how long, from nothing and with one processor.
 
-The prover makes modules of each function and checks them one after the other. Where `Lts` is dear, the function mostly keeps a
-large value while it makes many calls, or returns early often: part it, and lend the value. Measure again, since a function more
-may cost more than it saves. What owns memory is best made last, since each way out after it has to let it go.
+The prover makes modules of each function and checks them one after the other. `Lts` has each step of the function (a call, a copy,
+a drop, a branch), with all of its locals and loans, so it costs about the square of the function's length. Where it is dear, the
+function mostly keeps a large value while it makes many calls, returns early often, or has calls in several arms of a `match`:
+part it, and lend the value. Measure again, since a function more costs about a second. What owns memory is best made last, since
+each way out after it has to let it go.
 
 `Proof` has the goals. Where it is dear, the definitions that the contract names mostly open further than the function needs. One
 that another function computes is `unfoldable` in place of an `abbrev`, and opened there alone: by `unfolding` in that function's

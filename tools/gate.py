@@ -36,6 +36,8 @@ STEPS = {
     "tools.documents": [*PYTHON, "tools.documents", *OVER_PROGRAM],
 }
 RECORD = [*PYTHON, "packaging.gate_record"]
+# the memory that a proof takes at most, in bytes; `rt ci` plans with up to twice of it, so that processors would be idle
+OF_PROOF = 5 * 2**30
 # what `rt ci` says when a crate is proved, or needs no proof
 PROVED = re.compile(r"rt: (\w+) (?:proved|is kept: .*)")
 
@@ -44,9 +46,20 @@ def say(text):
     print(text, flush=True)
 
 
+def processors():
+    return len(os.sched_getaffinity(0))
+
+
+def environment():
+    """That of all steps: where there is the memory, `rt ci` proves one crate on each processor, and none on two."""
+    found = re.search(r"MemAvailable: +(\d+) kB", pathlib.Path("/proc/meminfo").read_text())
+    has_room = found and int(found[1]) * 1024 >= OF_PROOF * processors()
+    return {"RT_JOBS": str(processors()), **os.environ} if has_room else os.environ
+
+
 def run(words, hear=None):
     """The status of a command; `hear` gets each line of what it prints, as that is printed."""
-    with subprocess.Popen(words, cwd=TOP, stdout=subprocess.PIPE if hear else None) as process:
+    with subprocess.Popen(words, cwd=TOP, env=environment(), stdout=subprocess.PIPE if hear else None) as process:
         try:
             for line in process.stdout or ():
                 sys.stdout.buffer.write(line)
@@ -64,11 +77,10 @@ class Proofs:
 
     def __init__(self, seconds, later):
         took = durations.of_proofs(crates())
-        processors = len(os.sched_getaffinity(0))
-        share = seconds * processors / sum(took.values())
-        self.left = durations.Left({it: share * own for it, own in took.items()}, processors)
+        share = seconds * processors() / sum(took.values())
+        self.left = durations.Left({it: share * own for it, own in took.items()}, processors())
         # when the crates began that are being proved: where one ends, another begins
-        self.since = [self.left.began] * processors
+        self.since = [self.left.began] * processors()
         self.later = later
         self.done = set()
         self.last = ""
