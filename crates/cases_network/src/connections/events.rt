@@ -16,38 +16,66 @@ impl Script {
         now: u64,
     ) -> Result<String, Fault> {
         match kind {
-            "bytes" => return self.read_told(slot, &bytes(self.alloc, rest)?, now),
-            "fill" => return self.read_told(slot, &filler_bytes(self.alloc, rest)?, now),
-            "push" => {
-                let bytes = bytes(self.alloc, rest)?;
-                let worker = self.connections.receive(slot, &bytes, now);
-                return Ok(self.received_text(slot, worker)?);
+            "bytes" => self.read_bytes(slot, rest, now),
+            "fill" => self.read_filler(slot, rest, now),
+            "push" => self.push(slot, rest, now),
+            "has" => self.tell_room(slot, now),
+            "remove" => self.remove(slot),
+            "rounds" => self.rounds(slot, parsed(rest)?, now),
+            _ => {
+                self.step(kind, slot, rest, now)?;
+                Ok(self.state(slot)?)
             }
-            "has" => {
-                let has_room = self.connections.has_room_to_read(slot, now);
-                let word = if has_room { "has room" } else { "no room" };
-                return Ok(String::from_str(self.alloc, word)?);
-            }
-            "remove" => {
-                let removed = self.connections.remove(slot);
-                let word = if removed { "removed" } else { "not removed" };
-                return Ok(String::from_str(self.alloc, word)?);
-            }
-            "rounds" => return self.rounds(slot, parsed(rest)?, now),
+        }
+    }
+
+    // What is answered with the stage alone.
+    fn step(&mut self, kind: &str, slot: usize, rest: &str, now: u64) -> Result<(), Fault> {
+        match kind {
             "answer" => self.give_reply(slot, rest, now)?,
             "defer" => self.defer_reply(slot, rest, now)?,
-            "unanswered" => {
-                if let Some(taken) = self.taken_from(slot) {
-                    self.connections.leave_unanswered(taken, now);
-                }
-            }
+            "unanswered" => self.leave_message(slot, now),
             "wrote" => self.connections.wrote(slot, parsed(rest)?, now),
             "end" => self.connections.input_ended(slot),
             "fail" => self.connections.fail(slot),
             "again" => self.connections.look_again(slot),
             _ => return Err(Fault::NoSuchCase),
         }
-        Ok(self.state(slot)?)
+        Ok(())
+    }
+
+    fn read_bytes(&mut self, slot: usize, rest: &str, now: u64) -> Result<String, Fault> {
+        let bytes = bytes(self.alloc, rest)?;
+        self.read_told(slot, &bytes, now)
+    }
+
+    fn read_filler(&mut self, slot: usize, rest: &str, now: u64) -> Result<String, Fault> {
+        let bytes = filler_bytes(self.alloc, rest)?;
+        self.read_told(slot, &bytes, now)
+    }
+
+    fn push(&mut self, slot: usize, rest: &str, now: u64) -> Result<String, Fault> {
+        let bytes = bytes(self.alloc, rest)?;
+        let worker = self.connections.receive(slot, &bytes, now);
+        Ok(self.received_text(slot, worker)?)
+    }
+
+    fn tell_room(&mut self, slot: usize, now: u64) -> Result<String, Fault> {
+        let has_room = self.connections.has_room_to_read(slot, now);
+        let word = if has_room { "has room" } else { "no room" };
+        Ok(String::from_str(self.alloc, word)?)
+    }
+
+    fn remove(&mut self, slot: usize) -> Result<String, Fault> {
+        let removed = self.connections.remove(slot);
+        let word = if removed { "removed" } else { "not removed" };
+        Ok(String::from_str(self.alloc, word)?)
+    }
+
+    fn leave_message(&mut self, slot: usize, now: u64) {
+        if let Some(taken) = self.taken_from(slot) {
+            self.connections.leave_unanswered(taken, now);
+        }
     }
 
     /// Reads from a socket that has these bytes, never more than are wanted: how many were read, and the worker for

@@ -24,29 +24,8 @@ impl Script {
     /// `CONNECTIONS BYTES IDLE GRACE WAIT LINGER WORKERS`, with ` PER_PEER` after it unless one peer may have all.
     pub fn of(alloc: Global, words: &str) -> Result<Script, Fault> {
         let words: Vec<&str> = words.split(' ').collect(alloc)?;
-        let [
-            connections,
-            bytes,
-            idle,
-            grace,
-            wait,
-            linger,
-            workers,
-            rest @ ..,
-        ] = words.as_slice()
-        else {
-            return Err(Fault::NoSuchCase);
-        };
-        let bounds = ConnectionLimits {
-            connections: parsed(connections)?,
-            per_peer: parsed(rest.first().unwrap_or(connections))?,
-            bytes: parsed(bytes)?,
-            idle: parsed(idle)?,
-            grace: parsed(grace)?,
-            wait: parsed(wait)?,
-            linger: parsed(linger)?,
-        };
-        Script::new(alloc, bounds, parsed(workers)?)
+        let (bounds, workers) = bounds_of(&words)?;
+        Script::new(alloc, bounds, workers)
     }
 
     pub fn new(alloc: Global, bounds: ConnectionLimits, workers: usize) -> Result<Script, Fault> {
@@ -110,6 +89,33 @@ impl Drop for Script {
         leave_unanswered(&mut connections, &mut taken);
         taken.destroy_empty();
     }
+}
+
+// The bounds and the number of workers that the words of a script's first line are.
+fn bounds_of(words: &[&str]) -> Result<(ConnectionLimits, usize), Fault> {
+    let [
+        connections,
+        bytes,
+        idle,
+        grace,
+        wait,
+        linger,
+        workers,
+        rest @ ..,
+    ] = words
+    else {
+        return Err(Fault::NoSuchCase);
+    };
+    let bounds = ConnectionLimits {
+        connections: parsed(connections)?,
+        per_peer: parsed(rest.first().unwrap_or(connections))?,
+        bytes: parsed(bytes)?,
+        idle: parsed(idle)?,
+        grace: parsed(grace)?,
+        wait: parsed(wait)?,
+        linger: parsed(linger)?,
+    };
+    Ok((bounds, parsed(workers)?))
 }
 
 fn leave_unanswered(connections: &mut Connections, taken: &mut Vec<TakenMessage>)
