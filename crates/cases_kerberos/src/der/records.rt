@@ -21,6 +21,14 @@ pub struct Text {
 
 /// Reads the text of a record and writes what was read; `None` if there is no such record.
 pub fn again(alloc: Global, record: &str, der: &[u8]) -> Result<Option<Text>, ReadError> {
+    match part_again(alloc, record, der)? {
+        Some(text) => Ok(Some(text)),
+        None => message_again(alloc, record, der),
+    }
+}
+
+// What messages are made of.
+fn part_again(alloc: Global, record: &str, der: &[u8]) -> Result<Option<Text>, ReadError> {
     let again = match record {
         "principal_name" => written(alloc, read_principal_name(alloc, der)),
         "encrypted_data" => written(alloc, read_encrypted_data(alloc, der)),
@@ -30,6 +38,14 @@ pub fn again(alloc: Global, record: &str, der: &[u8]) -> Result<Option<Text>, Re
         "transited_encoding" => written(alloc, read_transited_encoding(alloc, der)),
         "authorization_data" => written(alloc, read_authorization_data(alloc, der)),
         "change_passwd_data" => written(alloc, read_change_passwd_data(alloc, der)),
+        _ => return Ok(None),
+    };
+    Ok(Some(again?))
+}
+
+// Tickets and messages, and what is sealed in them.
+fn message_again(alloc: Global, record: &str, der: &[u8]) -> Result<Option<Text>, ReadError> {
+    let again = match record {
         "ticket" => written(alloc, read_ticket(alloc, der)),
         "enc_ticket_part" => written(alloc, read_enc_ticket_part(alloc, der)),
         "authenticator" => written(alloc, read_authenticator(alloc, der)),

@@ -13,18 +13,41 @@ use std::alloc::{AllocError, Global};
 /// - `ctime`, `cusec` and `seq_number` of an EncAPRepPart, the last one or `absent`;
 /// - `ap_options` of an AP-REQ, the numbers of the bits that are set.
 pub fn value_text(alloc: Global, name: &str, text: &[u8]) -> Result<Option<String>, ReadError> {
+    match name {
+        "addr_type" => host_value(alloc, text),
+        "kvno" => sealed_value(alloc, text),
+        "ctime" | "cusec" | "seq_number" => part_value(alloc, name, text),
+        "ap_options" => options_value(alloc, text),
+        _ => Ok(None),
+    }
+}
+
+fn host_value(alloc: Global, text: &[u8]) -> Result<Option<String>, ReadError> {
+    let host = read_host_address(alloc, text)?;
+    number_text(alloc, Some(i64::from(host.addr_type)))
+}
+
+fn sealed_value(alloc: Global, text: &[u8]) -> Result<Option<String>, ReadError> {
+    let sealed = read_encrypted_data(alloc, text)?;
+    number_text(alloc, sealed.kvno.map(i64::from))
+}
+
+fn part_value(alloc: Global, name: &str, text: &[u8]) -> Result<Option<String>, ReadError> {
+    let part = read_enc_ap_rep_part(alloc, text)?;
     let number = match name {
-        "addr_type" => Some(i64::from(read_host_address(alloc, text)?.addr_type)),
-        "kvno" => read_encrypted_data(alloc, text)?.kvno.map(i64::from),
-        "ctime" => Some(read_enc_ap_rep_part(alloc, text)?.ctime.0),
-        "cusec" => Some(i64::from(read_enc_ap_rep_part(alloc, text)?.cusec.0)),
-        "seq_number" => {
-            let part = read_enc_ap_rep_part(alloc, text)?;
-            part.seq_number.map(|number| i64::from(number.0))
-        }
-        "ap_options" => return Ok(Some(bits(alloc, read_ap_req(alloc, text)?.ap_options)?)),
-        _ => return Ok(None),
+        "ctime" => Some(part.ctime.0),
+        "cusec" => Some(i64::from(part.cusec.0)),
+        _ => part.seq_number.map(|number| i64::from(number.0)),
     };
+    number_text(alloc, number)
+}
+
+fn options_value(alloc: Global, text: &[u8]) -> Result<Option<String>, ReadError> {
+    let request = read_ap_req(alloc, text)?;
+    Ok(Some(bits(alloc, request.ap_options)?))
+}
+
+fn number_text(alloc: Global, number: Option<i64>) -> Result<Option<String>, ReadError> {
     let value = match number {
         Some(number) => format!(in alloc; "{number}"),
         None => String::from_str(alloc, "absent"),
