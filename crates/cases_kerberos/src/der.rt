@@ -24,13 +24,20 @@ use std::alloc::Global;
 /// The answer to a case.
 pub fn answer(alloc: Global, case: &str) -> Answer {
     let (kind, rest) = case.split_once(' ').unwrap_or((case, ""));
-    let (record, text) = match kind {
-        "time" => return Ok(times::seconds_of(alloc, rest)?),
-        "seconds" => return Ok(times::text_of(alloc, rest)?),
-        "part" => return Ok(values::part_length(alloc, rest)?),
-        "length" | "words" => rest.split_once(' ').unwrap_or((rest, "")),
-        _ => (kind, rest),
-    };
+    match kind {
+        "time" => Ok(times::seconds_of(alloc, rest)?),
+        "seconds" => Ok(times::text_of(alloc, rest)?),
+        "part" => Ok(values::part_length(alloc, rest)?),
+        "length" | "words" => {
+            let (record, text) = rest.split_once(' ').unwrap_or((rest, ""));
+            record_answer(alloc, kind, record, text)
+        }
+        _ => record_answer(alloc, kind, kind, rest),
+    }
+}
+
+/// The answer to a case of a record's text.
+fn record_answer(alloc: Global, kind: &str, record: &str, text: &str) -> Answer {
     let text = bytes_of(alloc, text)?;
     match found(alloc, kind, record, &text) {
         Ok(Some(answer)) => Ok(answer),

@@ -20,12 +20,7 @@ pub fn answer(alloc: Global, line: &str) -> Answer {
     match *name {
         "aes" | "unaes" => block(alloc, *name, words),
         "cts" | "uncts" => text(alloc, *name, words),
-        "hmac" => {
-            let [key, text] = words else {
-                return Err(Refusal::WordCount);
-            };
-            hexadecimal(alloc, &hmac_sha1(&bytes(alloc, key)?, &bytes(alloc, text)?))
-        }
+        "hmac" => keyed_hash(alloc, words),
         "pbkdf2" => stretched_bytes(alloc, words),
         "nfold" => folded_bytes(alloc, words),
         "key" | "show" => shown_key(alloc, *name, words),
@@ -69,6 +64,15 @@ fn text(alloc: Global, name: &str, words: &[&str]) -> Answer {
         cts_decrypt(&cipher, &mut text);
     }
     hexadecimal(alloc, &text)
+}
+
+// hmac KEY TEXT
+fn keyed_hash(alloc: Global, words: &[&str]) -> Answer {
+    let [key, text] = words else {
+        return Err(Refusal::WordCount);
+    };
+    let (key, text) = (bytes(alloc, key)?, bytes(alloc, text)?);
+    hexadecimal(alloc, &hmac_sha1(&key, &text))
 }
 
 // pbkdf2 PASSWORD SALT COUNT LENGTH
