@@ -64,19 +64,25 @@ impl Cases {
     pub fn answer(&mut self, alloc: Global, case: &str) -> io::Result<String> {
         let (kind, text) = case.split_once(' ').unwrap_or((case, ""));
         match kind {
-            "|" => {
-                self.base.push_str(text)?;
-                self.base.push_str("\n")?;
-            }
+            "|" => self.add_line(text)?,
             "world" => self.set_world(alloc, text)?,
-            "message" => {
-                self.messages.push(read_message(alloc, text)?)?;
-                return Ok(String::from_str(alloc, "a message")?);
-            }
+            "message" => return self.add_message(alloc, text),
             "words" => return words::answer(alloc, text),
             _ => return self.of_stream(alloc, case),
         }
         Ok(String::from_str(alloc, case)?)
+    }
+
+    /// A line of the configuration.
+    fn add_line(&mut self, text: &str) -> io::Result<()> {
+        self.base.push_str(text)?;
+        self.base.push_str("\n")?;
+        Ok(())
+    }
+
+    fn add_message(&mut self, alloc: Global, text: &str) -> io::Result<String> {
+        self.messages.push(read_message(alloc, text)?)?;
+        Ok(String::from_str(alloc, "a message")?)
     }
 
     /// `quiet N`, `of RFC 3244 alone`, and `OLD -> NEW`.
@@ -96,12 +102,15 @@ impl Cases {
             return Err(no_case());
         };
         match head.split_once(' ') {
-            Some(("written", how)) => {
-                let stream = bytes_with_zeros(alloc, text)?;
-                written_text(alloc, &self.setting, &How::of(how), &stream)
-            }
+            Some(("written", how)) => self.of_bytes(alloc, how, text),
             _ => self.of_messages(alloc, head, &self.messages_named(alloc, text)?),
         }
+    }
+
+    /// The answer to a case of a stream with these bytes.
+    fn of_bytes(&self, alloc: Global, how: &str, text: &str) -> io::Result<String> {
+        let stream = bytes_with_zeros(alloc, text)?;
+        written_text(alloc, &self.setting, &How::of(how), &stream)
     }
 
     /// The answer to a case of messages.
@@ -115,10 +124,21 @@ impl Cases {
         if kind == "answered" || kind == "looks" {
             return answers_text(alloc, setting, how, messages, kind == "looks");
         }
+        self.of_one_stream(alloc, kind, how, messages)
+    }
+
+    /// The answer to a case of messages on one stream.
+    fn of_one_stream(
+        &self,
+        alloc: Global,
+        kind: &str,
+        how: &str,
+        messages: &[&Message],
+    ) -> io::Result<String> {
         let stream = stream_of(alloc, messages)?;
         match kind {
-            "served" => served_text(alloc, setting, &How::of(how), messages, &stream),
-            "replied" => written_text(alloc, setting, &How::of(how), &stream),
+            "served" => served_text(alloc, &self.setting, &How::of(how), messages, &stream),
+            "replied" => written_text(alloc, &self.setting, &How::of(how), &stream),
             _ => Err(no_case()),
         }
     }
