@@ -5,7 +5,7 @@ use Rattle.std.specs.Int.{bit_at}
 use Rattle.std.proofs.lemmas.Bool.{eq-eqb, both_ways, cases_lt}
 use Rattle.std.proofs.lemmas.Nat.Bits.{bit_at_cat_low, bit_at_cat_high}
 use Rattle.krb_codec.proofs.StepLemmas.{guard_then, ok_is}
-use Rattle.krb_codec.specs.BitStrings.{is_bit_string, first_word, flags_of, bits_in, IsBits, bits_octets}
+use Rattle.krb_codec.specs.BitStrings.{is_bit_string, ends_in_zeros, first_word, flags_of, bits_in, IsBits, bits_octets}
 
 -- what is read is spelled
 pub bits_sound : (place : ℕ) (content : List ℕ) (flags : ℕ) → bits_in place content ≡ Ok flags → IsBits content flags
@@ -19,13 +19,14 @@ bits_complete place content flags h = rw (h.0, ← h.1) refl
 
 -- the text of 32 flags spells them
 pub bits_spelled : (flags : ℕ) → flags < 2 ^ 32 → IsBits (bits_octets flags) flags
-unfolding bits_octets
+unfolding bits_octets ends_in_zeros first_word
 bits_spelled flags lt = (eq-eqb _ _ (omega arith), omega arith)
 
 -- ---- bits
 
-first_word_is : (bytes : List ℕ) → first_word bytes
+pub first_word_is : (bytes : List ℕ) → first_word bytes
     ≡ (((0 + get_or bytes 0 0) * 2 ^ 8 + get_or bytes 1 0) * 2 ^ 8 + get_or bytes 2 0) * 2 ^ 8 + get_or bytes 3 0
+unfolding first_word
 first_word_is [] = refl
 first_word_is (a ∷ []) = refl
 first_word_is (a ∷ b ∷ []) = refl

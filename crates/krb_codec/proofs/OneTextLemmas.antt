@@ -12,7 +12,7 @@ use Rattle.krb_codec.specs.Shapes.{Primitive, integer, sequence_number, octets, 
 use Rattle.krb_codec.specs.Shapes.{many, further, nothing, field, option, Meaning, Value, is_between, tag_of}
 use Rattle.krb_codec.specs.Integers.{number, repeats_sign, is_shortest_integer, signed, IsInteger, IsSequenceNumber}
 use Rattle.krb_codec.specs.Integers.{without_sign, integer_octets, sequence_number_octets, word_of}
-use Rattle.krb_codec.specs.BitStrings.{IsBits, bits_octets}
+use Rattle.krb_codec.specs.BitStrings.{IsBits, bits_octets, first_word}
 use Rattle.krb_codec.specs.Texts.{without_zeros, length_octets, element, content_of, text, time_content}
 use Rattle.krb_codec.specs.Grammar.{IsLength, IsElement, IsMeaning, AreInTurn, IsFurther, Spells, is_element, is_bounded, is_apart, is_clear, is_legal}
 use Rattle.krb_codec.specs.Laws.{IsUsualContent, AreUsual, IsUsual}
@@ -218,7 +218,7 @@ number_of_four : (a b c d : ℕ) → number (a ∷ b ∷ c ∷ d ∷ []) ≡ fro
 number_of_four a b c d = omega arith
 
 bits_only : (content : List ℕ) (n : ℕ) → IsBits content n → length content ≡ 5 → get_or content 0 0 ≡ 0 → AreBytes content → content ≡ bits_octets n
-unfolding bits_octets
+unfolding bits_octets first_word
 bits_only (u ∷ a ∷ b ∷ c ∷ d ∷ []) n h len none all =
     let is : to_be_bytes w32 n ≡ a ∷ b ∷ c ∷ d ∷ [] =
     be_bytes_4 (a ∷ b ∷ c ∷ d ∷ []) n refl (byte_of (a ∷ b ∷ c ∷ d ∷ []) all.1) (h.1 ∙ number_of_four a b c d) in

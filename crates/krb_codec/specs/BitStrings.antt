@@ -8,7 +8,7 @@ use Rattle.krb_codec.specs.Faults.{fault}
 use Rattle.krb_codec.specs.Integers.{number}
 
 -- the last byte ends in this many zero bits; where there is no byte, the number is 0
-abbrev pub ends_in_zeros : ℕ → List ℕ → Bool
+unfoldable pub ends_in_zeros : ℕ → List ℕ → Bool
 ends_in_zeros unused [] = unused == 0
 ends_in_zeros unused (b ∷ bytes) = slice_index (b ∷ bytes) (length bytes) % 2 ^ unused == 0
 
@@ -20,7 +20,7 @@ is_bit_string (unused ∷ bytes) = nat_lt unused 8 && ends_in_zeros unused bytes
 
 -- the first 32 bits, filled with zeros, as a number whose highest bit is the first; later bits
 -- are ignored
-abbrev pub first_word : List ℕ → ℕ
+unfoldable pub first_word : List ℕ → ℕ
 first_word bytes = number (take 4 (bytes ++ (0 ∷ 0 ∷ 0 ∷ 0 ∷ [])))
 
 -- whether bit i of 32 is set, bit 0 the highest

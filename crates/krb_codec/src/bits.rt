@@ -1,7 +1,7 @@
 //! The contents of BIT STRINGs of 32 flags (X.690 section 8.6, RFC 4120 section 5.2.8). Their
 //! element is in `flags`.
 
-ghost use Rattle.std.specs.Prelude.{◌≡◌, ◌<◌};
+ghost use Rattle.std.specs.Prelude.{◌≡◌, ◌<◌, slice_index};
 ghost use Rattle.krb_codec.specs.BitStrings.{bits_in, bits_octets, ends_in_zeros, first_word};
 
 use crate::fault::{DerFault, FaultKind};
@@ -35,6 +35,7 @@ pub fn bits_octets(flags: u32) -> [u8; 5]
     [0, a, b, c, d]
 }
 
+#[tactic(auto, unfolding(crate::specs::BitStrings::ends_in_zeros))]
 fn ends_in_zeros(unused: u8, bytes: &[u8]) -> bool
     requires { unused < 8 }
     ensures { result ≡ ends_in_zeros unused bytes.now }
@@ -45,15 +46,21 @@ fn ends_in_zeros(unused: u8, bytes: &[u8]) -> bool
     }
 }
 
+#[tactic(auto, using(crate::proofs::BitStringLemmas::first_word_is))]
 fn first_word(bytes: &[u8]) -> u32
     ensures { result ≡ first_word bytes.now }
 {
-    let word = match bytes {
-        [] => [0, 0, 0, 0],
-        [a] => [*a, 0, 0, 0],
-        [a, b] => [*a, *b, 0, 0],
-        [a, b, c] => [*a, *b, *c, 0],
-        [a, b, c, d, ..] => [*a, *b, *c, *d],
-    };
-    u32::from_be_bytes(word)
+    u32::from_be_bytes([
+        byte_at(bytes, 0),
+        byte_at(bytes, 1),
+        byte_at(bytes, 2),
+        byte_at(bytes, 3),
+    ])
+}
+
+/// A byte, or 0 after the last one.
+fn byte_at(bytes: &[u8], i: usize) -> u8
+    ensures { result ≡ slice_index bytes.now i }
+{
+    if i < bytes.len() { bytes[i] } else { 0 }
 }

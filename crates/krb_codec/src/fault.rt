@@ -7,34 +7,41 @@ use std::alloc::{AllocError, AllocFailed};
 use thiserror::Error;
 
 /// What is wrong with a text.
-#[derive(Clone, Copy, Debug, Drop, Error)]
+#[derive(Clone, Copy, Debug, Drop)]
 pub enum FaultKind {
     /// An element that is required, or a part of one, is missing at the end.
-    #[error("missing or cut short")]
     Truncated,
     /// An element has another tag than required.
-    #[error("another tag")]
     WrongTag,
     /// A length that isn't in its shortest form, is indefinite or takes more than four bytes.
-    #[error("a length in another form")]
     BadLength,
     /// An INTEGER that isn't in its shortest form, or a BIT STRING whose unused bits are wrong.
-    #[error("an INTEGER or BIT STRING in another form")]
     BadInteger,
     /// A GeneralizedTime in another form, or of a day that isn't in the calendar.
-    #[error("no time")]
     BadTime,
     /// Bytes after the last element.
-    #[error("trailing bytes")]
     Trailing,
     /// An INTEGER outside its range.
-    #[error("a number out of range")]
     OutOfRange,
+}
+
+impl FaultKind {
+    fn words(self) -> &'static str {
+        match self {
+            FaultKind::Truncated => "missing or cut short",
+            FaultKind::WrongTag => "another tag",
+            FaultKind::BadLength => "a length in another form",
+            FaultKind::BadInteger => "an INTEGER or BIT STRING in another form",
+            FaultKind::BadTime => "no time",
+            FaultKind::Trailing => "trailing bytes",
+            FaultKind::OutOfRange => "a number out of range",
+        }
+    }
 }
 
 /// The first fault from left to right.
 #[derive(Clone, Copy, Debug, Drop, Error)]
-#[error("{kind} at byte {place}")]
+#[error("{} at byte {place}", .kind.words())]
 pub struct DerFault {
     /// Its distance from the text's start: where the faulty element, or what trails, starts.
     pub place: usize,
@@ -42,12 +49,10 @@ pub struct DerFault {
 }
 
 /// Why a text wasn't read.
-#[derive(Clone, Copy, Debug, Drop, Error)]
+#[derive(Clone, Copy, Drop)]
 pub enum ReadError {
-    #[error(transparent)]
     Fault(DerFault),
     /// A growth was refused.
-    #[error("out of memory")]
     Memory,
 }
 

@@ -1,6 +1,6 @@
 //! SEQUENCE OF (X.690 section 8.10).
 
-ghost use Rattle.std.specs.Prelude.{◌≡◌, map};
+ghost use Rattle.std.specs.Prelude.{◌≡◌, OnOk, length, map};
 ghost use Rattle.std.specs.Cmp.Lexicographic.{pointwise, lists_per};
 ghost use Rattle.krb_codec.specs.Shapes.{Value, many, sequence_of};
 ghost use Rattle.krb_codec.specs.Reading.{Gives, reads};
@@ -63,10 +63,11 @@ impl<T: PartialEq> PartialEq for SequenceOf<T> {
     }
 }
 
-/// Elements up to the region's end.
+/// Elements up to the region's end, which is then reached.
 pub fn each<T: Read>(alloc: Global, region: &mut Region<'_>) -> Result<Vec<T>, ReadError>
-    ensures { Gives (λ v. (map T.value v.items, region.new)) result
+    ensures read { Gives (λ v. (map T.value v.items, region.new)) result
         (reads (many T.shape) region.old) }
+    ensures at_end { OnOk result (length region.new.left ≡ 0) }
 {
     let mut items = Vec::new(alloc);
     'items: while !region.is_empty() {
@@ -88,9 +89,7 @@ impl<T: Read> Read for SequenceOf<T> {
     #[tactic(auto, unfolding(crate::specs::Reading::reads))]
     fn read(alloc: Global, region: &mut Region<'_>) -> Result<SequenceOf<T>, ReadError> {
         let mut content = region.element(SEQUENCE)?;
-        let items = each(alloc, &mut content)?;
-        content.finish()?;
-        Ok(SequenceOf::of(items))
+        Ok(SequenceOf::of(each(alloc, &mut content)?))
     }
 }
 

@@ -1,9 +1,9 @@
 //! INTEGERs as elements: Int32, UInt32, Microseconds (RFC 4120 section 5.2.4) and sequence numbers
 //! (section 5.5.1). Their contents are in `integer`.
 
-ghost use Rattle.std.specs.Prelude.{refl, pos};
-ghost use Rattle.krb_codec.specs.Shapes.{int32, uint32, microseconds, seq_number};
-ghost use Rattle.krb_codec.specs.Reading.{reads};
+ghost use Rattle.std.specs.Prelude.{◌≤ℤ◌, IfOk, refl, pos};
+ghost use Rattle.krb_codec.specs.Shapes.{primitive, integer, int32, uint32, microseconds, seq_number};
+ghost use Rattle.krb_codec.specs.Reading.{Gives, reads};
 ghost use Rattle.krb_codec.specs.Sinks.{puts};
 
 use crate::element::Element;
@@ -35,16 +35,8 @@ impl Element for i32 {
 }
 
 impl Read for i32 {
-    #[tactic(auto, unfolding(crate::specs::Reading::reads))]
     fn read(_alloc: Global, region: &mut Region<'_>) -> Result<i32, ReadError> {
-        let place = region.place();
-        let content = region.element(INTEGER)?;
-        let n = integer_in(
-            i64::from(i32::MIN),
-            i64::from(i32::MAX),
-            place,
-            content.rest(),
-        )?;
+        let n = read_integer(region, i64::from(i32::MIN), i64::from(i32::MAX))?;
         Ok(n as i32)
     }
 }
@@ -65,11 +57,8 @@ impl Element for u32 {
 }
 
 impl Read for u32 {
-    #[tactic(auto, unfolding(crate::specs::Reading::reads))]
     fn read(_alloc: Global, region: &mut Region<'_>) -> Result<u32, ReadError> {
-        let place = region.place();
-        let content = region.element(INTEGER)?;
-        let n = integer_in(0, i64::from(u32::MAX), place, content.rest())?;
+        let n = read_integer(region, 0, i64::from(u32::MAX))?;
         Ok(n as u32)
     }
 }
@@ -90,11 +79,8 @@ impl Element for Microseconds {
 }
 
 impl Read for Microseconds {
-    #[tactic(auto, unfolding(crate::specs::Reading::reads))]
     fn read(_alloc: Global, region: &mut Region<'_>) -> Result<Microseconds, ReadError> {
-        let place = region.place();
-        let content = region.element(INTEGER)?;
-        let n = integer_in(0, 999_999, place, content.rest())?;
+        let n = read_integer(region, 0, 999_999)?;
         Ok(Microseconds(n as u32))
     }
 }
@@ -133,4 +119,16 @@ impl Write for SeqNumber {
             true,
         )
     }
+}
+
+/// Takes the INTEGER that is next, of a number from `low` to `high`.
+#[tactic(auto, unfolding(crate::specs::Reading::reads))]
+fn read_integer(region: &mut Region<'_>, low: i64, high: i64) -> Result<i64, ReadError>
+    ensures read { Gives (λ n. (n, region.new)) result
+        (reads (primitive (integer low high)) region.old) }
+    ensures within { IfOk result (λ n. (low ≤ℤ n) × (n ≤ℤ high)) }
+{
+    let place = region.place();
+    let content = region.element(INTEGER)?;
+    Ok(integer_in(low, high, place, content.rest())?)
 }

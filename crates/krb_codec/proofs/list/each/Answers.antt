@@ -12,8 +12,8 @@ pub items-init : goal.items-init
 unfolding reads
 items-init g c = (length c.args.region.now.left, omega arith, rw c.new-items.ensures.items (starts_out _))
 
-pub returns-in_err-item : goal.returns-in_err-item
-returns-in_err-item g c =
+pub returns-in_err-item-clause-read : goal.returns-in_err-item-clause-read
+returns-in_err-item-clause-read g c =
     let p = err_from_is_err_and c.from_residual.result c.from_residual.ensures.1 in
     rw (p.1, p.2) (ends (reads g.T.Element.shape) (map g.T.Element.value c.items.items.items)
     c.items.invariant.0 c.items.region c.in_err-item.field-0.0 (reads (many g.T.Element.shape) c.args.region.now)
