@@ -194,14 +194,12 @@ fn without_zeros(bytes: &[u8]) -> &[u8]
 fn put_header(out: &mut Vec<u8>, tag: u8, len: usize) -> Result<(), AllocError>
     ensures { OnOk result (out.new.items ≡ out.old.items ++ tag ∷ length_octets len) }
 {
-    out.push(tag)?;
     if len < 0x80 {
-        out.push(len as u8)?;
-        return Ok(());
+        return out.extend_from_slice(&[tag, len as u8]);
     }
     let bytes = len.to_be_bytes();
     let octets = without_zeros(&bytes);
-    out.push(0x80 + octets.len() as u8)?;
+    out.extend_from_slice(&[tag, 0x80 + octets.len() as u8])?;
     out.extend_from_slice(octets)
 }
 
