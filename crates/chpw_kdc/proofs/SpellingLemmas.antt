@@ -53,6 +53,7 @@ rest_words next ws all = split_joined 32 next ws (plain_free next all.0) (free_w
 -- ---- reasons
 
 reason_read : (why : Reason) → reason_in (reason_word why) ≡ Ok why
+unfolding reason_in
 reason_read reason.Reserved = refl
 reason_read reason.Components = refl
 reason_read reason.Lockdown = refl

@@ -157,6 +157,7 @@ key_read size key long bytes = rw (lower_hex key bytes, decode_sized-encode_lowe
 
 pub keys_read : (first second : List ℕ) → AreKeys first second
     → keys_in (encode_lower first) (encode_lower second) ≡ Ok (record { aes256 = first; aes128 = second })
+unfolding keys_in
 keys_read first second k =
     ap (λ (r : Result (List ℕ) LineFault). r >>= (λ a.
     key_in 16 (encode_lower second) >>= (λ b. Ok (let p : KeyPair = record { aes256 = a; aes128 = b } in p)))) (key_read 32 first k.0 k.1)
@@ -189,6 +190,7 @@ name_split [] some all = absurd (omega arith)
 name_split (part ∷ parts) some all = split_joined 47 (encode_lower part) (map encode_lower parts) (hex_free part all.0.1) (all_free parts all.1)
 
 pub name_read : (name : Name) → IsSpelledName name → name_in (name_text name.parts) ≡ Ok name
+unfolding name_in
 name_read name s =
     ap (λ (r : Result (List (List ℕ)) LineFault). r >>= (λ ps. Ok (name_from ps)))
     (ap parts_from (name_split name.parts s.0 s.1) ∙ parts_read name.parts s.1)
@@ -247,6 +249,7 @@ number_read (suc n) small =
     number_from (decimal (suc n)) (suc n) (decimal_nonempty (suc n) wide) (first_decimal (suc n) (omega arith) wide) (value_read (suc n) small)
 
 pub version_read : (n : ℕ) → IsVersion n → version_in (decimal n) ≡ Ok n
+unfolding version_in
 version_read n v =
     let some : (n == 0) ≡ false = grind (arith, nat_tests, common_steps, v.0) in
     ap version_from (number_read n v.1) ∙ rw some refl

@@ -95,7 +95,7 @@ parts_from (word ∷ words) = do
   parts ← parts_from words
   Ok (part ∷ parts)
 
-abbrev pub name_in : List ℕ → Result Name LineFault
+unfoldable pub name_in : List ℕ → Result Name LineFault
 name_in word = do
   parts ← parts_from (slice_split (λ b. b == 47) word)
   Ok (name_from parts)
@@ -104,7 +104,7 @@ name_in word = do
 abbrev pub key_in : ℕ → List ℕ → Result (List ℕ) LineFault
 key_in size digits = if is_lower_hex digits then decoded fault.Key (decode_sized digits size) else Err fault.Key
 
-abbrev pub keys_in : List ℕ → List ℕ → Result KeyPair LineFault
+unfoldable pub keys_in : List ℕ → List ℕ → Result KeyPair LineFault
 keys_in first second = do
   aes256 ← key_in 32 first
   aes128 ← key_in 16 second
@@ -130,10 +130,10 @@ abbrev pub version_from : Option ℕ → Result ℕ LineFault
 version_from None = Err fault.Version
 version_from (Some n) = if n == 0 then Err fault.Version else Ok n
 
-abbrev pub version_in : List ℕ → Result ℕ LineFault
+unfoldable pub version_in : List ℕ → Result ℕ LineFault
 version_in word = version_from (number_in word)
 
-abbrev pub reason_in : List ℕ → Result Reason LineFault
+unfoldable pub reason_in : List ℕ → Result Reason LineFault
 reason_in word =
     if bytes_eq word (codes "reserved") then Ok reason.Reserved
     else if bytes_eq word (codes "components") then Ok reason.Components

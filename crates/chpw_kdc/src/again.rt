@@ -8,6 +8,7 @@ use crate::dialog::KdcDialog;
 
 impl Reason {
     /// Its word in a line of the agent's.
+    #[tactic(auto, unfolding(crate::specs::Lines::reason_in))]
     pub fn word(self) -> &'static str
         ensures word { reason_in result.now ≡ Ok self }
         ensures value { result.now ≡ reason_word self }

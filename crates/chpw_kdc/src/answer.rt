@@ -242,6 +242,7 @@ fn failed(alloc: Global, rest: &str) -> Result<Answer, LineFault>
 }
 
 // REASON
+#[tactic(auto, unfolding(crate::specs::Lines::reason_in))]
 fn read_reason(word: &str) -> Result<Reason, LineFault>
     ensures value { result ≡ reason_in word.now }
 {

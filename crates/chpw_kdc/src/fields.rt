@@ -76,6 +76,7 @@ pub(crate) fn put_number(line: &mut Vec<u8>, number: u32) -> Result<(), AllocErr
 }
 
 /// The name that a word spells.
+#[tactic(auto, unfolding(crate::specs::Lines::name_in))]
 pub(crate) fn read_name(alloc: Global, word: &str) -> Result<Name, LineFault>
     ensures value { ReadUnlessMemory result (name_in word.now) }
 {
@@ -133,6 +134,7 @@ fn is_lower_hex(digits: &str) -> bool
 }
 
 /// Both keys that two words spell.
+#[tactic(auto, unfolding(crate::specs::Lines::keys_in))]
 pub(crate) fn read_keys(aes256: &str, aes128: &str) -> Result<KeyPair, LineFault>
     ensures value { result ≡ keys_in aes256.now aes128.now }
 {
@@ -160,6 +162,7 @@ fn read_key(digits: &str, key: &mut [u8]) -> Result<(), LineFault>
 }
 
 /// The version that a word spells, 1 to 4294967295.
+#[tactic(auto, unfolding(crate::specs::Lines::version_in))]
 pub(crate) fn read_version(word: &str) -> Result<u32, LineFault>
     ensures value { result ≡ version_in word.now }
 {

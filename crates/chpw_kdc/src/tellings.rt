@@ -91,14 +91,10 @@ impl Tellings {
         ensures step { OnOk result (self.new ≡ after_refusal name reason self.old) }
         ensures unchanged { OnErr result (self.new ≡ self.old) }
     {
-        let refusal = RefusedName {
-            name: name.clone()?,
-            reason,
-        };
         if !self.is_told(&name, reason) {
-            self.tell_refusal(name, reason)?;
+            self.tell_refusal(&name, reason)?;
         }
-        self.refusal = Some(refusal);
+        self.refusal = Some(RefusedName { name, reason });
         Ok(())
     }
 
@@ -112,13 +108,13 @@ impl Tellings {
         }
     }
 
-    fn tell_refusal(&mut self, name: Name, reason: Reason) -> Result<(), AllocError>
-        ensures step { OnOk result (self.new ≡ after_told name reason self.old) }
+    fn tell_refusal(&mut self, name: &Name, reason: Reason) -> Result<(), AllocError>
+        ensures step { OnOk result (self.new ≡ after_told name.now reason self.old) }
         ensures unchanged { OnErr result (self.new ≡ self.old) }
     {
-        let copy = name.clone()?;
         self.notices.reserve(1)?;
-        self.told.insert(copy, reason)?;
+        let name = name.clone()?;
+        self.told.insert(name.clone()?, reason)?;
         self.notices
             .push_back_reserved(Notice::Refused { name, reason });
         Ok(())
