@@ -1,6 +1,6 @@
 -- What it comes to that an option is as its rule says.
-use Rattle.std.proofs.Common.{◌≡◌, ◌≢◌, ◌∙◌, ℕ, Bool, true, false, refl, sym, ap, List, codes, Option, Some, None, option_map, true≢false, inl, inr}
-use Rattle.std.specs.Prelude.{Box, find, slice_get}
+use Rattle.std.proofs.Common.{◌≡◌, ◌≢◌, ◌∙◌, ℕ, Bool, true, false, refl, sym, ap, subst, List, codes, Option, Some, None, option_map, true≢false, inl, inr}
+use Rattle.std.specs.Prelude.{Box, IfSome, find, slice_get}
 use Rattle.std.specs.Box.{box_value}
 use Rattle.std.specs.Option.{option_and_then}
 use Rattle.std.specs.Str.{bytes_eq}
@@ -12,9 +12,10 @@ use Rattle.clap.specs.declared.parser.matches.ArgMatches.{ArgMatches}
 use Rattle.clap.specs.declared.parser.matches.ArgMatches.TheViews.{out-ArgMatches, out-SubCommand}
 use Rattle.clap.specs.declared.parser.matches.SubCommand.{SubCommand}
 use Rattle.clap.specs.Walk.{Row, Text, first_of, one_of, row_text}
-use Rattle.chpw_invocation.specs.Invocations.{AimsOld, HasTakenNumber, IsGiven, LacksKdc}
+use Rattle.chpw_invocation.specs.Invocations.{AimsOld, AsksFor, HasTakenNumber, IsGiven, LacksKdc}
 use Rattle.chpw_invocation.specs.Needs.{Suits}
 use Rattle.chpw_invocation.specs.Options.{flag, may_be_numbered, numbered, required}
+use Rattle.chpw_invocation.specs.declared.invocation.Invocation.{Invocation}
 
 -- an option that has to be there is
 pub required_there : (name : Text) (options : List Row) → Suits (filled (required name)) options → first_of name options ≢ None
@@ -106,3 +107,10 @@ not_required options given suits is none lacks = true≢false (given_once (codes
 pub named_as : (m : ArgMatches) (name target : Text) (options : List Row) → Some name ≡ subcommand_name_of m
     → Some options ≡ option_map (λ p. p.1) (subcommand_rows_of m) → name ≡ target → subcommand_rows_of m ≡ Some (target, options)
 named_as m name target options named rows is = matched_as m name options named rows ∙ ap (λ (n : Text). Some (n, options)) is
+
+-- what a command that is known by name asks for
+pub asked_by : (m : ArgMatches) (name target : Text) (options : List Row) (asked : Option Invocation) → Some name ≡ subcommand_name_of m
+    → Some options ≡ option_map (λ p. p.1) (subcommand_rows_of m) → name ≡ target → IfSome asked (AsksFor (Some (target, options)))
+    → IfSome asked (AsksFor (subcommand_rows_of m))
+asked_by m name target options asked named rows is asks =
+    subst (λ (o : Option (Text × List Row)). IfSome asked (AsksFor o)) (sym (named_as m name target options named rows is)) asks

@@ -1,11 +1,18 @@
--- A parse of a command that wants one below it met one.
-use Rattle.std.proofs.Common.{◌≡◌, ◌≢◌, ◌∙◌, sym, ap, true, false, true≢false, Option, Some, None, option_map, is_some}
+-- A parse of a command that wants one below it met one; an error of a refusal's kind is one of the program's own.
+use Rattle.std.proofs.Common.{◌≡◌, ◌≢◌, ◌∙◌, sym, ap, true, false, true≢false, List, Option, Some, None, Result, Ok, Err, IfOk, option_map, is_some}
 use Rattle.clap.specs.Words.{BuildsTo, IsParsed, app_of, found_of, has_subcommand, subcommand_rows_of}
 use Rattle.clap.specs.declared.builder.command.Command.{Command}
 use Rattle.clap.specs.declared.builder.command.Command.TheViews.{out-Command}
 use Rattle.clap.specs.declared.parser.matches.ArgMatches.{ArgMatches}
 use Rattle.clap.specs.declared.parser.matches.ArgMatches.TheViews.{out-ArgMatches}
+use Rattle.clap.specs.Values.{kind_of}
+use Rattle.clap.specs.Walk.{Row, Text}
+use Rattle.clap.specs.declared.error.Error.{Error}
+use Rattle.clap.specs.declared.error.kind.ErrorKind.{ErrorKind}
+use Rattle.chpw_invocation.specs.Invocations.{IsOwnError, IsOwnRefusal}
 use Rattle.chpw_invocation.specs.Program.{IsLocal}
+use Rattle.chpw_invocation.specs.Refusals.{kind_for}
+use Rattle.chpw_invocation.specs.declared.refusing.Refusal.{Refusal}
 
 some_mapped : {A B : Type 0} (f : A → B) (o : Option A) → is_some o ≡ true → option_map f o ≢ None
 some_mapped f None some = absurd (true≢false (sym some))
@@ -17,3 +24,8 @@ pub command_met : (old new : Command) (m : ArgMatches) → IsLocal old → Build
 command_met old new m local builds parsed wanted =
     let met : has_subcommand m ≡ true = (parsed (builds.globals ∙ local)).checked.subcommand (builds.needs_subcommand ∙ wanted) in
     some_mapped _ (out-ArgMatches m).subcommand met
+
+pub own_kind : {E : Type 0} (asked : Option (Text × List Row)) (refusal : Refusal) (kind : ErrorKind) (r : Result Error E) → IsOwnRefusal asked refusal
+    → kind ≡ kind_for refusal → IfOk r (λ e. kind_of e ≡ kind) → IfOk r (IsOwnError asked)
+own_kind asked refusal kind (Ok e) own is kinds = (refusal, own, kinds ∙ is)
+own_kind asked refusal kind (Err e) own is kinds = tt

@@ -120,6 +120,10 @@ client = command (codes "client")
     ∷ flag (codes "old")
     ∷ [])
 
+-- the commands that need no running service
+abbrev pub offline : List Shape
+offline = drill ∷ check ∷ table ∷ import ∷ key ∷ new_journal ∷ []
+
 -- with a version, and one of the subcommands required
 abbrev pub leading : App → App
 leading a = record a {

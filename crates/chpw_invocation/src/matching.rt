@@ -1,15 +1,14 @@
 //! What the words of the command line ask for.
 ghost use Rattle.std.specs.Prelude.{◌≡◌, ◌≢◌, ◌⊎◌, [], None, true, false, IfErr, IfOk, IfSome, OnOk, codes, map, string_bytes};
 ghost use Rattle.clap.specs.Faults.{fault_of};
-ghost use Rattle.clap.specs.Words.{first_of, found_of, rows_of, subcommand_of, subcommand_rows_of};
+ghost use Rattle.clap.specs.Words.{app_of, first_of, found_of, rows_of, subcommand_of, subcommand_rows_of};
 ghost use Rattle.clap.specs.Simple.{filled};
 ghost use Rattle.chpw_invocation.specs.Needs.{IsSuited, Meets, Suits};
 ghost use Rattle.chpw_invocation.specs.Options.{required, required_word};
 ghost use Rattle.chpw_invocation.specs.Program as specs_of;
-ghost use Rattle.chpw_invocation.specs.Program.{program};
 ghost use Rattle.chpw_invocation.specs.Invocations.{AsksFor, HasNoPassword};
 ghost use Rattle.chpw_invocation.specs.Invocations.{HasPassword, HasRealm, HasText};
-ghost use Rattle.chpw_invocation.specs.Invocations.{HasTwoPasswords, IsInFile, IsOwnReason, IsRefusal};
+ghost use Rattle.chpw_invocation.specs.Invocations.{HasTwoPasswords, IsInFile, IsOwnError, IsOwnReason, IsRefusal};
 ghost use Rattle.chpw_invocation.specs.Invocations.{LacksLimit, LacksRealm};
 ghost use Rattle.chpw_invocation.specs.Invocations.{Listens, RefusesListen, given};
 ghost use Rattle.chpw_invocation.specs.Invocations.{RefusesClient, RefusesControl, RefusesImport, RefusesServe, form_asked, form_of_name};
@@ -32,28 +31,50 @@ use crate::values::{
 };
 use chpw_control::Command;
 use clap::{ArgMatches, Error};
-use std::alloc::Global;
+use std::alloc::{AllocError, Global};
 
 /// The command that the words ask for, the first of them the program's name.
 ///
 /// For any other words, the error says what is wrong with them, and for words that ask for help or the version it is
 /// that text; its kind is `OutOfMemory` if memory ran out.
 pub fn command_of<'a>(alloc: Global, words: &'a [String]) -> Result<Invocation<'a>, Error>
-    ensures asked { IfOk result (AsksFor (subcommand_of program (map string_bytes words.entry.now))) }
-    ensures taken { OnOk result (fault_of program (map string_bytes words.entry.now) ≡ []) }
+    ensures asked { IfOk result (AsksFor (subcommand_of specs_of.program (map string_bytes words.entry.now))) }
+    ensures taken { OnOk result (fault_of specs_of.program (map string_bytes words.entry.now) ≡ []) }
     ensures refused { IfErr result
-        (IsRefusal (fault_of program (map string_bytes words.entry.now))
-        (subcommand_of program (map string_bytes words.entry.now))) }
+        (IsRefusal (fault_of specs_of.program (map string_bytes words.entry.now))
+        (subcommand_of specs_of.program (map string_bytes words.entry.now))) }
 {
     let mut program = new_program(alloc)?;
+    invocation_in(&mut program, words)
+}
+
+// What the words ask the program for.
+fn invocation_in<'a>(
+    program: &mut clap::Command<'a>,
+    words: &'a [String],
+) -> Result<Invocation<'a>, Error>
+    requires whole { app_of program.old ≡ specs_of.program }
+    requires local { specs_of.IsLocal program.old }
+    ensures asked { IfOk result (AsksFor (subcommand_of specs_of.program (map string_bytes words.entry.now))) }
+    ensures taken { OnOk result (fault_of specs_of.program (map string_bytes words.entry.now) ≡ []) }
+    ensures refused { IfErr result
+        (IsRefusal (fault_of specs_of.program (map string_bytes words.entry.now))
+        (subcommand_of specs_of.program (map string_bytes words.entry.now))) }
+{
     let matches = program.try_get_matches_from_mut(words)?;
     match asked_of(&matches) {
         Some(invocation) => Ok(invocation),
-        None => {
-            let refusal = refusal_of(&matches);
-            Err(program.error(refusal.kind(), refusal.text())?)
-        }
+        None => Err(own_error(program, &matches)?),
     }
+}
+
+// The error for words in which clap finds no fault.
+fn own_error(program: &mut clap::Command<'_>, matches: &ArgMatches<'_>) -> Result<Error, AllocError>
+    ensures own { IsSuited (subcommand_rows_of matches.now) → IsOwnReason (subcommand_rows_of matches.now)
+        → IfOk result (IsOwnError (subcommand_rows_of matches.now)) }
+{
+    let refusal = refusal_of(matches);
+    program.error(refusal.kind(), refusal.text())
 }
 
 // The command that was matched; there is one after every parse, since the program requires one and each command its
@@ -145,7 +166,6 @@ fn import_of<'a>(options: &ArgMatches<'a>) -> Option<Invocation<'a>>
     }
 }
 
-#[tactic(auto, using(crate::proofs::NeedLemmas::required_there))]
 fn key_of<'a>(options: &ArgMatches<'a>) -> Option<Invocation<'a>>
     ensures asked { IfSome result (AsksFor (Some (codes "key", rows_of (found_of options.now)))) }
     ensures none { Meets specs_of.key (rows_of (found_of options.now)) → result ≡ None
@@ -201,7 +221,6 @@ fn serve_of<'a>(options: &ArgMatches<'a>) -> Option<Invocation<'a>>
 }
 
 // A service whose options agree.
-#[tactic(auto, using(crate::proofs::NeedLemmas::required_there))]
 fn service_of<'a>(options: &ArgMatches<'a>, listen: ListenAddresses) -> Option<Invocation<'a>>
     requires listen { Listens (rows_of (found_of options.now)) (listened listen) }
     ensures asked { IfSome result (AsksFor (Some (codes "serve", rows_of (found_of options.now)))) }
@@ -281,7 +300,6 @@ fn with_file<'a>(word: &str, file: &'a str) -> Option<Command<&'a str>>
     command.with_file(Some(file))
 }
 
-#[tactic(auto, using(crate::proofs::NeedLemmas::required_there))]
 fn client_of<'a>(options: &ArgMatches<'a>) -> Option<Invocation<'a>>
     ensures asked { IfSome result (AsksFor (Some (codes "client", rows_of (found_of options.now)))) }
     ensures none { Meets specs_of.client (rows_of (found_of options.now)) → result ≡ None

@@ -1,6 +1,6 @@
 //! The program's commands, each with its texts and its options.
-ghost use Rattle.std.specs.Prelude.{◌≡◌, codes, false, IfOk, map};
-ghost use Rattle.clap.specs.Simple.{App, Shape, new_shape, with_subcommand};
+ghost use Rattle.std.specs.Prelude.{◌≡◌, codes, false, fold, IfOk, map};
+ghost use Rattle.clap.specs.Simple.{App, new_shape, with_subcommand};
 ghost use Rattle.clap.specs.Words.{app_of};
 ghost use Rattle.chpw_invocation.specs.Options.{rule_for};
 ghost use Rattle.chpw_invocation.specs.Program as specs_of;
@@ -52,85 +52,51 @@ fn command_with<'a>(
     Ok(command)
 }
 
-fn drill<'a>(alloc: Global) -> Result<Command<'a>, AllocError>
-    ensures shape { IfOk result (λ c. app_of c ≡ specs_of.alone specs_of.drill) }
-    ensures local { IfOk result specs_of.IsLocal }
+// The program with one more command, unless memory has run out for either.
+fn with_command<'a>(
+    alloc: Global,
+    program: Result<Command<'a>, AllocError>,
+    name: &'a str,
+    about: &'a str,
+    more: &'a str,
+    options: &[OptionLine],
+) -> Result<Command<'a>, AllocError>
+    ensures shape { (a : App) → specs_of.IsBuilt a program.entry
+        → specs_of.IsBuilt (with_subcommand a (specs_of.command name.entry.now (map rule_for options.now))) result }
 {
-    command_with(alloc, "drill", DRILL, DRILL_MORE, &[])
+    let program = program?;
+    let command = command_with(alloc, name, about, more, options)?;
+    program.subcommand(command)
 }
 
-fn check<'a>(alloc: Global) -> Result<Command<'a>, AllocError>
-    ensures shape { IfOk result (λ c. app_of c ≡ specs_of.alone specs_of.check) }
-    ensures local { IfOk result specs_of.IsLocal }
+// The program with the commands that need no running service.
+fn with_offline_commands<'a>(
+    alloc: Global,
+    program: Result<Command<'a>, AllocError>,
+) -> Result<Command<'a>, AllocError>
+    ensures shape { (a : App) → specs_of.IsBuilt a program.entry
+        → specs_of.IsBuilt (fold with_subcommand a specs_of.offline) result }
 {
-    command_with(alloc, "check", CHECK, CHECK_MORE, &CHECK_OPTIONS)
-}
-
-fn table<'a>(alloc: Global) -> Result<Command<'a>, AllocError>
-    ensures shape { IfOk result (λ c. app_of c ≡ specs_of.alone specs_of.table) }
-    ensures local { IfOk result specs_of.IsLocal }
-{
-    command_with(alloc, "table", TABLE, TABLE_MORE, &TABLE_OPTIONS)
-}
-
-fn import<'a>(alloc: Global) -> Result<Command<'a>, AllocError>
-    ensures shape { IfOk result (λ c. app_of c ≡ specs_of.alone specs_of.import) }
-    ensures local { IfOk result specs_of.IsLocal }
-{
-    command_with(alloc, "import", IMPORT, IMPORT_MORE, &IMPORT_OPTIONS)
-}
-
-fn key<'a>(alloc: Global) -> Result<Command<'a>, AllocError>
-    ensures shape { IfOk result (λ c. app_of c ≡ specs_of.alone specs_of.key) }
-    ensures local { IfOk result specs_of.IsLocal }
-{
-    command_with(alloc, "key", KEY, KEY_MORE, &KEY_OPTIONS)
-}
-
-fn new_journal<'a>(alloc: Global) -> Result<Command<'a>, AllocError>
-    ensures shape { IfOk result (λ c. app_of c ≡ specs_of.alone specs_of.new_journal) }
-    ensures local { IfOk result specs_of.IsLocal }
-{
-    command_with(
+    let program = with_command(alloc, program, "drill", DRILL, DRILL_MORE, &[]);
+    let program = with_command(alloc, program, "check", CHECK, CHECK_MORE, &CHECK_OPTIONS);
+    let program = with_command(alloc, program, "table", TABLE, TABLE_MORE, &TABLE_OPTIONS);
+    let program = with_command(
         alloc,
+        program,
+        "import",
+        IMPORT,
+        IMPORT_MORE,
+        &IMPORT_OPTIONS,
+    );
+    let program = with_command(alloc, program, "key", KEY, KEY_MORE, &KEY_OPTIONS);
+    with_command(
+        alloc,
+        program,
         "new-journal",
         NEW_JOURNAL,
         NEW_JOURNAL_MORE,
         &NEW_JOURNAL_OPTIONS,
     )
-}
-
-fn serve<'a>(alloc: Global) -> Result<Command<'a>, AllocError>
-    ensures shape { IfOk result (λ c. app_of c ≡ specs_of.alone specs_of.serve) }
-    ensures local { IfOk result specs_of.IsLocal }
-{
-    command_with(alloc, "serve", SERVE, SERVE_MORE, &SERVE_OPTIONS)
-}
-
-fn control<'a>(alloc: Global) -> Result<Command<'a>, AllocError>
-    ensures shape { IfOk result (λ c. app_of c ≡ specs_of.alone specs_of.control) }
-    ensures local { IfOk result specs_of.IsLocal }
-{
-    command_with(alloc, "control", CONTROL, CONTROL_MORE, &CONTROL_OPTIONS)
-}
-
-fn client<'a>(alloc: Global) -> Result<Command<'a>, AllocError>
-    ensures shape { IfOk result (λ c. app_of c ≡ specs_of.alone specs_of.client) }
-    ensures local { IfOk result specs_of.IsLocal }
-{
-    command_with(alloc, "client", CLIENT, CLIENT_MORE, &CLIENT_OPTIONS)
-}
-
-// The program with one more subcommand, unless memory has run out for either.
-fn with_command<'a>(
-    program: Result<Command<'a>, AllocError>,
-    below: Result<Command<'a>, AllocError>,
-) -> Result<Command<'a>, AllocError>
-    ensures shape { (a : App) (s : Shape) → specs_of.IsBuilt a program.entry
-        → specs_of.IsBuilt (specs_of.alone s) below.entry
-        → specs_of.IsBuilt (with_subcommand a s) result }
-{
-    program?.subcommand(below?)
 }
 
 // The program with a version, which requires a command.
@@ -149,13 +115,22 @@ pub(crate) fn program<'a>(alloc: Global) -> Result<Command<'a>, AllocError>
     ensures shape { IfOk result (λ c. app_of c ≡ specs_of.program) }
     ensures local { IfOk result specs_of.IsLocal }
 {
-    let program = with_command(Ok(leading(alloc)), drill(alloc));
-    let program = with_command(program, check(alloc));
-    let program = with_command(program, table(alloc));
-    let program = with_command(program, import(alloc));
-    let program = with_command(program, key(alloc));
-    let program = with_command(program, new_journal(alloc));
-    let program = with_command(program, serve(alloc));
-    let program = with_command(program, control(alloc));
-    with_command(program, client(alloc))
+    let program = with_offline_commands(alloc, Ok(leading(alloc)));
+    let program = with_command(alloc, program, "serve", SERVE, SERVE_MORE, &SERVE_OPTIONS);
+    let program = with_command(
+        alloc,
+        program,
+        "control",
+        CONTROL,
+        CONTROL_MORE,
+        &CONTROL_OPTIONS,
+    );
+    with_command(
+        alloc,
+        program,
+        "client",
+        CLIENT,
+        CLIENT_MORE,
+        &CLIENT_OPTIONS,
+    )
 }

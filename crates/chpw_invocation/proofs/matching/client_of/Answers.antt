@@ -19,3 +19,16 @@ returns-in_err-password_of-clause-none c = λ whole none.
       | else-old-via-else-old w ↦
           is_no_old (rows_of (found_of c.args.options.now)) c.is_given-old.result whole c.is_given-old.ensures.given w.if-old.false
     ]) (c.in_err-password_of.ensures.none refl)
+
+-- each option that has to be there is
+pub returns-in_err-text_of-clause-none : goal.returns-in_err-text_of-clause-none
+returns-in_err-text_of-clause-none c = λ whole none. absurd (whole.0.there refl (sym c.in_err-text_of.ensures.value))
+
+pub returns-in_err-text_of-2-clause-none : goal.returns-in_err-text_of-2-clause-none
+returns-in_err-text_of-2-clause-none c = λ whole none. absurd (whole.1.0.there refl (sym c.in_err-text_of-2.ensures.value))
+
+pub returns-in_err-port_of-clause-none : goal.returns-in_err-port_of-clause-none
+returns-in_err-port_of-clause-none c = λ whole none. absurd (c.in_err-port_of.ensures.taken whole.1.1.0 refl)
+
+pub returns-in_err-text_of-3-clause-none : goal.returns-in_err-text_of-3-clause-none
+returns-in_err-text_of-3-clause-none c = λ whole none. absurd (whole.1.1.1.0.there refl (sym c.in_err-text_of-3.ensures.value))

@@ -30,3 +30,40 @@ returns-clause-asked c = (
     existing_journal = c.is_given-6.ensures.given;
   },
 )
+
+-- each option that has to be there is, and each number is one within its limits
+pub returns-in_err-text_of-clause-none : goal.returns-in_err-text_of-clause-none
+returns-in_err-text_of-clause-none c = λ whole none. absurd (whole.0.there refl (sym c.in_err-text_of.ensures.value))
+
+pub returns-in_err-text_of-2-clause-none : goal.returns-in_err-text_of-2-clause-none
+returns-in_err-text_of-2-clause-none c = λ whole none. absurd (whole.1.0.there refl (sym c.in_err-text_of-2.ensures.value))
+
+pub returns-in_err-text_of-3-clause-none : goal.returns-in_err-text_of-3-clause-none
+returns-in_err-text_of-3-clause-none c = λ whole none. absurd (whole.1.1.0.there refl (sym c.in_err-text_of-3.ensures.value))
+
+pub returns-in_err-port_of-clause-none : goal.returns-in_err-port_of-clause-none
+returns-in_err-port_of-clause-none c = λ whole none. absurd (c.in_err-port_of.ensures.taken whole.1.1.1.0 refl)
+
+pub returns-in_err-workers_of-clause-none : goal.returns-in_err-workers_of-clause-none
+returns-in_err-workers_of-clause-none c = λ whole none. absurd (c.in_err-workers_of.ensures.taken whole.1.1.1.1.1.0 refl)
+
+pub returns-in_err-idle_of-clause-none : goal.returns-in_err-idle_of-clause-none
+returns-in_err-idle_of-clause-none c = λ whole none. absurd (c.in_err-idle_of.ensures.taken whole.1.1.1.1.1.1.1.0 refl)
+
+pub returns-in_err-clients-clause-none : goal.returns-in_err-clients-clause-none
+returns-in_err-clients-clause-none c = λ whole none. absurd (c.in_err-clients.ensures.taken whole.1.1.1.1.1.1.1.1.0 refl)
+
+pub returns-in_err-clients_per_peer_of-clause-none : goal.returns-in_err-clients_per_peer_of-clause-none
+returns-in_err-clients_per_peer_of-clause-none c = λ whole none. absurd (c.in_err-clients_per_peer_of.ensures.taken whole.1.1.1.1.1.1.1.1.1.0 refl)
+
+pub returns-in_err-buffers_of-clause-none : goal.returns-in_err-buffers_of-clause-none
+returns-in_err-buffers_of-clause-none c = λ whole none. absurd (c.in_err-buffers_of.ensures.taken whole.1.1.1.1.1.1.1.1.1.1.0 refl)
+
+pub returns-in_err-raise_of-clause-none : goal.returns-in_err-raise_of-clause-none
+returns-in_err-raise_of-clause-none c = λ whole none. absurd (c.in_err-raise_of.ensures.taken whole.1.1.1.1.1.1.1.1.1.1.1.0 refl)
+
+pub returns-in_err-kdc_wait_of-clause-none : goal.returns-in_err-kdc_wait_of-clause-none
+returns-in_err-kdc_wait_of-clause-none c = λ whole none. absurd (c.in_err-kdc_wait_of.ensures.taken whole.1.1.1.1.1.1.1.1.1.1.1.1.1.1.1.0 refl)
+
+pub returns-in_err-connections_of-clause-none : goal.returns-in_err-connections_of-clause-none
+returns-in_err-connections_of-clause-none c = λ whole none. c.in_err-connections_of.ensures.none whole.1.1.1.1.1.1.0 refl
