@@ -52,7 +52,7 @@ def lists_of_source():
     source = HELP.read_text()
     shared = {name: rows_of(body)[0] for name, body in re.findall(r"\nconst (\w+): OptionLine = (.*?);\n", source, re.DOTALL)}
     lists = {"drill": []}
-    for name, body in re.findall(r"const (\w+)_OPTIONS: \[OptionLine; \d+\] = \[(.*?)\];", source, re.DOTALL):
+    for name, body in re.findall(r"static (\w+)_OPTIONS: \[OptionLine; \d+\] = \[(.*?)\];", source, re.DOTALL):
         parts = re.findall(r"OptionLine \{.*?\n?\s*\}|\b[A-Z_]+\b(?=[,\]]|$)", body, re.DOTALL)
         lists[name.lower().replace("_", "-")] = [shared[it] if it in shared else rows_of(it)[0] for it in parts]
     return lists

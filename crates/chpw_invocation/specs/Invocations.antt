@@ -19,6 +19,7 @@ use Rattle.chpw_invocation.specs.Sharing.{default_per_peer}
 use Rattle.chpw_invocation.specs.declared.refusing.Refusal.{Refusal}
 use Rattle.chpw_invocation.specs.declared.refusing.Refusal.TheVariants.{OldTarget, TwoPasswords, NoPassword, NoCommand, NoKdc, AnyDatagrams}
 use Rattle.chpw_invocation.specs.declared.refusing.Refusal.TheVariants.{NoFile, SpareFile, NoForm, NoLimit, NoRealm, SpareSource, NoSource, SpareConfig}
+use Rattle.chpw_invocation.specs.declared.invocation.Bounds.{Bounds}
 use Rattle.chpw_invocation.specs.declared.invocation.ClientOptions.{ClientOptions}
 use Rattle.chpw_invocation.specs.declared.invocation.ConnectionLimit.{ConnectionLimit}
 use Rattle.chpw_invocation.specs.declared.invocation.ConnectionLimit.TheVariants.{Unlimited, Of}
@@ -144,6 +145,16 @@ given options = unwrap_or (all_of (codes "listen") options) []
 abbrev pub Listens : List Row → List IpAddr → Type 0
 Listens options addresses = IsListening (given options) addresses
     × (one_of (codes "udp") options ≡ Some (codes "true") → ¬ (HasWildcard addresses))
+
+pub record AsksBounds (options : List Row) (asked : Bounds) : Type 0 where
+  pub workers : HasNumber 1 16 options (codes "workers") asked.workers
+  pub connections : HasLimit options asked.connections
+  pub idle : HasNumberOr 30 1 3600 options (codes "idle") asked.idle
+  pub clients : HasNumberOr 1024 1 65536 options (codes "clients") asked.clients
+  pub clients_per_peer : HasNumberOr (default_per_peer asked.clients) 1 65536 options (codes "clients-per-peer") asked.clients_per_peer
+  pub buffers : HasNumberOr 32 1 1024 options (codes "buffers") asked.buffers
+  pub raise : MayHaveNumber 1 16777216 options (codes "raise") asked.raise
+  pub kdc_wait : HasNumberOr 2000 1 60000 options (codes "kdc-wait") asked.kdc_wait
 
 pub record AsksServe (options : List Row) (asked : ServeOptions) : Type 0 where
   pub config : HasText options (codes "config") asked.config.now

@@ -163,6 +163,26 @@ pub struct ServeOptions<'a> {
     ghost some_count: { (count : ℕ) → raise ≡ Some count → (1 ≤ count) × (count ≤ 16777216) },
 }
 
+/// The numbers of a service: how much it does at a time, and how long it waits.
+#[derive(Clone, Copy, Drop)]
+pub(crate) struct Bounds {
+    pub workers: u8,
+    pub connections: ConnectionLimit,
+    pub idle: u16,
+    pub clients: u32,
+    pub clients_per_peer: u32,
+    pub buffers: u16,
+    pub raise: Option<u32>,
+    pub kdc_wait: u32,
+    ghost some_workers: { (1 ≤ workers) × (workers ≤ 16) },
+    ghost some_idle: { (1 ≤ idle) × (idle ≤ 3600) },
+    ghost some_clients: { (1 ≤ clients) × (clients ≤ 65536) },
+    ghost some_clients_per_peer: { (1 ≤ clients_per_peer) × (clients_per_peer ≤ 65536) },
+    ghost some_buffers: { (1 ≤ buffers) × (buffers ≤ 1024) },
+    ghost some_kdc_wait: { (1 ≤ kdc_wait) × (kdc_wait ≤ 60000) },
+    ghost some_count: { (count : ℕ) → raise ≡ Some count → (1 ≤ count) × (count ≤ 16777216) },
+}
+
 /// A command for a running service, and where to send it.
 #[derive(Clone, Copy, Drop)]
 pub struct ControlOptions<'a> {

@@ -6,7 +6,7 @@ ghost use Rattle.clap.specs.Simple.{filled};
 ghost use Rattle.chpw_invocation.specs.Needs.{IsSuited, Meets, Suits};
 ghost use Rattle.chpw_invocation.specs.Options.{required, required_word};
 ghost use Rattle.chpw_invocation.specs.Program as specs_of;
-ghost use Rattle.chpw_invocation.specs.Invocations.{AsksFor, HasNoPassword};
+ghost use Rattle.chpw_invocation.specs.Invocations.{AsksBounds, AsksFor, HasNoPassword};
 ghost use Rattle.chpw_invocation.specs.Invocations.{HasPassword, HasRealm, HasText};
 ghost use Rattle.chpw_invocation.specs.Invocations.{HasTwoPasswords, IsInFile, IsOwnError, IsOwnReason, IsRefusal};
 ghost use Rattle.chpw_invocation.specs.Invocations.{LacksLimit, LacksRealm};
@@ -19,7 +19,7 @@ ghost use Rattle.chpw_invocation.specs.Listening.{listened};
 
 use crate::addresses::addresses_of;
 use crate::invocation::{
-    ClientOptions, ControlOptions, ImportOptions, Invocation, KdcOptions, KeyOptions,
+    Bounds, ClientOptions, ControlOptions, ImportOptions, Invocation, KdcOptions, KeyOptions,
     LONGEST_REALM, NewJournalOptions, PasswordSource, ServeOptions, TableForm, TableOptions,
 };
 use crate::listening::ListenAddresses;
@@ -227,24 +227,24 @@ fn service_of<'a>(options: &ArgMatches<'a>, listen: ListenAddresses) -> Option<I
     ensures none { Meets specs_of.serve (rows_of (found_of options.now)) → result ≡ None
         → LacksLimit (rows_of (found_of options.now)) }
 {
-    let clients = clients_of(options)?;
+    let bounds = bounds_of(options)?;
     Some(Invocation::Serve(ServeOptions {
         config: text_of(options, "config")?,
         journal: text_of(options, "journal")?,
         seed: text_of(options, "seed")?,
         port: port_of(options)?,
         listen,
-        workers: workers_of(options)?,
-        connections: connections_of(options)?,
-        idle: idle_of(options)?,
-        clients,
-        clients_per_peer: clients_per_peer_of(options, clients)?,
-        buffers: buffers_of(options)?,
-        raise: raise_of(options)?,
+        workers: bounds.workers,
+        connections: bounds.connections,
+        idle: bounds.idle,
+        clients: bounds.clients,
+        clients_per_peer: bounds.clients_per_peer,
+        buffers: bounds.buffers,
+        raise: bounds.raise,
         log: text_of(options, "log"),
         resume: text_of(options, "resume"),
         kdc: text_of(options, "kdc"),
-        kdc_wait: kdc_wait_of(options)?,
+        kdc_wait: bounds.kdc_wait,
         require_kdc: is_given(options, "require-kdc"),
         control: text_of(options, "control"),
         udp: is_given(options, "udp"),
@@ -253,6 +253,25 @@ fn service_of<'a>(options: &ArgMatches<'a>, listen: ListenAddresses) -> Option<I
         strict_modes: is_given(options, "strict-modes"),
         existing_journal: is_given(options, "existing-journal"),
     }))
+}
+
+// The numbers of a service.
+fn bounds_of(options: &ArgMatches<'_>) -> Option<Bounds>
+    ensures asked { IfSome result (AsksBounds (rows_of (found_of options.now))) }
+    ensures none { Meets specs_of.serve (rows_of (found_of options.now)) → result ≡ None
+        → LacksLimit (rows_of (found_of options.now)) }
+{
+    let clients = clients_of(options)?;
+    Some(Bounds {
+        workers: workers_of(options)?,
+        connections: connections_of(options)?,
+        idle: idle_of(options)?,
+        clients,
+        clients_per_peer: clients_per_peer_of(options, clients)?,
+        buffers: buffers_of(options)?,
+        raise: raise_of(options)?,
+        kdc_wait: kdc_wait_of(options)?,
+    })
 }
 
 // The command for a running service, with its socket.

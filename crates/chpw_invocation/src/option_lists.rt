@@ -29,10 +29,10 @@ const SEED: OptionLine = OptionLine {
 };
 
 /// The options of `check`.
-pub(crate) const CHECK_OPTIONS: [OptionLine; 1] = [CONFIG];
+pub(crate) static CHECK_OPTIONS: [OptionLine; 1] = [CONFIG];
 
 /// The options of `table`.
-pub(crate) const TABLE_OPTIONS: [OptionLine; 3] = [
+pub(crate) static TABLE_OPTIONS: [OptionLine; 3] = [
     CONFIG,
     OptionLine {
         name: "journal",
@@ -49,7 +49,7 @@ pub(crate) const TABLE_OPTIONS: [OptionLine; 3] = [
 ];
 
 /// The options of `import`.
-pub(crate) const IMPORT_OPTIONS: [OptionLine; 5] = [
+pub(crate) static IMPORT_OPTIONS: [OptionLine; 5] = [
     OptionLine {
         name: "keytab",
         kind: OptionKind::Optional,
@@ -78,7 +78,7 @@ pub(crate) const IMPORT_OPTIONS: [OptionLine; 5] = [
 ];
 
 /// The options of `key`.
-pub(crate) const KEY_OPTIONS: [OptionLine; 5] = [
+pub(crate) static KEY_OPTIONS: [OptionLine; 5] = [
     OptionLine {
         name: "realm",
         kind: OptionKind::Required,
@@ -107,7 +107,7 @@ pub(crate) const KEY_OPTIONS: [OptionLine; 5] = [
 ];
 
 /// The options of `new-journal`.
-pub(crate) const NEW_JOURNAL_OPTIONS: [OptionLine; 3] = [
+pub(crate) static NEW_JOURNAL_OPTIONS: [OptionLine; 3] = [
     CONFIG,
     OptionLine {
         name: "journal",
@@ -124,7 +124,7 @@ pub(crate) const NEW_JOURNAL_OPTIONS: [OptionLine; 3] = [
 ];
 
 /// The options of `serve`.
-pub(crate) const SERVE_OPTIONS: [OptionLine; 23] = [
+pub(crate) static SERVE_OPTIONS: [OptionLine; 23] = [
     CONFIG,
     OptionLine {
         name: "journal",
@@ -256,7 +256,7 @@ pub(crate) const SERVE_OPTIONS: [OptionLine; 23] = [
 ];
 
 /// The options of `control`.
-pub(crate) const CONTROL_OPTIONS: [OptionLine; 3] = [
+pub(crate) static CONTROL_OPTIONS: [OptionLine; 3] = [
     OptionLine {
         name: "socket",
         kind: OptionKind::Required,
@@ -278,7 +278,7 @@ pub(crate) const CONTROL_OPTIONS: [OptionLine; 3] = [
 ];
 
 /// The options of `client`.
-pub(crate) const CLIENT_OPTIONS: [OptionLine; 9] = [
+pub(crate) static CLIENT_OPTIONS: [OptionLine; 9] = [
     CONFIG,
     SEED,
     OptionLine {
