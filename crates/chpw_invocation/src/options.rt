@@ -82,12 +82,7 @@ fn option_arg<'a>(alloc: Global, line: &OptionLine, is_required: bool) -> Arg<'a
     ensures help { specs_of.help_of result ≡ Some line.now.help.now }
     ensures local { result.global ≡ false }
 {
-    Arg::new(alloc, line.name)
-        .long(line.name)
-        .required(is_required)
-        .action(ArgAction::Set)
-        .value_name(line.value)
-        .help(line.help)
+    positional_arg(alloc, line, is_required).long(line.name)
 }
 
 // A number from 1 to a limit.
