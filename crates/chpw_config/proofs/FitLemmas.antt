@@ -23,7 +23,7 @@ use Rattle.chpw_rules.specs.Limits.{is_in, realm_lengths, entry_counts, kvnos, i
 use Rattle.chpw_rules.specs.Limits.{min_class_counts, depths, etypes, key_length, service_key_counts}
 use Rattle.chpw_rules.specs.Limits.{key_counts, rule_counts, principal_counts, aes128_length, aes256_length}
 use Rattle.chpw_rules.specs.Names.{is_name, is_same_name}
-use Rattle.chpw_config.specs.Rows.{comes_after, key_row, names_of, once, policy_of, principal_row, rule_row, service_row, step_down, walk}
+use Rattle.chpw_config.specs.Rows.{comes_after, key_row, names_of, new_name, policy_of, principal_row, rule_row, service_row, step_down, walk}
 use Rattle.chpw_config.specs.Settings.{settings}
 use Rattle.chpw_rules.proofs.DistinctLemmas.{none_again_last}
 use Rattle.chpw_config.proofs.KvnoLemmas.{kvnos_descend_more}
@@ -99,6 +99,11 @@ keys_fit at items in_counts =
           (rw long in_counts, fit, descend);
     }
 
+new_name_fits : (at : Location) (names : List Name) (members : Members)
+    → Gives (new_name at names members) (λ name. (is_name name ≡ true) × (list_any (is_same_name name) names ≡ false))
+new_name_fits at names members =
+    gives_key at (codes "name") a_name members _ gives_name (λ name fits. gives_once at is_same_name names name (λ new. (fits, new)))
+
 abbrev row_of : Name → List KeyBytes → PrincipalRow
 row_of name keys = record { name = name; keys = keys }
 
@@ -109,13 +114,11 @@ principal_row_fits before value =
     let at = location Principal (length before) in
     let keys_at = location PrincipalKey (length before) in
     gives_then (placed at (a_table value)) _ (gives_any _) (λ members _.
-    gives_key at (codes "name") a_name members _ gives_name (λ spelled name_fits.
-    gives_then {Q = λ name. (is_name name ≡ true) × (list_any (is_same_name name) (names_of before) ≡ false)} (once at is_same_name (names_of before) spelled) _
-    (gives_once at is_same_name (names_of before) spelled (λ new. (name_fits, new))) (λ name known.
+    gives_then (new_name at (names_of before) members) _ (new_name_fits at (names_of before) members) (λ name known.
     gives_key keys_at (codes "key") (a_list key_counts) members _ (gives_list key_counts) (λ items in_counts.
     gives_then (walk (key_row keys_at) [] items) _ (keys_fit keys_at items in_counts) (λ keys fit.
     gives_ok (λ row. (principal_fits row ≡ true) × (list_any (is_same_name row.name) (names_of before) ≡ false)) (row_of name keys)
-    (rw (known.0, fit.0, fit.1, fit.2), known.1))))))
+    (rw (known.0, fit.0, fit.1, fit.2), known.1)))))
 
 -- ---- the lists
 

@@ -4,3 +4,4 @@ pub mod KdcLemmas
 pub mod KindLemmas
 pub mod KvnoLemmas
 pub mod SeenLemmas
+pub mod WalkLemmas

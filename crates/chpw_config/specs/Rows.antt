@@ -88,6 +88,12 @@ key_row at before value = do
   aes256 ← required at (codes "aes256") (a_hex_key aes256_length) members
   Ok (record { kvno = kvno; iterations = iterations; aes128 = aes128; aes256 = aes256 })
 
+-- [[principal]]: the principal's name, which is none of these
+abbrev pub new_name : Location → List Name → Members → Result Name ConfigFault
+new_name at names principal = do
+  name ← required at (codes "name") a_name principal
+  once at is_same_name names name
+
 abbrev pub names_of : List PrincipalRow → List Name
 names_of rows = map (λ row. row.name) rows
 
@@ -97,8 +103,7 @@ principal_row before value = do
   let at = location Principal (length before)
   let keys_at = location PrincipalKey (length before)
   members ← placed at (a_table value)
-  spelled ← required at (codes "name") a_name members
-  name ← once at is_same_name (names_of before) spelled
+  name ← new_name at (names_of before) members
   items ← required keys_at (codes "key") (a_list key_counts) members
   keys ← walk (key_row keys_at) [] items
   Ok (record { name = name; keys = keys })

@@ -14,6 +14,6 @@ abbrev pub text_cmp : Bor (List ℕ) → Bor (List ℕ) → Ordering
 text_cmp s t = slice_cmp nat_cmp s.now t.now
 
 -- of the texts that spell a name, the set has exactly those that spell one of these names
-abbrev pub Knows : BTreeSet (Bor (List ℕ)) → List Name → Type 0
+unfoldable pub Knows : BTreeSet (Bor (List ℕ)) → List Name → Type 0
 Knows texts names = (text : Bor (List ℕ)) (name : Name) → name_of text.now ≡ Some name
     → contains text_cmp texts text ≡ list_any (is_same_name name) names

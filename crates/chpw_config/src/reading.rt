@@ -1,18 +1,19 @@
 //! The configuration from its file.
-ghost use Rattle.std.specs.Prelude.{◌≡◌, ◌≤◌, ◌∷◌, ◌++◌, [], IfOk, IsTrue, length};
+ghost use Rattle.std.specs.Prelude.{◌≡◌, ◌≤◌, ◌∷◌, ◌++◌, [], IfOk, IsTrue, List, length};
 ghost use Rattle.std.specs.Result.{result_map_both};
 ghost use Rattle.toml.specs.View.{items_view, table_view, view};
+ghost use Rattle.chpw_rules.specs.declared.name.Name.{Name as NameOf};
 ghost use Rattle.chpw_config.specs.Faults.{UnlessMemory};
 ghost use Rattle.chpw_rules.specs.Fitting.{config_fits};
 ghost use Rattle.chpw_config.specs.Seen.{Knows};
-ghost use Rattle.chpw_config.specs.Rows.{comes_after, key_row, names_of, policy_of, principal_row, rule_row, service_row, walk};
+ghost use Rattle.chpw_config.specs.Rows.{comes_after, key_row, names_of, new_name, policy_of, principal_row, rule_row, service_row, walk};
 ghost use Rattle.chpw_config.specs.Settings.{settings, settings_of};
 
 use crate::fault::{ConfigError, ConfigFault, ConfigFaultKind, Location, Part};
 use crate::seen::{add_name, no_names};
 use chpw_rules::{
     AES128_LENGTH, AES256_LENGTH, Config, DEPTHS, ENTRY_COUNTS, ETYPES, ITERATION_COUNTS, Items,
-    KEY_COUNTS, KVNOS, KeyBytes, MIN_CLASS_COUNTS, MIN_LENGTHS, PRINCIPAL_COUNTS, Policy,
+    KEY_COUNTS, KVNOS, KeyBytes, MIN_CLASS_COUNTS, MIN_LENGTHS, Name, PRINCIPAL_COUNTS, Policy,
     PrincipalRow, REALM_LENGTHS, RULE_COUNTS, Rule, Rules, SERVICE_KEY_COUNTS, ServiceRow,
     is_in_list, key_length,
 };
@@ -146,6 +147,25 @@ fn read_keys(alloc: Global, at: Location, list: &[Value]) -> Result<Vec<KeyBytes
     Ok(keys)
 }
 
+// A principal's name, which is none of those seen before.
+fn read_new_name<'a>(
+    alloc: Global,
+    at: Location,
+    seen: &mut BTreeSet<&'a str>,
+    principal: &'a Table,
+) -> Result<Name, ConfigError>
+    ensures value { (names : List NameOf) → Knows seen.old names
+        → UnlessMemory result (new_name at names (table_view principal.now)) }
+    ensures knows { (names : List NameOf) → Knows seen.old names
+        → IfOk result (λ name. Knows seen.new (names ++ name ∷ [])) }
+{
+    let named = at.name(alloc, principal, "name")?;
+    if !add_name(seen, named.text)? {
+        return Err(ConfigError::Fault(at.fault(ConfigFaultKind::Duplicate)));
+    }
+    Ok(named.name)
+}
+
 #[tactic(auto, unfolding(crate::specs::Rows::principal_row))]
 fn read_principal<'a>(
     alloc: Global,
@@ -160,16 +180,10 @@ fn read_principal<'a>(
     let at = Location::of(Part::Principal, before.len());
     let keys_at = Location::of(Part::PrincipalKey, before.len());
     let table = at.table_in(value)?;
-    let named = at.name(alloc, table, "name")?;
-    if !add_name(seen, named.text)? {
-        return Err(ConfigError::Fault(at.fault(ConfigFaultKind::Duplicate)));
-    }
+    let name = read_new_name(alloc, at, seen, table)?;
     let list = keys_at.list(table, "key", KEY_COUNTS)?;
     let keys = Items::of(read_keys(alloc, keys_at, list)?);
-    Ok(PrincipalRow {
-        name: named.name,
-        keys,
-    })
+    Ok(PrincipalRow { name, keys })
 }
 
 fn read_principals(alloc: Global, list: &[Value]) -> Result<Vec<PrincipalRow>, ConfigError>

@@ -9,6 +9,7 @@ use std::alloc::{AllocError, Global};
 use std::collections::BTreeSet;
 
 /// A set of no texts.
+#[tactic(auto, unfolding(crate::specs::Seen::Knows))]
 pub fn no_names<'a>(alloc: Global) -> BTreeSet<&'a str>
     ensures value { Knows result [] }
 {
@@ -16,6 +17,7 @@ pub fn no_names<'a>(alloc: Global) -> BTreeSet<&'a str>
 }
 
 /// Adds a text that spells a name; whether the name is new.
+#[tactic(auto, unfolding(crate::specs::Seen::Knows))]
 pub fn add_name<'a>(seen: &mut BTreeSet<&'a str>, text: &'a str) -> Result<bool, AllocError>
     ensures value { (names : List Name) (name : Name) → Knows seen.old names
         → name_of text.now ≡ Some name

@@ -1,10 +1,7 @@
-use Rattle.std.proofs.Common.{◌≡◌, drop, []}
-use Rattle.toml.specs.View.{items_view}
-use Rattle.chpw_config.specs.Rows.{walk, rule_row}
+use Rattle.chpw_config.specs.Rows.{rule_row}
+use Rattle.chpw_config.proofs.WalkLemmas.{Walked}
 use Rattle.chpw_config.proofs.reading.read_rules.Given as goal
 
 -- the elements to come decide
 abbrev pub invariant-loop-value : goal.invariant-loop-value
-invariant-loop-value l =
-    walk rule_row [] (items_view l.fn.list)
-    ≡ walk rule_row l.rules.items (items_view (drop l.value-index l.list))
+invariant-loop-value l = Walked rule_row l.list l.rules.items l.value-index
