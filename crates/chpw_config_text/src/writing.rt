@@ -38,11 +38,10 @@ fn service_table(alloc: Global, config: &Config) -> Result<Value, WriteFault>
     ensures typed { OnOk result (list_all is_typed_service_key config.now.service ≡ true) }
 {
     let realm = text(config.realm.as_slice())?;
-    let keys = list(alloc, config.service.as_slice())?;
     let mut fields = Fields::new(alloc);
     fields.put("realm", Value::string(alloc, realm)?)?;
     fields.put("max_entries", Value::from(config.max_entries))?;
-    fields.put("key", keys)?;
+    fields.put("key", list(alloc, config.service.as_slice())?)?;
     Ok(fields.into_value())
 }
 
@@ -51,15 +50,11 @@ fn file_table(alloc: Global, config: &Config) -> Result<Table, WriteFault>
     ensures just { JustWritable result (is_writable config.now) }
     ensures typed { OnOk result (is_typed config.now ≡ true) }
 {
-    let service = service_table(alloc, config)?;
-    let policy = policy_table(alloc, &config.policy)?;
-    let rules = list(alloc, config.rules.list.as_slice())?;
-    let principals = list(alloc, config.principals.as_slice())?;
     let mut fields = Fields::new(alloc);
-    fields.put("service", service)?;
-    fields.put("policy", policy)?;
-    fields.put("rule", rules)?;
-    fields.put("principal", principals)?;
+    fields.put("service", service_table(alloc, config)?)?;
+    fields.put("policy", policy_table(alloc, &config.policy)?)?;
+    fields.put("rule", list(alloc, config.rules.list.as_slice())?)?;
+    fields.put("principal", list(alloc, config.principals.as_slice())?)?;
     Ok(fields.table)
 }
 
