@@ -104,59 +104,32 @@ impl KdcUpdate {
     pub fn clone(&self) -> Result<KdcUpdate, AllocError>
         ensures value { IfOk result (λ copy. copy ≡ self.now) }
     {
-        match self {
-            KdcUpdate::Adopt { name, key } => Ok(KdcUpdate::Adopt {
-                name: name.clone()?,
-                key: *key,
-            }),
-            KdcUpdate::Lift { name, kvno } => Ok(KdcUpdate::Lift {
-                name: name.clone()?,
-                kvno: *kvno,
-            }),
-            KdcUpdate::Remove { name } => Ok(KdcUpdate::Remove {
-                name: name.clone()?,
-            }),
-        }
+        let name = self.name().clone()?;
+        Ok(match self {
+            KdcUpdate::Adopt { key, .. } => KdcUpdate::Adopt { name, key: *key },
+            KdcUpdate::Lift { kvno, .. } => KdcUpdate::Lift { name, kvno: *kvno },
+            KdcUpdate::Remove { .. } => KdcUpdate::Remove { name },
+        })
     }
 
     /// Whether both are equal in every part.
+    #[tactic(auto, using(crate::proofs::NameLemmas::same_names))]
     pub fn is_same(&self, other: &KdcUpdate) -> bool
         ensures same { Decides result (self.now ≡ other.now) }
     {
-        match self {
-            KdcUpdate::Adopt { name, key } => other.is_adopt(name, key),
-            KdcUpdate::Lift { name, kvno } => other.is_lift(name, *kvno),
-            KdcUpdate::Remove { name } => other.is_remove(name),
-        }
-    }
-
-    #[tactic(auto, using(crate::proofs::NameLemmas::same_names))]
-    fn is_adopt(&self, of: &Name, this: &KeyRow) -> bool
-        ensures same { Decides result (KdcUpdate.Adopt of.now this.now ≡ self.now) }
-    {
-        match self {
-            KdcUpdate::Adopt { name, key } => of.is_same(name) && is_same_key(this, key),
-            KdcUpdate::Lift { .. } | KdcUpdate::Remove { .. } => false,
-        }
-    }
-
-    #[tactic(auto, using(crate::proofs::NameLemmas::same_names))]
-    fn is_lift(&self, of: &Name, to: u32) -> bool
-        ensures same { Decides result (KdcUpdate.Lift of.now to ≡ self.now) }
-    {
-        match self {
-            KdcUpdate::Lift { name, kvno } => to == *kvno && of.is_same(name),
-            KdcUpdate::Adopt { .. } | KdcUpdate::Remove { .. } => false,
-        }
-    }
-
-    #[tactic(auto, using(crate::proofs::NameLemmas::same_names))]
-    fn is_remove(&self, of: &Name) -> bool
-        ensures same { Decides result (KdcUpdate.Remove of.now ≡ self.now) }
-    {
-        match self {
-            KdcUpdate::Remove { name } => of.is_same(name),
-            KdcUpdate::Adopt { .. } | KdcUpdate::Lift { .. } => false,
+        match (self, other) {
+            (
+                KdcUpdate::Adopt { name, key },
+                KdcUpdate::Adopt {
+                    name: of,
+                    key: this,
+                },
+            ) => name.is_same(of) && is_same_key(key, this),
+            (KdcUpdate::Lift { name, kvno }, KdcUpdate::Lift { name: of, kvno: to }) => {
+                *kvno == *to && name.is_same(of)
+            }
+            (KdcUpdate::Remove { name }, KdcUpdate::Remove { name: of }) => name.is_same(of),
+            _ => false,
         }
     }
 

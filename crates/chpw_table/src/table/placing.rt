@@ -46,12 +46,12 @@ impl Table {
                 Ok(Placement::Replace { place, keys })
             }
             None => {
+                let place = self.place_for(name);
                 let keys = with_front(alloc, key, &[], kept)?;
                 let principal = Principal {
                     name: name.clone()?,
                     keys,
                 };
-                let place = self.place_for(name);
                 Ok(Placement::Insert { place, principal })
             }
         }
