@@ -1,5 +1,5 @@
 //! What a table leaves to the one of a next run.
-ghost use Rattle.std.specs.Prelude.{◌≡◌, ◌≤◌, ◌<◌, ◌^◌, IfOk, OnErr, length};
+ghost use Rattle.std.specs.Prelude.{◌≡◌, ◌≤◌, ◌<◌, ◌^◌, IfOk, OnOk, OnErr, length};
 ghost use Rattle.chpw_table.specs.Agreement.{Agrees};
 ghost use Rattle.chpw_table.specs.Holding.{HoldsIds};
 ghost use Rattle.chpw_table.specs.Resuming.{carried_of, resumed};
@@ -49,11 +49,7 @@ impl Table {
             clock,
             quiet_until,
         } = carried;
-        let ids = ids.into_vec();
-        if ids.len() > MOST_CARRIED as usize {
-            return Err(AllocError);
-        }
-        let used = tree_of(alloc, ids, clock)?;
+        let used = used_of(alloc, ids, clock)?;
         let Table { standing, .. } = self;
         Ok(Table {
             standing: standing.quiet(quiet_until),
@@ -64,6 +60,22 @@ impl Table {
             ..self
         })
     }
+}
+
+// The ids in a tree, but for those too old to be judged. Refused if there are more than 2^31.
+fn used_of(
+    alloc: Global,
+    ids: Items<RequestId>,
+    clock: i64,
+) -> Result<KeyTree<RequestId>, AllocError>
+    ensures holds { IfOk result (λ used. HoldsIds clock ids used) }
+    ensures few { OnOk result (length ids ≤ 2 ^ 31) }
+{
+    let ids = ids.into_vec();
+    if ids.len() > MOST_CARRIED as usize {
+        return Err(AllocError);
+    }
+    tree_of(alloc, ids, clock)
 }
 
 // The ids in a tree, but for those too old to be judged.
