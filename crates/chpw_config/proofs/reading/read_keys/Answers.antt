@@ -11,12 +11,14 @@ loop-value-preserved c =
     let same : key_row c.args.at c.loop-value.keys.items (view (get_or c.args.list.now c.loop-value.value-index c.value-item.result)) ≡ Ok c.in_ok-key.key
     = rw (← c.value-item.is, ← c.as_slice.ensures.value) c.in_ok-key.ensures.value in
     rw c.in_ok-push.ensures.items
-    (walked_more (key_row c.args.at) c.args.list.now c.loop-value.keys.items c.loop-value.value-index c.value-item.result c.in_ok-key.key c.loop-value.invariant c.loop-value-test.true same)
+    (walked_more (key_row c.args.at) c.args.list.now c.loop-value.keys.items c.loop-value.value-index c.value-item.result c.in_ok-key.key
+    c.loop-value.invariant c.loop-value-test.true same)
 
 pub returns-in_err-key : goal.returns-in_err-key
 returns-in_err-key c =
     let ended : c.from_residual-in_err-key.result ≡ Err c.in_err-key.field-0.0 = search rules in
-    let told : UnlessMemory (Err c.in_err-key.field-0.0) (key_row c.args.at c.loop-value.keys.items (view (get_or c.args.list.now c.loop-value.value-index c.value-item.result)))
+    let told : UnlessMemory (Err c.in_err-key.field-0.0) (key_row c.args.at c.loop-value.keys.items (view (get_or c.args.list.now
+    c.loop-value.value-index c.value-item.result)))
     = rw (← c.value-item.is, ← c.as_slice.ensures.value) c.in_err-key.ensures.value in
     record {
       value = rw ended

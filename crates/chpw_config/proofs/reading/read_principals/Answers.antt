@@ -16,14 +16,20 @@ loop-value-preserved c =
       walked = rw c.in_ok-push.ensures.items
           (walked_more principal_row c.args.list.now c.loop-value.rows.items c.loop-value.value-index c.value-item.result c.in_ok-row.row
           c.loop-value.invariant.walked c.loop-value-test.true same);
-      known = rw (c.in_ok-push.ensures.items, map-append (λ (row : PrincipalRow). row.name) c.loop-value.rows.items (c.in_ok-row.row ∷ []), ← c.as_slice.ensures.value)
+      known = rw (
+        c.in_ok-push.ensures.items,
+        map-append (λ (row : PrincipalRow). row.name) c.loop-value.rows.items (c.in_ok-row.row ∷ []),
+        ←
+            c.as_slice.ensures.value,
+      )
           c.in_ok-row.ensures.knows;
     }
 
 pub returns-in_err-row : goal.returns-in_err-row
 returns-in_err-row c =
     let ended : c.from_residual-in_err-row.result ≡ Err c.in_err-row.field-0.0 = search rules in
-    let told : UnlessMemory (Err c.in_err-row.field-0.0) (principal_row c.loop-value.rows.items (view (get_or c.args.list.now c.loop-value.value-index c.value-item.result)))
+    let told : UnlessMemory (Err c.in_err-row.field-0.0) (principal_row c.loop-value.rows.items (view (get_or c.args.list.now
+    c.loop-value.value-index c.value-item.result)))
     = rw (← c.value-item.is, ← c.as_slice.ensures.value) c.in_err-row.ensures.value in
     record {
       value = rw ended

@@ -11,12 +11,14 @@ loop-value-preserved c =
     let same : rule_row c.loop-value.rules.items (view (get_or c.args.list.now c.loop-value.value-index c.value-item.result)) ≡ Ok c.in_ok-rule.rule
     = rw (← c.value-item.is, ← c.as_slice.ensures.value) c.in_ok-rule.ensures.value in
     rw c.in_ok-push.ensures.items
-    (walked_more rule_row c.args.list.now c.loop-value.rules.items c.loop-value.value-index c.value-item.result c.in_ok-rule.rule c.loop-value.invariant c.loop-value-test.true same)
+    (walked_more rule_row c.args.list.now c.loop-value.rules.items c.loop-value.value-index c.value-item.result c.in_ok-rule.rule
+    c.loop-value.invariant c.loop-value-test.true same)
 
 pub returns-in_err-rule : goal.returns-in_err-rule
 returns-in_err-rule c =
     let ended : c.from_residual-in_err-rule.result ≡ Err c.in_err-rule.field-0.0 = search rules in
-    let told : UnlessMemory (Err c.in_err-rule.field-0.0) (rule_row c.loop-value.rules.items (view (get_or c.args.list.now c.loop-value.value-index c.value-item.result)))
+    let told : UnlessMemory (Err c.in_err-rule.field-0.0) (rule_row c.loop-value.rules.items (view (get_or c.args.list.now c.loop-value.value-index
+    c.value-item.result)))
     = rw (← c.value-item.is, ← c.as_slice.ensures.value) c.in_err-rule.ensures.value in
     record {
       value = rw ended
