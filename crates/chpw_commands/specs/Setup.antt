@@ -68,7 +68,7 @@ unfoldable pub principal_of : List (List ℕ) → Option PrincipalRow
 principal_of (name ∷ kvno ∷ keys) = do
   newest ← number_in kvnos kvno
   keys ← each_of counted_key keys
-  _ ← keep_if (is_in key_counts (length keys) && nat_le (length keys) newest) (length keys)
+  keys ← keep_if (is_in key_counts (length keys) && nat_le (length keys) newest) keys
   name ← name_of name
   Some (record { name = name; keys = numbered newest keys })
 principal_of _ = None
