@@ -40,6 +40,9 @@ class Served:
     def seen(self):
         return self.run.status, self.run.out, self.run.errors, self.told, self.journal
 
+    def __repr__(self):
+        return f"{self.seen()}"
+
 
 def told(server, sent):
     """What the reply on a new connection says."""
