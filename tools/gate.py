@@ -37,7 +37,7 @@ STEPS = {
 }
 RECORD = [*PYTHON, "packaging.gate_record"]
 # the memory that a proof takes at most, in bytes; `rt ci` plans with up to twice of it, so that processors would be idle
-OF_PROOF = 5 * 2**30
+PROOF_MEMORY = 5 * 2**30
 # what `rt ci` says when a crate is proved, or needs no proof
 PROVED = re.compile(r"rt: (\w+) (?:proved|is kept: .*)")
 
@@ -51,9 +51,9 @@ def processors():
 
 
 def environment():
-    """That of all steps: where there is the memory, `rt ci` proves one crate on each processor, and none on two."""
+    """The environment of each step. Where there is the memory, it has `rt ci` prove a crate on each processor, with one job each."""
     found = re.search(r"MemAvailable: +(\d+) kB", pathlib.Path("/proc/meminfo").read_text())
-    has_room = found and int(found[1]) * 1024 >= OF_PROOF * processors()
+    has_room = found and int(found[1]) * 1024 >= PROOF_MEMORY * processors()
     return {"RT_JOBS": str(processors()), **os.environ} if has_room else os.environ
 
 
